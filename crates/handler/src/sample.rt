@@ -1,0 +1,246 @@
+//! The sample handler: echo, relay, count, adder and tee.
+
+ghost use Rattle.std.specs.Prelude.{◌≡◌, ◌<◌, ◌+◌, ◌-◌, ◌*◌, ◌&&◌, nat_le, IfOk, MatchOption, List, ℕ, ◌∷◌, [], true, false, codes};
+ghost use Rattle.std.specs.List.{list_all};
+ghost use Rattle.model.specs.Handler.{Turn as TurnOf};
+ghost use Rattle.model.specs.Sample.{State, sample, echo, relay, tee, count, tell, adder, greatest, is_number, value_of, number_in};
+
+use crate::law::Handler;
+use crate::turn::Turn;
+use ident::{Kind, NoMemory, Seat, Source, Text, Unit};
+use std::alloc::Global;
+
+/// The sample handler. A unit that counts or adds has a number for its state, any other none.
+#[derive(Debug, Clone, Copy, PartialEq, Eq)]
+pub struct Sample;
+
+/// The number of a unit that has one.
+type Number = Option<u64>;
+
+/// One text.
+fn one_text(alloc: Global, text: &str) -> Result<Vec<Text>, NoMemory>
+    ensures { IfOk result (λ ts. ts.items ≡ text.now ∷ []) }
+{
+    let mut texts = Vec::new(alloc);
+    texts.push(Text::of(alloc, text)?)?;
+    Ok(texts)
+}
+
+/// One send.
+fn one_send(alloc: Global, unit: Unit, text: &str) -> Result<Vec<(Unit, Text)>, NoMemory>
+    ensures { IfOk result (λ ts. ts.items ≡ (unit, text.now) ∷ []) }
+{
+    let mut sends = Vec::new(alloc);
+    sends.push((unit, Text::of(alloc, text)?))?;
+    Ok(sends)
+}
+
+fn echo_turn(alloc: Global, state: Number, text: &str) -> Result<Turn<Number>, NoMemory>
+    ensures { IfOk result (λ t. t ≡ echo state text.now) }
+{
+    let outputs = one_text(alloc, text)?;
+    Ok(Turn {
+        state,
+        sends: Vec::new(alloc),
+        outputs,
+    })
+}
+
+fn relay_turn(
+    alloc: Global,
+    seat: Seat,
+    state: Number,
+    text: &str,
+) -> Result<Turn<Number>, NoMemory>
+    ensures { IfOk result (λ t. t ≡ relay seat state text.now) }
+{
+    let sends = if seat.home == 0 {
+        Vec::new(alloc)
+    } else {
+        let next = (u16::from(seat.unit.number()) + 1) % u16::from(seat.home);
+        one_send(alloc, Unit::new(next as u8), text)?
+    };
+    Ok(Turn {
+        state,
+        sends,
+        outputs: Vec::new(alloc),
+    })
+}
+
+fn tee_turn(alloc: Global, seat: Seat, state: Number, text: &str) -> Result<Turn<Number>, NoMemory>
+    ensures { IfOk result (λ t. t ≡ tee seat state text.now) }
+{
+    let outputs = one_text(alloc, text)?;
+    let unit = seat.unit.number();
+    let sends = if unit == 255 {
+        Vec::new(alloc)
+    } else {
+        one_send(alloc, Unit::new(unit + 1), text)?
+    };
+    Ok(Turn {
+        state,
+        sends,
+        outputs,
+    })
+}
+
+/// The state becomes this number, which is put out.
+fn tell_turn(alloc: Global, n: u64) -> Result<Turn<Number>, NoMemory>
+    ensures { IfOk result (λ t. t ≡ tell n) }
+{
+    let told = n.to_string(alloc)?;
+    let outputs = one_text(alloc, told.as_str())?;
+    Ok(Turn {
+        state: Some(n),
+        sends: Vec::new(alloc),
+        outputs,
+    })
+}
+
+/// The number of the state, 0 where it has none.
+fn number_of(state: Number) -> u64
+    ensures { result ≡ number_in state }
+{
+    state.unwrap_or(0)
+}
+
+fn count_turn(alloc: Global, state: Number) -> Result<Turn<Number>, NoMemory>
+    ensures { IfOk result (λ t. t ≡ count state) }
+{
+    tell_turn(alloc, number_of(state).saturating_add(1))
+}
+
+fn is_digit(byte: u8) -> bool
+    ensures { result ≡ (nat_le 48 byte && nat_le byte 57) }
+{
+    48 <= byte && byte <= 57
+}
+
+fn are_digits(bytes: &[u8]) -> bool
+    ensures { result ≡ list_all (λ c. nat_le 48 c && nat_le c 57) bytes.now }
+{
+    bytes.iter().all(|byte| is_digit(*byte))
+}
+
+/// A number with one more digit, if it still fits.
+fn with_digit(n: u64, byte: u8) -> Option<u64>
+    ensures { MatchOption result (greatest < 10 * n + (byte - 48)) (λ m. m ≡ 10 * n + (byte - 48)) }
+{
+    let digit = u64::from(byte.saturating_sub(48));
+    match n.checked_mul(10) {
+        Some(tens) => tens.checked_add(digit),
+        None => None,
+    }
+}
+
+/// The value of some digits, if it fits.
+fn value(digits: &[u8]) -> Option<u64>
+    ensures { MatchOption result (greatest < value_of digits.now) (λ n. n ≡ value_of digits.now) }
+{
+    let mut n = 0;
+    for byte in digits {
+        match with_digit(n, *byte) {
+            Some(more) => n = more,
+            None => return None,
+        }
+    }
+    Some(n)
+}
+
+/// The number that a text is, if it is one.
+fn number_told(text: &str) -> Option<u64>
+    ensures { MatchOption result (is_number text.now ≡ false) (λ n. (is_number text.now ≡ true) × (n ≡ value_of text.now)) }
+{
+    let digits = text.as_bytes();
+    if 1 <= digits.len() && digits.len() <= 20 && are_digits(digits) {
+        value(digits)
+    } else {
+        None
+    }
+}
+
+/// The state stays, and a question mark is put out.
+fn question_turn(alloc: Global, state: Number) -> Result<Turn<Number>, NoMemory>
+    ensures { IfOk result (λ t. t ≡ record { state = state; sends = []; outputs = codes "?" ∷ [] }) }
+{
+    let outputs = one_text(alloc, "?")?;
+    Ok(Turn {
+        state,
+        sends: Vec::new(alloc),
+        outputs,
+    })
+}
+
+fn adder_turn(alloc: Global, state: Number, text: &str) -> Result<Turn<Number>, NoMemory>
+    ensures { IfOk result (λ t. t ≡ adder state text.now) }
+{
+    match number_told(text) {
+        Some(n) => tell_turn(alloc, number_of(state).saturating_add(n)),
+        None => question_turn(alloc, state),
+    }
+}
+
+impl Handler for Sample {
+    type State = Option<u64>;
+
+    ghost meaning = { sample };
+
+    fn copy(&self, _alloc: Global, state: &Option<u64>) -> Result<Option<u64>, NoMemory> {
+        Ok(*state)
+    }
+
+    fn kind(&self, name: &str) -> Option<Kind> {
+        if name == "echo" {
+            Some(Kind::new(0))
+        } else if name == "relay" {
+            Some(Kind::new(1))
+        } else if name == "count" {
+            Some(Kind::new(2))
+        } else if name == "adder" {
+            Some(Kind::new(3))
+        } else if name == "tee" {
+            Some(Kind::new(4))
+        } else {
+            None
+        }
+    }
+
+    fn begin(&self, _alloc: Global, seat: Seat) -> Result<Option<u64>, NoMemory> {
+        let kind = seat.kind.number();
+        Ok(if kind == 2 {
+            Some(0)
+        } else if kind == 3 {
+            Some(0)
+        } else {
+            None
+        })
+    }
+
+    fn handle(
+        &self,
+        alloc: Global,
+        seat: Seat,
+        state: &Option<u64>,
+        _source: Source,
+        text: &str,
+    ) -> Result<Turn<Option<u64>>, NoMemory> {
+        let kind = seat.kind.number();
+        if kind == 0 {
+            echo_turn(alloc, *state, text)
+        } else if kind == 1 {
+            relay_turn(alloc, seat, *state, text)
+        } else if kind == 2 {
+            count_turn(alloc, *state)
+        } else if kind == 3 {
+            adder_turn(alloc, *state, text)
+        } else if kind == 4 {
+            tee_turn(alloc, seat, *state, text)
+        } else {
+            Ok(Turn {
+                state: *state,
+                sends: Vec::new(alloc),
+                outputs: Vec::new(alloc),
+            })
+        }
+    }
+}

@@ -1,0 +1,19 @@
+//! Names, marks, refusals and limits: the words that all crates share.
+//!
+//! The types are those of `model`, which says what they mean. Here are their limits as numbers.
+#![tactic(auto)]
+
+mod limits;
+
+pub use limits::{
+    MAX_CHECKPOINTS, MAX_FEEDS, MAX_HELD_QUOTA, MAX_INCARNATION, MAX_INDEX, MAX_LETTERS_QUOTA,
+    MAX_LINE_BYTES, MAX_NAME_BYTES, MAX_OPTIMISM, MAX_TEXT_BYTES, MAX_TURN_EFFECTS, MAX_UNITS,
+    MAX_VOLATILE_QUOTA,
+};
+pub use model::{
+    Kind, Letter, Letters, Mark, Marks, Move, NoMemory, Quota, Refusal, Row, Seat, Source, Start,
+    TenantName, Text, Texts, Unit,
+};
+
+#[cfg(test)]
+mod tests;

@@ -1,0 +1,14 @@
+pub mod Names
+pub mod Refusals
+pub mod Addresses
+pub mod Lists
+pub mod Handler
+pub mod Nodes
+pub mod World
+pub mod Steps
+pub mod Alone
+pub mod FailureFree
+pub mod History
+pub mod Records
+pub mod Sample
+pub mod Failures

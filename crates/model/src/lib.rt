@@ -1,0 +1,27 @@
+//! What the runtime speaks of: units, marks, steps, replies and histories.
+//!
+//! The types are plain data, declared once: the contracts of all crates name these very types.
+//! What they mean is defined in `specs/`: the graph of state intervals (`Nodes`), the world of one
+//! tenant (`World`), what each step answers and leaves (`Steps`), a tenant alone (`Alone`), runs
+//! without failures (`FailureFree`), histories of all tenants (`History`), the records that a store
+//! is given (`Records`) and the sample handler (`Sample`). The worked examples are computed in
+//! `proofs/Rows`.
+#![tactic(auto)]
+
+mod fault;
+mod moves;
+mod names;
+mod records;
+mod refusals;
+mod replies;
+mod steps;
+mod text;
+
+pub use fault::NoMemory;
+pub use moves::{Flaw, Move};
+pub use names::{Kind, Letter, Mark, Quota, Row, Seat, Source, Start, Unit};
+pub use records::{Marks, Record};
+pub use refusals::Refusal;
+pub use replies::{End, Entry, Reply, Said, Who};
+pub use steps::{Step, TenantStep};
+pub use text::{Letters, TenantName, Text, Texts};

@@ -1,0 +1,262 @@
+//! Texts and lists that contracts see by their content.
+
+ghost use Rattle.std.specs.Prelude.{◌≡◌, ℕ, List, Some, None, if◌then◌else◌, IfOk, length, string_bytes};
+ghost use Rattle.std.specs.List.{list_all};
+ghost use Rattle.std.specs.Str.{bytes_eq};
+ghost use Rattle.std.proofs.Common.{rules};
+ghost use Rattle.std.specs.Cmp.Rules.{comparing, hashing};
+ghost use Rattle.std.specs.Hash as fed;
+ghost use Rattle.model.specs.Names.{is_name_byte, is_tenant_name};
+
+use crate::fault::NoMemory;
+use crate::names::Letter;
+use std::alloc::Global;
+use std::hash::{Hash, Hasher};
+use std::marker::Model;
+
+/// A text, seen as its bytes.
+#[derive(Debug, Drop)]
+pub struct Text {
+    string: String,
+}
+
+impl Model for Text {
+    ghost use Rattle.std.specs.Prelude.{List, ℕ, string_bytes};
+
+    ghost Value = { List ℕ };
+
+    ghost view = { λ t. string_bytes t.string };
+}
+
+impl Text {
+    pub fn new(string: String) -> Text
+        ensures { result ≡ string_bytes string }
+    {
+        Text { string }
+    }
+
+    /// A text of its own with these characters.
+    pub fn of(alloc: Global, text: &str) -> Result<Text, NoMemory>
+        ensures { IfOk result (λ t. t ≡ text.now) }
+    {
+        let string = String::from_str(alloc, text)?;
+        Ok(Text { string })
+    }
+
+    pub fn as_str(&self) -> &str
+        ensures { result.now ≡ self.now }
+    {
+        self.string.as_str()
+    }
+
+    /// How many bytes it has.
+    pub fn len(&self) -> usize
+        ensures { result ≡ length self.now }
+    {
+        self.string.len()
+    }
+
+    /// An equal text.
+    pub fn copy(&self, alloc: Global) -> Result<Text, NoMemory>
+        ensures { IfOk result (λ t. t ≡ self.now) }
+    {
+        Text::of(alloc, self.as_str())
+    }
+
+    /// The characters, which takes no memory.
+    pub fn into_string(self) -> String
+        ensures { string_bytes result ≡ self }
+    {
+        self.string
+    }
+}
+
+impl PartialEq for Text {
+    ghost eq = { bytes_eq };
+
+    ghost laws = { Prim.search (comparing, rules) };
+
+    fn eq(&self, other: &Text) -> bool {
+        self.string.as_str() == other.string.as_str()
+    }
+}
+
+impl Eq for Text {
+    ghost laws = { Prim.search (comparing, rules) };
+}
+
+/// A list of texts, seen as the list of their bytes.
+#[derive(Debug, Drop)]
+pub struct Texts {
+    texts: Vec<Text>,
+}
+
+impl Model for Texts {
+    ghost use Rattle.std.specs.Prelude.{List, ℕ};
+
+    ghost Value = { List (List ℕ) };
+
+    ghost view = { λ t. t.texts.items };
+}
+
+/// Equal texts.
+fn copies(alloc: Global, texts: &[Text]) -> Result<Vec<Text>, NoMemory>
+    ensures { IfOk result (λ ts. ts.items ≡ texts.now) }
+{
+    let mut all = Vec::new(alloc);
+    for text in texts {
+        all.push(text.copy(alloc)?)?;
+    }
+    Ok(all)
+}
+
+impl Texts {
+    pub fn new(texts: Vec<Text>) -> Texts
+        ensures { result ≡ texts.items }
+    {
+        Texts { texts }
+    }
+
+    pub fn as_slice(&self) -> &[Text]
+        ensures { result.now ≡ self.now }
+    {
+        self.texts.as_slice()
+    }
+
+    /// The texts, which takes no memory.
+    pub fn into_vec(self) -> Vec<Text>
+        ensures { result.items ≡ self }
+    {
+        self.texts
+    }
+
+    /// Equal texts.
+    pub fn copy(&self, alloc: Global) -> Result<Texts, NoMemory>
+        ensures { IfOk result (λ t. t ≡ self.now) }
+    {
+        let texts = copies(alloc, self.as_slice())?;
+        Ok(Texts { texts })
+    }
+}
+
+/// A list of letters, seen as the list of their numbers.
+#[derive(Debug, Drop)]
+pub struct Letters {
+    letters: Vec<Letter>,
+}
+
+impl Model for Letters {
+    ghost use Rattle.std.specs.Prelude.{List, ℕ};
+
+    ghost Value = { List ℕ };
+
+    ghost view = { λ l. l.letters.items };
+}
+
+impl Letters {
+    pub fn new(letters: Vec<Letter>) -> Letters
+        ensures { result ≡ letters.items }
+    {
+        Letters { letters }
+    }
+
+    pub fn as_slice(&self) -> &[Letter]
+        ensures { result.now ≡ self.now }
+    {
+        self.letters.as_slice()
+    }
+
+    /// An equal list.
+    pub fn copy(&self, alloc: Global) -> Result<Letters, NoMemory>
+        ensures { IfOk result (λ l. l ≡ self.now) }
+    {
+        let letters = self.as_slice().to_vec(alloc)?;
+        Ok(Letters { letters })
+    }
+}
+
+/// The name of a tenant: 1 to 32 bytes of a to z, 0 to 9 and hyphen.
+#[derive(Debug, Drop)]
+pub struct TenantName {
+    string: String,
+}
+
+impl Model for TenantName {
+    ghost use Rattle.std.specs.Prelude.{List, ℕ, IsTrue, string_bytes};
+    ghost use Rattle.model.specs.Names.{is_tenant_name};
+
+    ghost Value = { List ℕ };
+
+    ghost view = { λ t. string_bytes t.string };
+
+    ghost invariant = { λ t. IsTrue (is_tenant_name (string_bytes t.string)) };
+}
+
+fn is_name_char(byte: u8) -> bool
+    ensures { result ≡ is_name_byte byte }
+{
+    (97 <= byte && byte <= 122) || (48 <= byte && byte <= 57) || byte == 45
+}
+
+fn are_name_bytes(bytes: &[u8]) -> bool
+    ensures { result ≡ list_all is_name_byte bytes.now }
+{
+    bytes.iter().all(|byte| is_name_char(*byte))
+}
+
+fn is_name(text: &str) -> bool
+    ensures { result ≡ is_tenant_name text.now }
+{
+    1 <= text.len() && text.len() <= 32 && are_name_bytes(text.as_bytes())
+}
+
+impl TenantName {
+    /// The text as a name, where it is one.
+    pub fn new(string: String) -> Option<TenantName>
+        ensures { result ≡ (if is_tenant_name (string_bytes string) then Some (string_bytes string) else None) }
+    {
+        if is_name(string.as_str()) {
+            Some(TenantName { string })
+        } else {
+            None
+        }
+    }
+
+    pub fn as_str(&self) -> &str
+        ensures { result.now ≡ self.now }
+    {
+        self.string.as_str()
+    }
+
+    /// An equal name.
+    pub fn copy(&self, alloc: Global) -> Result<TenantName, NoMemory>
+        ensures { IfOk result (λ t. t ≡ self.now) }
+    {
+        let string = String::from_str(alloc, self.string.as_str())?;
+        Ok(TenantName { string })
+    }
+}
+
+impl PartialEq for TenantName {
+    ghost eq = { bytes_eq };
+
+    ghost laws = { Prim.search (comparing, rules) };
+
+    fn eq(&self, other: &TenantName) -> bool {
+        self.string.as_str() == other.string.as_str()
+    }
+}
+
+impl Eq for TenantName {
+    ghost laws = { Prim.search (comparing, rules) };
+}
+
+impl Hash for TenantName {
+    ghost hash_input = { fed.str };
+
+    ghost respects_eq = { Prim.search (hashing, rules) };
+
+    fn hash<H: Hasher>(&self, state: &mut H) {
+        self.string.as_str().hash(state);
+    }
+}

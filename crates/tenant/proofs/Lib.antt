@@ -1,0 +1,5 @@
+pub mod Outcomes
+pub mod Accepted
+pub mod Receipts
+pub mod GoingBack
+pub mod Letters

@@ -1,0 +1,6 @@
+pub mod Outcomes
+pub mod Keeps
+pub mod Accepts
+pub mod Receipts
+pub mod Joins
+pub mod Stands

@@ -1,0 +1,31 @@
+//! One tenant: its units, letters, table of rows and quotas.
+//!
+//! `Tenant` is the plain tenant: it keeps the graph of state intervals whole, and each step walks
+//! it, so that its body is the definitions word by word. What it promises to the crates above is
+//! `Tenant::open` and `Tenant::step`, by the relation `Stands` of `specs/Stands`: for every world
+//! that the tenant stands for, a step gives the reply of the definitions and stands for the world
+//! after it, and what the store said is honest. Nothing above looks behind that relation.
+//!
+//! - `tenant`: the struct, what it keeps, and what is read off it;
+//! - `step`: one step of an open tenant; `opens`, `joins`, `posts`, `delivers`, `flushes`, `kills`,
+//!   `backs`, `releases`: the steps;
+//! - `receipt_tests`, `accepts`: the tests of a receipt, and what one that is taken adds.
+#![tactic(auto)]
+
+mod accepts;
+mod answer;
+mod backs;
+mod delivers;
+mod flushes;
+mod joins;
+mod kills;
+mod opens;
+mod posts;
+mod receipt_tests;
+mod released;
+mod releases;
+mod step;
+mod tenant;
+
+pub use answer::Answer;
+pub use tenant::Tenant;
