@@ -5,6 +5,7 @@ ghost use Rattle.std.specs.List.{list_any, list_all};
 ghost use Rattle.model.specs.Lists.{has as is_in};
 ghost use Rattle.model.specs.Nodes.{no_node, node_at as node_of, past as past_of, past_of_all, parents, place_before, sender_of};
 ghost use Rattle.graph.specs.Causes.{cause_of};
+ghost use Rattle.graph.specs.Wanted.{IsMarked};
 ghost use Rattle.model.specs.World.{is_lost_by as is_lost_by_row, is_lost as is_lost_of, is_told as is_told_of, is_stable as is_stable_of, is_blind as is_blind_of, is_orphan as is_orphan_of, stable_path as stable_path_of};
 
 use crate::member::Member;
@@ -15,83 +16,93 @@ use model::{NoMemory, Row};
 use std::alloc::Global;
 use std::collections::VecDeque;
 
-fn want(wanted: &mut VecDeque<usize>, place: usize) -> Result<(), NoMemory>
-    ensures { OnOk result (wanted.new.items ≡ place ∷ wanted.old.items) }
+/// One more place is wanted.
+fn want(marks: &mut [bool], place: usize)
+    ensures { (wanted : List ℕ) → IsMarked marks.old wanted → IsMarked marks.new (place ∷ wanted) }
 {
-    wanted.push_front(place)?;
-    Ok(())
-}
-
-fn want_before(wanted: &mut VecDeque<usize>, before: Option<usize>) -> Result<(), NoMemory>
-    ensures { OnOk result (wanted.new.items ≡ place_before before ++ wanted.old.items) }
-{
-    match before {
-        Some(place) => want(wanted, place),
-        None => Ok(()),
+    if place < marks.len() {
+        marks[place] = true;
     }
 }
 
-fn want_sender(wanted: &mut VecDeque<usize>, cause: &Cause) -> Result<(), NoMemory>
-    ensures { OnOk result (wanted.new.items ≡ sender_of (cause_of cause.now) ++ wanted.old.items) }
+fn want_before(marks: &mut [bool], before: Option<usize>)
+    ensures { (wanted : List ℕ) → IsMarked marks.old wanted → IsMarked marks.new (place_before before ++ wanted) }
 {
-    match cause {
-        Cause::Letter(_, sender) => want(wanted, *sender),
-        Cause::Began => Ok(()),
-        Cause::Outside(_, _) => Ok(()),
+    if let Some(place) = before {
+        want(marks, place);
+    }
+}
+
+fn want_sender(marks: &mut [bool], cause: &Cause)
+    ensures { (wanted : List ℕ) → IsMarked marks.old wanted → IsMarked marks.new (sender_of (cause_of cause.now) ++ wanted) }
+{
+    if let Cause::Letter(_, sender) = cause {
+        want(marks, *sender);
     }
 }
 
 /// Wants the parents of a node too.
-#[tactic(auto, using(std::proofs::Common::append_assoc))]
-fn want_parents(wanted: &mut VecDeque<usize>, node: &Node) -> Result<(), NoMemory>
-    ensures { OnOk result (wanted.new.items ≡ parents node.now ++ wanted.old.items) }
+fn want_parents(marks: &mut [bool], node: &Node)
+    ensures { (wanted : List ℕ) → IsMarked marks.old wanted → IsMarked marks.new (parents node.now ++ wanted) }
 {
-    want_sender(wanted, &node.cause)?;
-    want_before(wanted, node.before)
+    want_sender(marks, &node.cause);
+    want_before(marks, node.before);
 }
 
-fn found_at(found: &mut Vec<usize>, place: usize) -> Result<(), NoMemory>
-    ensures { OnOk result (found.new.items ≡ found.old.items ++ place ∷ []) }
+fn is_wanted(marks: &[bool], place: usize) -> bool
+    requires { place < length marks.now }
+    ensures { (wanted : List ℕ) → IsMarked marks.now wanted → result ≡ is_in wanted place }
 {
-    found.push(place)?;
-    Ok(())
+    marks[place]
 }
 
-/// The wanted places, with the newest first.
-fn is_wanted(wanted: &VecDeque<usize>, place: usize) -> bool
-    ensures { result ≡ is_in wanted.now.items place }
-{
-    wanted.iter().any(|y| *y == place)
-}
-
-#[tactic(auto, using(crate::proofs::Places::past_skip, crate::proofs::Places::past_take, std::proofs::Common::append_assoc))]
+/// Finds the i-th newest node, if it is wanted, and wants its parents then.
 fn past_step(
     found: &mut Vec<usize>,
-    wanted: &mut VecDeque<usize>,
+    marks: &mut [bool],
     nodes: &VecDeque<Node>,
     i: usize,
 ) -> Result<(), NoMemory>
-    requires { i < length nodes.now.items }
-    ensures { OnOk result (found.new.items ++ past_of_all (drop (i + 1) nodes.now.items) wanted.new.items ≡ found.old.items ++ past_of_all (drop i nodes.now.items) wanted.old.items) }
+    requires within { i < length nodes.now.items }
+    requires marks { length marks.old ≡ length nodes.now.items }
+    ensures { OnOk result ((wanted : List ℕ) → IsMarked marks.old wanted → (more : List ℕ) × IsMarked marks.new more × (found.new.items ++ past_of_all (drop (i + 1) nodes.now.items) more ≡ found.old.items ++ past_of_all (drop i nodes.now.items) wanted)) }
 {
-    let place = nodes.len() - 1 - i;
-    if !is_wanted(wanted, place) {
+    let place = marks.len() - 1 - i;
+    if !is_wanted(marks, place) {
         return Ok(());
     }
-    found_at(found, place)?;
-    want_parents(wanted, &nodes[i])
+    found.push(place)?;
+    want_parents(marks, &nodes[i]);
+    Ok(())
 }
 
-/// The past of a node: itself and all that it depends on.
+/// Adds the past of a node, where nothing is wanted yet.
+fn add_past(
+    found: &mut Vec<usize>,
+    marks: &mut [bool],
+    nodes: &VecDeque<Node>,
+    x: usize,
+) -> Result<(), NoMemory>
+    requires marks { length marks.old ≡ length nodes.now.items }
+    requires none { IsMarked marks.old [] }
+    ensures { OnOk result (found.new.items ≡ found.old.items ++ past_of nodes.now.items x) }
+{
+    want(marks, x);
+    for i in 0..nodes.len() {
+        past_step(found, marks, nodes, i)?;
+    }
+    Ok(())
+}
+
+/// The past of a node: itself and all that it depends on (happened-before, Lamport 1978). Takes time
+/// by the count of nodes.
+#[tactic(auto, using(std::proofs::lemmas::Grind::common_steps))]
 pub fn past(alloc: Global, nodes: &VecDeque<Node>, x: usize) -> Result<Vec<usize>, NoMemory>
     ensures { IfOk result (λ xs. xs.items ≡ past_of nodes.now.items x) }
 {
     let mut found = Vec::new(alloc);
-    let mut wanted = VecDeque::new(alloc);
-    want(&mut wanted, x)?;
-    for i in 0..nodes.len() {
-        past_step(&mut found, &mut wanted, nodes, i)?;
-    }
+    let mut marks = vec![in alloc; false; nodes.len()]?;
+    add_past(&mut found, marks.as_mut_slice(), nodes, x)?;
     Ok(found)
 }
 

@@ -26,34 +26,34 @@ use Rattle.std.specs.Fmt.{digits}
 use Rattle.model.specs.Steps.{first_refusal, at_unit, at_up}
 
 -- what the store says where it is not asked, and where it acknowledges as many appends
-abbrev quiet : Said
+abbrev pub quiet : Said
 quiet = record { appended = 0; end = Whole }
 
-abbrev asks : TenantStep → Event
+abbrev pub asks : TenantStep → Event
 asks step = record { step = step; said = quiet }
 
-abbrev flush : ℕ → ℕ → Event
+abbrev pub flush : ℕ → ℕ → Event
 flush unit count = record { step = Flush unit; said = record { appended = count; end = Whole } }
 
-abbrev post : ℕ → ℕ → List ℕ → Event
+abbrev pub post : ℕ → ℕ → List ℕ → Event
 post unit number text = asks (Post unit number text)
 
-abbrev deliver : ℕ → Event
+abbrev pub deliver : ℕ → Event
 deliver letter = asks (Deliver letter)
 
-abbrev opening_with : Quota → List (List ℕ) → Event
+abbrev pub opening_with : Quota → List (List ℕ) → Event
 opening_with quota kinds = asks (Open kinds quota 16)
 
-abbrev opening : List (List ℕ) → Event
+abbrev pub opening : List (List ℕ) → Event
 opening kinds = opening_with (record { volatile = 1024; held = 1024; letters = 1000000 }) kinds
 
-abbrev at : ℕ → ℕ → Mark
+abbrev pub at : ℕ → ℕ → Mark
 at incarnation index = record { incarnation = incarnation; index = index }
 
-abbrev start : ℕ → ℕ → Start
+abbrev pub start : ℕ → ℕ → Start
 start incarnation index = record { incarnation = incarnation; index = index }
 
-abbrev replies : List Event → List Reply
+abbrev pub replies : List Event → List Reply
 replies events = (alone sample events).replies
 
 one_unit : replies (
@@ -475,15 +475,15 @@ unfolding first_refusal at_unit at_up digits
 joining = refl
 
 -- the certificate and a check of it, after some steps
-abbrev certificate_after : Option World → List Move
+abbrev pub certificate_after : Option World → List Move
 certificate_after None = []
 certificate_after (Some w) = certificate w
 
-abbrev outputs_of : Result (Network State) Flaw → Result (List (List (List ℕ))) Flaw
+abbrev pub outputs_of : Result (Network State) Flaw → Result (List (List (List ℕ))) Flaw
 outputs_of (Err f) = Err f
 outputs_of (Ok net) = Ok (map (λ a. a.outputs) net.workers)
 
-abbrev relay_and_echo : List Seat
+abbrev pub relay_and_echo : List Seat
 relay_and_echo = record { unit = 0; kind = 1; home = 2 } ∷ record { unit = 1; kind = 0; home = 2 } ∷ []
 
 certificate_of_two_receipts : certificate_after (alone sample (
@@ -512,7 +512,7 @@ unfolding first_refusal at_unit at_up
 certificate_with_a_join = refl
 
 -- the vector of the second receipt of a relay and an echo
-abbrev vector_after : ℕ → Option World → List Mark
+abbrev pub vector_after : ℕ → Option World → List Mark
 vector_after x None = []
 vector_after x (Some w) = vector_of w.nodes x
 

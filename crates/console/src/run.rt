@@ -1,0 +1,59 @@
+//! `recall run`.
+
+ghost use Rattle.std.specs.Prelude.{◌≡◌, []};
+
+use book::Book;
+use handler::Sample;
+use lines::{Counted, ServeFault, serve};
+use log::{Log, error};
+use stable_log::Store;
+use std::alloc::Global;
+use std::io::{BufReader, BufWriter, Read, Write};
+
+/// Bytes that are read or written at once.
+const BLOCK: usize = 65536;
+
+/// Answers each line of the input, over a store that acknowledged nothing yet, and tells the status
+/// to end with: 0 where all lines are answered, 1 after a fault of input, output or memory.
+pub(crate) fn run_on<L: Log, R: Read + Drop, W: Write + Drop, S: Store>(
+    rt: &L,
+    alloc: Global,
+    input: R,
+    output: W,
+    store: S,
+) -> u8
+    requires { S.log store ≡ [] }
+{
+    let (Ok(reader), Ok(writer)) = (
+        BufReader::with_capacity(alloc, BLOCK, input),
+        BufWriter::with_capacity(alloc, BLOCK, output),
+    ) else {
+        error!(rt; "there is no memory for the buffers: free some, and run again");
+        return 1;
+    };
+    let mut reader = Counted::new(reader);
+    let mut writer = Counted::new(writer);
+    let mut book = Book::new(alloc, Sample, store);
+    match serve(alloc, &mut reader, &mut writer, &mut book) {
+        Ok(_) => 0,
+        Err(fault) => {
+            tell(rt, fault);
+            1
+        }
+    }
+}
+
+/// Says what failed, and what to do.
+fn tell<L: Log>(rt: &L, fault: ServeFault) {
+    match fault {
+        ServeFault::Read => {
+            error!(rt; "the input can't be read: give the lines that have no reply yet to a new run");
+        }
+        ServeFault::Write => {
+            error!(rt; "the output can't be written: steps may be done whose replies are not out");
+        }
+        ServeFault::NoMemory => {
+            error!(rt; "there is no memory for a reply: the run ends, with the steps so far done");
+        }
+    }
+}

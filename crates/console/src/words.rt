@@ -1,0 +1,55 @@
+//! The words of the command line.
+
+use clap::error::ErrorKind;
+use clap::{Command, Error};
+
+/// What the words ask for.
+pub(crate) enum Asked {
+    /// `recall run`.
+    Run,
+    /// Help was printed, or the words were bad: the status to end with.
+    Ended(u8),
+}
+
+const EXAMPLE: &str = "Example:\n  printf '%s\\n' '{\"do\":\"open\",\"tenant\":\"a\",\"units\":[\"echo\"]}' | recall run";
+
+/// Reads the words, and prints help or what is wrong with them.
+pub(crate) fn read_words<R: Print + Eprint + AllocGlobal>(rt: &R, words: &[String]) -> Asked {
+    match is_run(rt, words) {
+        Ok(true) => Asked::Run,
+        Ok(false) => Asked::Ended(2),
+        Err(error) => {
+            let status = status_of(&error);
+            let _ = error.print(rt);
+            Asked::Ended(status)
+        }
+    }
+}
+
+/// 0 where help was asked for, 1 where there was no memory, 2 where the words are bad.
+fn status_of(error: &Error) -> u8 {
+    match error.kind() {
+        ErrorKind::OutOfMemory => 1,
+        _ => {
+            if error.use_stderr() {
+                2
+            } else {
+                0
+            }
+        }
+    }
+}
+
+fn is_run<R: AllocGlobal>(rt: &R, words: &[String]) -> Result<bool, Error> {
+    let alloc = rt.alloc();
+    let run = Command::new(alloc, "run")
+        .about("Reads step lines from standard input and writes a reply line for each")
+        .after_help(EXAMPLE);
+    let recall = Command::new(alloc, "recall")
+        .about("A multi-tenant optimistic recovery runtime")
+        .after_help(EXAMPLE)
+        .subcommand_required(true)
+        .subcommand(run)?;
+    let matches = recall.try_get_matches_from(words)?;
+    Ok(matches.subcommand_name().is_some())
+}
