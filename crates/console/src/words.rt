@@ -11,7 +11,8 @@ pub(crate) enum Asked {
     Ended(u8),
 }
 
-const EXAMPLE: &str = "Example:\n  printf '%s\\n' '{\"do\":\"open\",\"tenant\":\"a\",\"units\":[\"echo\"]}' | recall run";
+const EXAMPLE: &str =
+    "Example:\n  printf '%s\\n' '{\"do\":\"open\",\"tenant\":\"a\",\"units\":[\"echo\"]}' | recall run";
 
 /// Reads the words, and prints help or what is wrong with them.
 pub(crate) fn read_words<R: Print + Eprint + AllocGlobal>(rt: &R, words: &[String]) -> Asked {
@@ -30,13 +31,7 @@ pub(crate) fn read_words<R: Print + Eprint + AllocGlobal>(rt: &R, words: &[Strin
 fn status_of(error: &Error) -> u8 {
     match error.kind() {
         ErrorKind::OutOfMemory => 1,
-        _ => {
-            if error.use_stderr() {
-                2
-            } else {
-                0
-            }
-        }
+        _ => { if error.use_stderr() { 2 } else { 0 } }
     }
 }
 

@@ -7,7 +7,7 @@ pub(crate) struct Row {
     pub(crate) replies: &'static str,
 }
 
-pub(crate) const ROWS: [Row; 30] = [
+pub(crate) const ROWS: [Row; 31] = [
     Row {
         name: "first four lines",
         steps: r#"{"do":"open","tenant":"a","units":["echo"]}
@@ -867,7 +867,7 @@ pub(crate) const ROWS: [Row; 30] = [
 "#,
     },
     Row {
-        name: "base",
+        name: "after a checkpoint",
         steps: r#"{"do":"open","tenant":"a","units":["echo"]}
 {"do":"post","number":0,"tenant":"a","text":"a","unit":0}
 {"do":"post","number":1,"tenant":"a","text":"b","unit":0}
@@ -1015,7 +1015,7 @@ pub(crate) const ROWS: [Row; 30] = [
 "#,
     },
     Row {
-        name: "limits",
+        name: "optimism limits",
         steps: r#"{"do":"open","optimism":17,"tenant":"a","units":["echo"]}
 {"do":"open","optimism":-1,"tenant":"a","units":["echo"]}
 "#,
@@ -1024,7 +1024,7 @@ pub(crate) const ROWS: [Row; 30] = [
 "#,
     },
     Row {
-        name: "limit",
+        name: "join limit",
         steps: r#"{"do":"open","tenant":"a","units":["echo","echo","echo","echo","echo","echo","echo","echo","echo","echo","echo","echo","echo","echo","echo","echo"]}
 {"do":"join","kind":"echo","tenant":"a"}
 {"do":"join","kind":"nobody","tenant":"a"}
@@ -1036,6 +1036,37 @@ pub(crate) const ROWS: [Row; 30] = [
 {"no":"bad-open"}
 {"no":"bad-line"}
 {"no":"no-tenant"}
+"#,
+    },
+    Row {
+        name: "join",
+        steps: r#"{"do":"open","tenant":"a","units":["tee"]}
+{"do":"post","number":0,"tenant":"a","text":"x","unit":0}
+{"do":"join","kind":"echo","tenant":"a"}
+{"do":"post","number":1,"tenant":"a","text":"y","unit":0}
+{"do":"deliver","letter":0,"tenant":"a"}
+{"do":"flush","tenant":"a","unit":0}
+{"do":"flush","tenant":"a","unit":1}
+{"do":"kill","tenant":"a","unit":0}
+{"do":"restart","tenant":"a","unit":0}
+{"do":"notice","tenant":"a","unit":1}
+{"do":"post","number":2,"tenant":"a","text":"z","unit":0}
+{"do":"deliver","letter":1,"tenant":"a"}
+{"do":"release","tenant":"a","unit":1}
+"#,
+        replies: r#"{"ok":"open","units":1}
+{"at":[0,1],"held":1,"letters":[],"ok":"accepted"}
+{"ok":"join","unit":1}
+{"at":[0,2],"held":2,"letters":[0],"ok":"accepted"}
+{"at":[0,1],"held":1,"letters":[],"ok":"accepted"}
+{"count":2,"ok":"flush"}
+{"count":1,"ok":"flush"}
+{"lost":0,"ok":"kill"}
+{"ok":"restart","row":[1,3]}
+{"ok":"notice","row":null}
+{"at":[1,3],"held":3,"letters":[1],"ok":"accepted"}
+{"at":[0,2],"held":2,"letters":[],"ok":"accepted"}
+{"ok":"released","outputs":["y"]}
 "#,
     },
 ];

@@ -1,0 +1,118 @@
+-- What the calls of a tenant say of a tenant that may be unopened.
+use Rattle.std.proofs.Common.{◌≡◌, ℕ, List, [], ◌∷◌, Bool, true, false, if◌then◌else◌, refl, sym, ap, subst}
+use Rattle.std.specs.Prelude.{Option, None, Some, Result, Ok, Err, IfOk, bytes_eq}
+use Rattle.model.specs.Addresses.{addressed}
+use Rattle.model.specs.Alone.{step_open}
+use Rattle.model.specs.Handler.{Meaning}
+use Rattle.model.specs.Steps.{Outcome, can_open}
+use Rattle.model.specs.World.{World}
+use Rattle.model.specs.declared.names.Quota.{Quota}
+use Rattle.model.specs.declared.records.Record.{Record}
+use Rattle.model.specs.declared.refusals.Refusal.TheVariants.{BadOpen}
+use Rattle.model.specs.declared.replies.Reply.{Reply}
+use Rattle.model.specs.declared.replies.Reply.TheVariants.{Opened, Refused}
+use Rattle.model.specs.declared.replies.Said.{Said}
+use Rattle.model.specs.declared.steps.Step.{Step}
+use Rattle.model.specs.declared.steps.TenantStep.{TenantStep}
+use Rattle.model.specs.declared.steps.TenantStep.TheVariants.{Open}
+use Rattle.stable_log.specs.Logged.{Logged}
+use Rattle.tenant.specs.Outcomes.{done}
+use Rattle.tenant.specs.Stands.{Kept, Stands, StandsAt, Did, IsOpened}
+use Rattle.book.specs.History.{DidAt, Holding, IsAnswered, KeepsOthers, LogsAt, StepsAt, named_if_opened, opened_by}
+
+-- what follows from a clause on `Ok`
+pub if_ok : {A E : Type 0} {P Q : A → Type 0} (r : Result A E) → ((a : A) → P a → Q a) → IfOk r P → IfOk r Q
+if_ok (Ok a) f h = f a h
+if_ok (Err e) f h = tt
+
+module _ {S : Type 0} (M : Meaning S) where
+  -- what an opening gives, where it is accepted or not
+  abbrev opening : Bool → ℕ → World → Outcome
+  opening b units v = if b then record { reply = Opened units; world = Some v } else record { reply = Refused BadOpen; world = None }
+
+  abbrev outcome : Reply → Option World → Outcome
+  outcome answer z = record { reply = answer; world = z }
+
+  none_from : (b : Bool) (units : ℕ) (v : World) (name : List ℕ) (answer : Reply) (z : Option World)
+      → opening b units v ≡ outcome answer z → StandsAt M name None z [] → named_if_opened name answer ≡ []
+  none_from true units v name answer z e stands = absurd (subst (λ w. StandsAt M name None w []) (sym (ap (λ (o : Outcome). o.world) e)) stands)
+  none_from false units v name answer z e stands = sym (ap (λ (o : Outcome). named_if_opened name o.reply) e)
+
+  some_from : (b : Bool) (units : ℕ) (v : World) (name : List ℕ) (answer : Reply) (z : Option World) (k : Kept S)
+      → opening b units v ≡ outcome answer z → StandsAt M name (Some k) z [] → named_if_opened name answer ≡ name ∷ []
+  some_from true units v name answer z k e stands = sym (ap (λ (o : Outcome). named_if_opened name o.reply) e)
+  some_from false units v name answer z k e stands = absurd (subst (λ w. StandsAt M name (Some k) w []) (sym (ap (λ (o : Outcome). o.world) e)) stands)
+
+  -- where no tenant was opened, the reply does not say so
+  pub opened-none : (kinds : List (List ℕ)) (quota : Quota) (optimism : ℕ) (name : List ℕ) (answer : Reply)
+      → IsOpened M kinds quota optimism answer None → named_if_opened name answer ≡ []
+  opened-none kinds quota optimism name answer h = none_from (can_open M kinds quota optimism) _ _ name answer h.0 h.1 (h.2 name [])
+
+  -- where one was, it does
+  pub opened-some : (kinds : List (List ℕ)) (quota : Quota) (optimism : ℕ) (name : List ℕ) (answer : Reply) (k : Kept S)
+      → IsOpened M kinds quota optimism answer (Some k) → named_if_opened name answer ≡ name ∷ []
+  opened-some kinds quota optimism name answer k h = some_from (can_open M kinds quota optimism) _ _ name answer h.0 k h.1 (h.2 name [])
+
+  -- the reply to an open tenant, and what is kept
+  pub steps_open : (name : List ℕ) (old new : Kept S) (step : TenantStep) (said : Said) (answer : Reply) (before after : Logged)
+      → ((w : World) → Stands M name old w before.records → Did M name w new step said answer before after)
+      → (w : Option World) → StandsAt M name (Some old) w before.records → StepsAt M name w (Some new) step said answer after.records
+  steps_open name old new step said answer before after did None stands = absurd stands
+  steps_open name old new step said answer before after did (Some w) stands =
+      let d = did w stands in (Some d.steps.0, d.steps.1, d.steps.2)
+
+  -- what an open tenant logged
+  pub logs_open : (name : List ℕ) (old new : Kept S) (step : TenantStep) (said : Said) (answer : Reply) (before after : Logged)
+      → ((w : World) → Stands M name old w before.records → Did M name w new step said answer before after)
+      → (w : Option World) → StandsAt M name (Some old) w before.records → LogsAt M name w step said before after
+  logs_open name old new step said answer before after did None stands = absurd stands
+  logs_open name old new step said answer before after did (Some w) stands =
+      let d = did w stands in record { honest = d.logs.honest; device = d.logs.device }
+
+  unopened_from : (name : List ℕ) (w : World) (step : TenantStep) (said : Said) (answer : Reply) (z : World)
+      → step_open M w step said ≡ done answer z → opened_by name step answer ≡ []
+  unopened_from name w (Open kinds quota optimism) said answer z e = sym (ap (λ (o : Outcome). named_if_opened name o.reply) e)
+  unopened_from name w _ said answer z e = refl
+
+  -- a tenant that is open is not opened
+  pub unopened : (name : List ℕ) (old new : Kept S) (step : TenantStep) (said : Said) (answer : Reply) (before after : Logged)
+      → ((w : World) → Stands M name old w before.records → Did M name w new step said answer before after)
+      → (w : Option World) → StandsAt M name (Some old) w before.records → opened_by name step answer ≡ []
+  unopened name old new step said answer before after did None stands = absurd stands
+  unopened name old new step said answer before after did (Some w) stands =
+      let d = did w stands in unopened_from name w step said answer d.steps.0 d.steps.1
+
+  -- what other tenants stand for stays, also where they are not open
+  pub keeps_others : (name : List ℕ) (before after : List Record)
+      → ((k : Kept S) (w : World) (other : List ℕ) → bytes_eq other name ≡ false → Stands M other k w before → Stands M other k w after)
+      → KeepsOthers M name before after
+  keeps_others name before after keeps None None other apart stands = tt
+  keeps_others name before after keeps None (Some w) other apart stands = absurd stands
+  keeps_others name before after keeps (Some k) None other apart stands = absurd stands
+  keeps_others name before after keeps (Some k) (Some w) other apart stands = keeps k w other apart stands
+
+  -- a step of a tenant that is not open was done, and the log stayed
+  pub answered_unopened : (step : Step) (said : Said) (answer : Reply) (at after : List ℕ → Option (Kept S)) (names names_after : List (List ℕ)) (log : Logged)
+      → let before : Holding (Kept S) = record { at = at; names = names; log = log } in
+      let later : Holding (Kept S) = record { at = after; names = names_after; log = log } in
+      None ≡ at (addressed step).0
+      → DidAt M (addressed step).0 None (addressed step).1 said answer before later
+      → ((other : List ℕ) → bytes_eq other (addressed step).0 ≡ false → after other ≡ at other)
+      → IsAnswered M step said answer before later
+  answered_unopened step said answer at after names names_after log none did others = record {
+    did = only_world;
+    others = others;
+    others_stand = λ k w other apart stands. stands;
+  }
+    where
+      only_world : (w : Option World) → StandsAt M (addressed step).0 (at (addressed step).0) w log.records
+          → DidAt M (addressed step).0 w (addressed step).1 said answer (record { at = at; names = names; log = log }) (record { at = after; names = names_after; log = log })
+      only_world None stands = did
+      only_world (Some w) stands = absurd (subst (λ t. StandsAt M (addressed step).0 t (Some w) log.records) (sym none) stands)
+
+  -- what holds of each world that an open tenant stands for holds of the one that it has
+  pub of_open : (name : List ℕ) (k : Kept S) (at : Option (Kept S)) (records : List Record) (F : Option World → Type 0)
+      → Some k ≡ at → ((w : World) → Stands M name k w records → F (Some w))
+      → (w : Option World) → StandsAt M name at w records → F w
+  of_open name k at records F here f None stands = absurd (subst (λ t. StandsAt M name t None records) (sym here) stands)
+  of_open name k at records F here f (Some w) stands = f w (subst (λ t. StandsAt M name t (Some w) records) (sym here) stands)

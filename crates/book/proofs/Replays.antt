@@ -1,0 +1,169 @@
+-- One more entry: the book is still the replay of its history.
+use Rattle.std.proofs.Common.{◌≡◌, ℕ, List, [], ◌∷◌, ◌++◌, map, Bool, true, false, cond, refl, sym, ap, subst, ◌∙◌, append_assoc}
+use Rattle.std.specs.Prelude.{Option, None, bytes_eq}
+use Rattle.std.specs.List.{filter}
+use Rattle.std.proofs.lemmas.Slice.Eq.{bytes_eq-Decides}
+use Rattle.std.proofs.lemmas.List.Elements.{filter-append}
+use Rattle.std.proofs.lemmas.List.Concat.{flat_map-append}
+use Rattle.std.proofs.lemmas.List.{map-append, append-nil}
+use Rattle.model.specs.Addresses.{addressed}
+use Rattle.model.specs.Alone.{Course, Event, alone, course_from, step}
+use Rattle.model.specs.Handler.{Meaning}
+use Rattle.model.specs.History.{names, own, pairs, replies_to}
+use Rattle.model.specs.Steps.{Outcome}
+use Rattle.model.specs.World.{World}
+use Rattle.model.specs.declared.records.Record.{Record}
+use Rattle.model.specs.declared.replies.Entry.{Entry}
+use Rattle.model.specs.declared.replies.Said.{Said}
+use Rattle.model.specs.declared.steps.Step.{Step}
+use Rattle.tenant.specs.Stands.{Kept, StandsAt}
+use Rattle.book.specs.History.{DidAt, Holding, IsAnswered, IsHonestAfter, IsIsolated, IsReplay, RecordedAfter, opened, opened_by, world_of}
+
+-- what an entry is to its tenant
+abbrev pub event_of : Entry → Event
+event_of e = record { step = (addressed e.step).1; said = e.said }
+
+abbrev pub name_of : Entry → List ℕ
+name_of e = (addressed e.step).0
+
+abbrev pub pair_of : Entry → Step × Said
+pair_of e = (e.step, e.said)
+
+abbrev event_of_pair : Step × Said → Event
+event_of_pair p = record { step = (addressed p.0).1; said = p.1 }
+
+-- ---- one more entry in the lists of a tenant
+
+own-push : (t : List ℕ) (h : List Entry) (e : Entry) → own t (pairs (h ++ e ∷ [])) ≡ own t (pairs h) ++ own t (pair_of e ∷ [])
+own-push t h e =
+    ap (own t) (map-append pair_of h (e ∷ []))
+    ∙ ap (map event_of_pair) (filter-append (λ (p : Step × Said). names t p.0) (pairs h) (pair_of e ∷ []))
+    ∙ map-append event_of_pair (filter (λ (p : Step × Said). names t p.0) (pairs h)) (filter (λ (p : Step × Said). names t p.0) (pair_of e ∷ []))
+
+own-named : (t : List ℕ) (h : List Entry) (e : Entry) → names t e.step ≡ true → own t (pairs (h ++ e ∷ [])) ≡ own t (pairs h) ++ event_of e ∷ []
+own-named t h e is = own-push t h e ∙ ap (λ b. own t (pairs h) ++ map event_of_pair (cond b (pair_of e ∷ []) [])) is
+
+own-apart : (t : List ℕ) (h : List Entry) (e : Entry) → names t e.step ≡ false → own t (pairs (h ++ e ∷ [])) ≡ own t (pairs h)
+own-apart t h e is =
+    own-push t h e
+    ∙ ap (λ b. own t (pairs h) ++ map event_of_pair (cond b (pair_of e ∷ []) [])) is
+    ∙ append-nil (own t (pairs h))
+
+replies_to-push : (t : List ℕ) (h : List Entry) (e : Entry) → replies_to t (h ++ e ∷ []) ≡ replies_to t h ++ replies_to t (e ∷ [])
+replies_to-push t h e =
+    ap (map (λ (x : Entry). x.reply)) (filter-append (λ (x : Entry). names t x.step) h (e ∷ []))
+    ∙ map-append (λ (x : Entry). x.reply) (filter (λ (x : Entry). names t x.step) h) (filter (λ (x : Entry). names t x.step) (e ∷ []))
+
+replies_to-named : (t : List ℕ) (h : List Entry) (e : Entry) → names t e.step ≡ true → replies_to t (h ++ e ∷ []) ≡ replies_to t h ++ e.reply ∷ []
+replies_to-named t h e is = replies_to-push t h e ∙ ap (λ b. replies_to t h ++ map (λ (x : Entry). x.reply) (cond b (e ∷ []) [])) is
+
+replies_to-apart : (t : List ℕ) (h : List Entry) (e : Entry) → names t e.step ≡ false → replies_to t (h ++ e ∷ []) ≡ replies_to t h
+replies_to-apart t h e is =
+    replies_to-push t h e
+    ∙ ap (λ b. replies_to t h ++ map (λ (x : Entry). x.reply) (cond b (e ∷ []) [])) is
+    ∙ append-nil (replies_to t h)
+
+opened-push : (h : List Entry) (e : Entry) → opened (h ++ e ∷ []) ≡ opened h ++ opened_by (name_of e) (addressed e.step).1 e.reply
+opened-push h e =
+    flat_map-append (λ (x : Entry). opened_by (name_of x) (addressed x.step).1 x.reply) h (e ∷ [])
+    ∙ ap (λ (l : List (List ℕ)). opened h ++ l) (append-nil (opened_by (name_of e) (addressed e.step).1 e.reply))
+
+module _ {S : Type 0} (M : Meaning S) where
+  -- ---- one more event of a tenant alone
+
+  abbrev pushed : Course → Event → Course
+  pushed course e = record { replies = course.replies ++ (step M course.world e).reply ∷ []; world = (step M course.world e).world }
+
+  course_from-push : (w : Option World) (events : List Event) (e : Event) → course_from M w (events ++ e ∷ []) ≡ pushed (course_from M w events) e
+  course_from-push w [] e = refl
+  course_from-push w (x ∷ events) e =
+      ap (λ (c : Course). record { replies = (step M w x).reply ∷ c.replies; world = c.world }) (course_from-push (step M w x).world events e)
+
+  world_of-named : (t : List ℕ) (h : List Entry) (e : Entry) → names t e.step ≡ true
+      → world_of M t (h ++ e ∷ []) ≡ (step M (world_of M t h) (event_of e)).world
+  world_of-named t h e is =
+      ap (λ (events : List Event). (alone M events).world) (own-named t h e is)
+      ∙ ap (λ (c : Course). c.world) (course_from-push None (own t (pairs h)) (event_of e))
+
+  legal-named : (t : List ℕ) (h : List Entry) (e : Entry) → names t e.step ≡ true
+      → replies_to t h ≡ (alone M (own t (pairs h))).replies
+      → (step M (world_of M t h) (event_of e)).reply ≡ e.reply
+      → replies_to t (h ++ e ∷ []) ≡ (alone M (own t (pairs (h ++ e ∷ [])))).replies
+  legal-named t h e is was now =
+      replies_to-named t h e is
+      ∙ (λ i. was i ++ sym now i ∷ [])
+      ∙ ap (λ (c : Course). c.replies) (sym (course_from-push None (own t (pairs h)) (event_of e)))
+      ∙ ap (λ (events : List Event). (alone M events).replies) (sym (own-named t h e is))
+
+  legal-apart : (t : List ℕ) (h : List Entry) (e : Entry) → names t e.step ≡ false
+      → replies_to t h ≡ (alone M (own t (pairs h))).replies
+      → replies_to t (h ++ e ∷ []) ≡ (alone M (own t (pairs (h ++ e ∷ [])))).replies
+  legal-apart t h e is was =
+      replies_to-apart t h e is ∙ was ∙ ap (λ (events : List Event). (alone M events).replies) (sym (own-apart t h e is))
+
+  -- ---- one more entry in the log
+
+  recorded-push : (before entries : List Entry) (e : Entry) (records grown : List Record)
+      → RecordedAfter M before entries records → IsHonestAfter M (before ++ entries) e grown
+      → RecordedAfter M before (entries ++ e ∷ []) (records ++ grown)
+  recorded-push before [] e records grown none honest = (
+    grown,
+    [],
+    ap (λ (r : List Record). r ++ grown) none ∙ sym (append-nil grown),
+    subst (λ b. IsHonestAfter M b e grown) (append-nil before) honest,
+    refl,
+  )
+  recorded-push before (x ∷ entries) e records grown was honest = (
+    was.0,
+    was.1 ++ grown,
+    ap (λ (r : List Record). r ++ grown) was.2 ∙ append_assoc was.0 was.1 grown,
+    was.3,
+    recorded-push (before ++ x ∷ []) entries e was.1 grown was.4
+        (subst (λ b. IsHonestAfter M b e grown) (sym (append_assoc before (x ∷ []) entries)) honest),
+  )
+
+  -- ---- the book
+
+  same_name : (t u : List ℕ) → bytes_eq t u ≡ true → t ≡ u
+  same_name t u p = (bytes_eq-Decides t u).0 p
+
+  module _ (before after : Holding (Kept S)) (h : List Entry) (e : Entry)
+      (replay : IsReplay M before h) (answered : IsAnswered M e.step e.said e.reply before after) where
+    done : DidAt M (name_of e) (world_of M (name_of e) h) (addressed e.step).1 e.said e.reply before after
+    done = answered.did (world_of M (name_of e) h) (replay.stands (name_of e))
+
+    stands_after : (t : List ℕ) (b : Bool) → bytes_eq t (name_of e) ≡ b → StandsAt M t (after.at t) (world_of M t (h ++ e ∷ [])) after.log.records
+    stands_after t true is =
+        let same : t ≡ name_of e = same_name t (name_of e) is in
+        let made : done.steps.0 ≡ (step M (world_of M (name_of e) h) (event_of e)).world = sym (ap (λ (o : Outcome). o.world) done.steps.1) in
+        let here : StandsAt M (name_of e) (after.at (name_of e)) (step M (world_of M (name_of e) h) (event_of e)).world after.log.records =
+        subst (λ z. StandsAt M (name_of e) (after.at (name_of e)) z after.log.records) made done.steps.2 in
+        subst (λ z. StandsAt M t (after.at t) z after.log.records) (sym (world_of-named t h e is))
+        (subst (λ u. StandsAt M u (after.at u) (step M (world_of M u h) (event_of e)).world after.log.records) (sym same) here)
+    stands_after t false is =
+        subst (λ w. StandsAt M t (after.at t) w after.log.records) (sym (ap (λ (events : List Event). (alone M events).world) (own-apart t h e is)))
+        (subst (λ k. StandsAt M t k (world_of M t h) after.log.records) (sym (answered.others t is))
+        (answered.others_stand (before.at t) (world_of M t h) t is (replay.stands t)))
+
+    legal_after : (t : List ℕ) (b : Bool) → bytes_eq t (name_of e) ≡ b → replies_to t (h ++ e ∷ []) ≡ (alone M (own t (pairs (h ++ e ∷ [])))).replies
+    legal_after t true is =
+        legal-named t h e is (replay.legal t)
+        (subst (λ u. (step M (world_of M u h) (event_of e)).reply ≡ e.reply) (sym (same_name t (name_of e) is)) (ap (λ (o : Outcome). o.reply) done.steps.1))
+    legal_after t false is = legal-apart t h e is (replay.legal t)
+
+    -- one more entry, whose step was done
+    pub entered : IsReplay M after (h ++ e ∷ [])
+    entered = record {
+      stands = λ t. stands_after t (bytes_eq t (name_of e)) refl;
+      order = done.order ∙ ap (λ (l : List (List ℕ)). l ++ opened_by (name_of e) (addressed e.step).1 e.reply) replay.order ∙ sym (opened-push h e);
+      legal = λ t. legal_after t (bytes_eq t (name_of e)) refl;
+      recorded = subst (RecordedAfter M [] (h ++ e ∷ [])) (sym done.logs.honest.1)
+          (recorded-push [] h e before.log.records done.logs.honest.0 replay.recorded done.logs.honest.2);
+    }
+
+-- a tenant's replies and its world follow from its own pairs
+pub isolated : {S : Type 0} (M : Meaning S) → IsIsolated M
+isolated M tenant one other legal legal_too same = (
+  legal tenant ∙ ap (λ (events : List Event). (alone M events).replies) same ∙ sym (legal_too tenant),
+  ap (λ (events : List Event). (alone M events).world) same,
+)

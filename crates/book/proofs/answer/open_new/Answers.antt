@@ -1,0 +1,39 @@
+use Rattle.std.proofs.Common.{◌≡◌, ◌++◌, ◌∷◌, [], ℕ, List, false, bytes_eq, ap, sym, subst, ◌∙◌}
+use Rattle.std.proofs.lemmas.List.{append-nil}
+use Rattle.std.specs.Prelude.{Some}
+use Rattle.std.specs.Map.{keys_of, lookup}
+use Rattle.indexmap.specs.IndexMap.{get, keys}
+use Rattle.tenant.specs.Stands.{IsOpened}
+use Rattle.book.proofs.Answers.{opened-none, opened-some}
+use Rattle.book.proofs.answer.open_new.Goals as goal
+
+pub returns-in-None-clause-names : goal.returns-in-None-clause-names
+returns-in-None-clause-names g c =
+    let M = g.H.Handler.meaning in
+    let a = c.args in
+    let is = subst (IsOpened M a.kinds.now a.quota a.optimism c.in_ok-answer.answer.reply) c.in-None.is c.in_ok-answer.ensures.opened in
+    ap keys_of c.reserve.ensures.entries
+    ∙ sym (append-nil (keys a.tenants.now))
+    ∙ ap (λ (l : List (List ℕ)). keys a.tenants.now ++ l) (sym (opened-none M a.kinds.now a.quota a.optimism a.name.now c.in_ok-answer.answer.reply is))
+
+pub returns-in_ok-put-in-Some-clause-opened : goal.returns-in_ok-put-in-Some-clause-opened
+returns-in_ok-put-in-Some-clause-opened g c =
+    let a = c.args in
+    let here : get bytes_eq c.put.new.tenants a.name.now ≡ Some c.in-Some.tenant = rw c.in_ok-own_name.ensures at c.in_ok-put-in-Some.ensures.here in
+    subst (IsOpened g.H.Handler.meaning a.kinds.now a.quota a.optimism c.in_ok-answer.answer.reply) (c.in-Some.is ∙ sym here) c.in_ok-answer.ensures.opened
+
+pub returns-in_ok-put-in-Some-clause-names : goal.returns-in_ok-put-in-Some-clause-names
+returns-in_ok-put-in-Some-clause-names g c =
+    let M = g.H.Handler.meaning in
+    let a = c.args in
+    let is = subst (IsOpened M a.kinds.now a.quota a.optimism c.in_ok-answer.answer.reply) c.in-Some.is c.in_ok-answer.ensures.opened in
+    let says = opened-some M a.kinds.now a.quota a.optimism a.name.now c.in_ok-answer.answer.reply c.in-Some.tenant is in
+    c.in_ok-put-in-Some.ensures.names
+    ∙ ap (λ (l : List (List ℕ)). l ++ c.in_ok-own_name.own_name ∷ []) (ap keys_of c.reserve.ensures.entries)
+    ∙ ap (λ (n : List ℕ). keys a.tenants.now ++ n ∷ []) c.in_ok-own_name.ensures
+    ∙ ap (λ (l : List (List ℕ)). keys a.tenants.now ++ l) (sym says)
+
+pub returns-in_ok-put-in-Some-clause-others : goal.returns-in_ok-put-in-Some-clause-others
+returns-in_ok-put-in-Some-clause-others g c t apart =
+    c.put.ensures.others t (subst (λ n. bytes_eq t n ≡ false) (sym c.in_ok-own_name.ensures) apart)
+    ∙ ap (lookup (bytes_eq t)) c.reserve.ensures.entries

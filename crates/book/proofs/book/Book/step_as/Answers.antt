@@ -1,0 +1,13 @@
+use Rattle.book.specs.History.{holding}
+use Rattle.book.proofs.Replays.{entered}
+use Rattle.book.proofs.book.Book.step_as.Goals as goal
+
+pub invariant_of-self-in-Ok : goal.invariant_of-self-in-Ok
+invariant_of-self-in-Ok g c =
+    let now = c.self.inside in
+    let next = c.answer-done.new in
+    let a = c.in-Ok.answer in
+    rw (c.push_reserved.ensures.items, c.reserve.ensures.items, c.in-Ok.ensures.kept) (
+    entered g.H.Handler.meaning (holding now.tenants now.log) (holding next.tenants next.log) now.history.items
+    (record { who = c.args.who; step = c.args.step; said = a.said; reply = a.reply })
+    c.self.invariant c.in-Ok.ensures.answered)

@@ -1,0 +1,48 @@
+-- How a step is entered in the history of a book.
+use Rattle.std.specs.Prelude.{◌≡◌, ◌⊎◌, List, [], ◌∷◌, ◌++◌}
+use Rattle.model.specs.declared.refusals.Refusal.TheVariants.{Memory}
+use Rattle.model.specs.declared.replies.Entry.{Entry}
+use Rattle.model.specs.declared.replies.End.TheVariants.{Device}
+use Rattle.model.specs.declared.replies.Reply.{Reply}
+use Rattle.model.specs.declared.replies.Reply.TheVariants.{Stopped, Refused}
+use Rattle.model.specs.declared.replies.Said.{Said}
+use Rattle.model.specs.declared.replies.Who.{Who}
+use Rattle.model.specs.declared.steps.Step.{Step}
+use Rattle.model.specs.declared.steps.Step.TheVariants.{Open, Join, Post, Deliver, Flush, Checkpoint, Kill, Restart, Notice, Release, Status}
+use Rattle.model.specs.Failures.{HasRisen}
+use Rattle.stable_log.specs.Logged.{Logged}
+
+-- what a book is seen as: its history, and the log of all tenants
+pub record Ledger : Type 0 where
+  pub history : List Entry
+  pub log : Logged
+
+-- the reply to a step for which there was no memory
+abbrev pub memory_reply : Step → Reply
+memory_reply (Open tenant kinds quota optimism) = Refused Memory
+memory_reply (Join tenant kind) = Refused Memory
+memory_reply (Post tenant unit number text) = Refused Memory
+memory_reply (Deliver tenant letter) = Refused Memory
+memory_reply (Flush tenant unit) = Stopped 0 Memory
+memory_reply (Checkpoint tenant unit) = Refused Memory
+memory_reply (Kill tenant unit) = Refused Memory
+memory_reply (Restart tenant unit) = Refused Memory
+memory_reply (Notice tenant unit) = Refused Memory
+memory_reply (Release tenant unit) = Refused Memory
+memory_reply (Status tenant unit) = Refused Memory
+
+-- The step was entered at the end with this reply. The device is said to have failed only where it did.
+abbrev pub IsAdded : Ledger → Who → Step → Reply → Ledger → Type 0
+IsAdded before who step answer after =
+    (said : Said)
+    × (after.history ≡ before.history ++ record { who = who; step = step; said = said; reply = answer } ∷ [])
+    × (said.end ≡ Device → HasRisen before.log.failures after.log.failures)
+
+-- there was no memory for the step, and nothing changed
+abbrev pub IsForgone : Ledger → Step → Reply → Ledger → Type 0
+IsForgone before step answer after =
+    (answer ≡ memory_reply step) × (after.history ≡ before.history) × (after.log.records ≡ before.log.records)
+
+-- one of the two
+abbrev pub IsEntered : Ledger → Who → Step → Reply → Ledger → Type 0
+IsEntered before who step answer after = IsAdded before who step answer after ⊎ IsForgone before step answer after

@@ -1,0 +1,154 @@
+-- What a history makes of the tenants and of the log.
+use Rattle.std.specs.Prelude.{◌≡◌, ℕ, false, List, [], ◌∷◌, ◌++◌, Option, Some, None, option_map, bytes_eq}
+use Rattle.std.specs.List.{flat_map}
+use Rattle.indexmap.specs.IndexMap.{IndexMap, get, keys}
+use Rattle.model.specs.Addresses.{addressed}
+use Rattle.model.specs.Alone.{alone, step as step_alone}
+use Rattle.model.specs.Failures.{HasRisen}
+use Rattle.model.specs.Handler.{Meaning}
+use Rattle.model.specs.History.{own, pairs, replies_to, IsLegal}
+use Rattle.model.specs.Records.{IsHonest, IsQuiet}
+use Rattle.model.specs.World.{World}
+use Rattle.model.specs.declared.names.Row.{Row}
+use Rattle.model.specs.declared.records.Record.{Record}
+use Rattle.model.specs.declared.replies.End.TheVariants.{Device}
+use Rattle.model.specs.declared.replies.Entry.{Entry}
+use Rattle.model.specs.declared.replies.Reply.{Reply}
+use Rattle.model.specs.declared.replies.Reply.TheVariants.{Opened}
+use Rattle.model.specs.declared.replies.Said.{Said}
+use Rattle.model.specs.declared.replies.Who.TheVariants.{Caller}
+use Rattle.model.specs.declared.steps.Step.{Step}
+use Rattle.model.specs.declared.steps.TenantStep.{TenantStep}
+use Rattle.model.specs.declared.steps.TenantStep.TheVariants.{Open}
+use Rattle.stable_log.specs.Logged.{Logged}
+use Rattle.tenant.specs.Stands.{Kept, StandsAt, released_in}
+use Rattle.book.specs.Entries.{Ledger, IsEntered}
+
+-- ---- tenants
+
+-- the world that a tenant's own entries make, if they open it
+abbrev pub world_of : {S : Type 0} → Meaning S → List ℕ → List Entry → Option World
+world_of M tenant history = (alone M (own tenant (pairs history))).world
+
+-- what a unit of the world has released, if both are there
+abbrev pub released_at : Option World → ℕ → Option (List (List ℕ))
+released_at None unit = None
+released_at (Some w) unit = released_in w unit
+
+-- the rows of the world's table, if it is there
+abbrev pub table_at : Option World → Option (List Row)
+table_at w = option_map (λ z. z.table) w
+
+-- the tenant, where this reply says that it was opened
+abbrev pub named_if_opened : List ℕ → Reply → List (List ℕ)
+named_if_opened tenant (Opened units) = tenant ∷ []
+named_if_opened tenant _ = []
+
+-- the tenant, where this step with this reply opened it
+abbrev pub opened_by : List ℕ → TenantStep → Reply → List (List ℕ)
+opened_by tenant (Open kinds quota optimism) answer = named_if_opened tenant answer
+opened_by tenant _ answer = []
+
+-- the tenants whose opening was accepted, in order
+abbrev pub opened : List Entry → List (List ℕ)
+opened history = flat_map (λ e. opened_by (addressed e.step).0 (addressed e.step).1 e.reply) history
+
+-- ---- the log
+
+-- What the store said during a step of the tenant is honest, where it took these records then.
+-- A tenant that is not open does not ask the store.
+abbrev pub IsHonestAt : {S : Type 0} → Meaning S → List ℕ → Option World → TenantStep → Said → List Record → Type 0
+IsHonestAt M tenant None step said grown = IsQuiet said grown
+IsHonestAt M tenant (Some w) step said grown = IsHonest M tenant w step said grown
+
+-- the same of an entry, where these came before it
+abbrev pub IsHonestAfter : {S : Type 0} → Meaning S → List Entry → Entry → List Record → Type 0
+IsHonestAfter M before e grown =
+    IsHonestAt M (addressed e.step).0 (world_of M (addressed e.step).0 before) (addressed e.step).1 e.said grown
+
+-- The store took these records during these entries, those of each entry in turn,
+-- and what it said during each is honest. The entries `before` came before them.
+abbrev pub RecordedAfter : {S : Type 0} → Meaning S → List Entry → List Entry → List Record → Type 0
+RecordedAfter M before [] records = records ≡ []
+RecordedAfter M before (e ∷ entries) records =
+    (grown : List Record) × (rest : List Record)
+    × (records ≡ grown ++ rest) × IsHonestAfter M before e grown × RecordedAfter M (before ++ e ∷ []) entries rest
+
+-- the store took these records during this history, and was honest throughout
+abbrev pub IsRecorded : {S : Type 0} → Meaning S → List Entry → List Record → Type 0
+IsRecorded M history records = RecordedAfter M [] history records
+
+-- ---- one step
+
+-- The tenants and the log of a book: what is kept under each name, the names in their order, and the log.
+pub record Holding (K : Type 0) : Type 0 where
+  pub at : List ℕ → Option K
+  pub names : List (List ℕ)
+  pub log : Logged
+
+-- a map of tenants, with the log
+abbrev pub holding : {K X : Type 0} → IndexMap (List ℕ) K X → Logged → Holding K
+holding tenants log = record { at = get bytes_eq tenants; names = keys tenants; log = log }
+
+-- the step of a tenant that may be unopened has this reply by the definitions, and what is kept stands for the world after it
+abbrev pub StepsAt : {S : Type 0} → Meaning S → List ℕ → Option World → Option (Kept S) → TenantStep → Said → Reply → List Record → Type 0
+StepsAt M tenant w k step said answer records =
+    (z : Option World)
+    × (step_alone M w (record { step = step; said = said }) ≡ record { reply = answer; world = z })
+    × StandsAt M tenant k z records
+
+-- The log grew by what the store took during a step of the tenant, and what it said is honest.
+-- The device is said to have failed only where it did.
+pub record LogsAt {S : Type 0} (M : Meaning S) (tenant : List ℕ) (w : Option World) (step : TenantStep) (said : Said) (before after : Logged) : Type 0 where
+  pub honest : (grown : List Record) × (after.records ≡ before.records ++ grown) × IsHonestAt M tenant w step said grown
+  pub device : said.end ≡ Device → HasRisen before.failures after.failures
+
+-- the step of a tenant that may be unopened was done
+pub record DidAt {S : Type 0} (M : Meaning S) (tenant : List ℕ) (w : Option World) (step : TenantStep) (said : Said) (answer : Reply) (before after : Holding (Kept S)) : Type 0 where
+  pub steps : StepsAt M tenant w (after.at tenant) step said answer after.log.records
+  pub logs : LogsAt M tenant w step said before.log after.log
+  pub order : after.names ≡ before.names ++ opened_by tenant step answer
+
+-- what any other tenant stands for stays, where the log's records change so
+abbrev pub KeepsOthers : {S : Type 0} → Meaning S → List ℕ → List Record → List Record → Type 0
+KeepsOthers {S = S} M tenant before after =
+    (k : Option (Kept S)) (w : Option World) (other : List ℕ)
+    → bytes_eq other tenant ≡ false → StandsAt M other k w before → StandsAt M other k w after
+
+-- The step was done: whichever world its tenant stood for, this is the reply and what is left.
+-- Every other tenant is kept as it was, and stands for what it stood for.
+pub record IsAnswered {S : Type 0} (M : Meaning S) (step : Step) (said : Said) (answer : Reply) (before after : Holding (Kept S)) : Type 0 where
+  pub did : (w : Option World)
+      → StandsAt M (addressed step).0 (before.at (addressed step).0) w before.log.records
+      → DidAt M (addressed step).0 w (addressed step).1 said answer before after
+  pub others : (other : List ℕ) → bytes_eq other (addressed step).0 ≡ false → after.at other ≡ before.at other
+  pub others_stand : KeepsOthers M (addressed step).0 before.log.records after.log.records
+
+-- the tenants and the log's records are as they were
+pub record IsKept {K : Type 0} (before after : Holding K) : Type 0 where
+  pub tenants : (tenant : List ℕ) → after.at tenant ≡ before.at tenant
+  pub order : after.names ≡ before.names
+  pub records : after.log.records ≡ before.log.records
+
+-- ---- the whole book
+
+-- the tenants and the log's records are what the history makes of them
+pub record IsReplay {S : Type 0} (M : Meaning S) (book : Holding (Kept S)) (history : List Entry) : Type 0 where
+  pub stands : (tenant : List ℕ) → StandsAt M tenant (book.at tenant) (world_of M tenant history) book.log.records
+  pub order : book.names ≡ opened history
+  pub legal : IsLegal M history
+  pub recorded : IsRecorded M history book.log.records
+
+-- the steps were entered in order, with these replies
+abbrev pub Ran : Ledger → List Step → List Reply → Ledger → Type 0
+Ran before [] [] after = after ≡ before
+Ran before [] (r ∷ replies) after = ⊥
+Ran before (s ∷ steps) [] after = ⊥
+Ran before (s ∷ steps) (r ∷ replies) after = (mid : Ledger) × IsEntered before Caller s r mid × Ran mid steps replies after
+
+-- legal histories with the same pairs of a tenant have the same replies to it, and leave it with the same world
+abbrev pub IsIsolated : {S : Type 0} → Meaning S → Type 0
+IsIsolated M =
+    (tenant : List ℕ) (one other : List Entry) → IsLegal M one → IsLegal M other
+    → own tenant (pairs one) ≡ own tenant (pairs other)
+    → (replies_to tenant one ≡ replies_to tenant other) × (world_of M tenant one ≡ world_of M tenant other)

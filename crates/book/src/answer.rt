@@ -1,0 +1,172 @@
+//! The work of one step, whichever the tenant.
+
+ghost use Rattle.std.specs.Prelude.{◌≡◌, [], ◌∷◌, ◌++◌, ℕ, List, IfOk, OnOk, OnErr, Option, None, Some, false, bytes_eq};
+ghost use Rattle.indexmap.specs.IndexMap.{IsUnchanged, get, keys};
+ghost use Rattle.model.specs.World.{World};
+ghost use Rattle.model.specs.declared.steps.TenantStep.TheVariants.{Open};
+ghost use Rattle.tenant.specs.Outcomes.{IsPlain};
+ghost use Rattle.tenant.specs.Stands.{IsOpened, StandsAt};
+ghost use Rattle.stable_log.specs.Logged.{Logged};
+ghost use Rattle.book.specs.Entries.{memory_reply as reply_of_memory};
+ghost use Rattle.book.specs.History.{DidAt, IsAnswered, IsKept, KeepsOthers, LogsAt, StepsAt, holding, opened_by};
+
+use handler::Handler;
+use indexmap::IndexMap;
+use model::{End, NoMemory, Quota, Refusal, Reply, Said, Step, TenantName, TenantStep, Texts};
+use stable_log::{SharedLog, Store};
+use std::alloc::Global;
+use tenant::{Answer, Tenant};
+
+/// The open tenants by their names, in the order of opening.
+pub(crate) type Tenants<H> = IndexMap<TenantName, Tenant<H>>;
+
+/// The reply to a step for which there was no memory.
+pub(crate) fn memory_reply(step: &Step) -> Reply
+    ensures { result ≡ reply_of_memory step.now }
+{
+    match step {
+        Step::Flush { .. } => Reply::Stopped {
+            count: 0,
+            refusal: Refusal::Memory,
+        },
+        _ => Reply::Refused {
+            refusal: Refusal::Memory,
+        },
+    }
+}
+
+fn no_tenant() -> Reply
+    ensures { result ≡ Reply.Refused Refusal.NoTenant }
+{
+    Reply::Refused {
+        refusal: Refusal::NoTenant,
+    }
+}
+
+/// The answer to a step of a tenant that is not open, other than `open`.
+fn no_tenant_answer() -> Answer
+    ensures plain { IsPlain result }
+    ensures reply { result.reply ≡ Reply.Refused Refusal.NoTenant }
+{
+    Answer {
+        said: Said {
+            appended: 0,
+            end: End::Whole,
+        },
+        reply: no_tenant(),
+        kept: no_tenant(),
+    }
+}
+
+/// Puts a tenant in under a name that is not there. Where no memory was found the tenant is let go.
+fn put<H: Handler>(
+    tenants: &mut Tenants<H>,
+    name: TenantName,
+    tenant: Tenant<H>,
+) -> Result<(), NoMemory>
+    requires { get bytes_eq tenants.old name ≡ None }
+    ensures here { OnOk result (get bytes_eq tenants.new name ≡ Some tenant) }
+    ensures names { OnOk result (keys tenants.new ≡ keys tenants.old ++ name ∷ []) }
+    ensures others { (t : List ℕ) → bytes_eq t name ≡ false → get bytes_eq tenants.new t ≡ get bytes_eq tenants.old t }
+    ensures err { OnErr result (IsUnchanged tenants.old tenants.new) }
+{
+    match tenants.insert(name, tenant) {
+        Ok(_) => Ok(()),
+        Err(_) => Err(NoMemory),
+    }
+}
+
+/// Opens a tenant that is not there. It is put in only if it was opened.
+fn open_new<H: Handler>(
+    alloc: Global,
+    handler: &H,
+    tenants: &mut Tenants<H>,
+    name: &TenantName,
+    kinds: &Texts,
+    quota: Quota,
+    optimism: u32,
+) -> Result<Answer, NoMemory>
+    requires { get bytes_eq tenants.old name.now ≡ None }
+    ensures plain { IfOk result IsPlain }
+    ensures opened { IfOk result (λ a. IsOpened H.meaning kinds.now quota optimism a.reply (get bytes_eq tenants.new name.now)) }
+    ensures names { IfOk result (λ a. keys tenants.new ≡ keys tenants.old ++ opened_by name.now (TenantStep.Open kinds.now quota optimism) a.reply) }
+    ensures others { (t : List ℕ) → bytes_eq t name.now ≡ false → get bytes_eq tenants.new t ≡ get bytes_eq tenants.old t }
+    ensures err { OnErr result (IsUnchanged tenants.old tenants.new) }
+{
+    if tenants.reserve(1).is_err() {
+        return Err(NoMemory);
+    }
+    let own_name = name.copy(alloc)?;
+    let (answer, opened) = Tenant::open(alloc, handler, kinds, quota, optimism)?;
+    match opened {
+        None => Ok(answer),
+        Some(tenant) => {
+            put(tenants, own_name, tenant)?;
+            Ok(answer)
+        }
+    }
+}
+
+/// Does a step of an open tenant.
+fn answer_open<H: Handler, S: Store>(
+    alloc: Global,
+    handler: &H,
+    tenant: &mut Tenant<H>,
+    name: &TenantName,
+    step: TenantStep,
+    log: &mut SharedLog<S>,
+) -> Result<Answer, NoMemory>
+    ensures kept { IfOk result (λ a. a.kept ≡ a.reply) }
+    ensures steps { IfOk result (λ a. (w : Option World) → StandsAt H.meaning name.now (Some tenant.old) w log.old.records → StepsAt H.meaning name.now w (Some tenant.new) step a.said a.reply log.new.records) }
+    ensures logs { IfOk result (λ a. (w : Option World) → StandsAt H.meaning name.now (Some tenant.old) w log.old.records → LogsAt H.meaning name.now w step a.said log.old log.new) }
+    ensures unopened { IfOk result (λ a. (w : Option World) → StandsAt H.meaning name.now (Some tenant.old) w log.old.records → opened_by name.now step a.reply ≡ []) }
+    ensures others_stand { KeepsOthers H.meaning name.now log.old.records log.new.records }
+    ensures err { OnErr result (tenant.new ≡ tenant.old) }
+    ensures err_log { OnErr result (log.new.records ≡ log.old.records) }
+{
+    tenant.step(alloc, handler, name, step, log)
+}
+
+/// Does a step of a tenant that is not open.
+fn answer_unopened<H: Handler>(
+    alloc: Global,
+    handler: &H,
+    tenants: &mut Tenants<H>,
+    name: &TenantName,
+    step: TenantStep,
+) -> Result<Answer, NoMemory>
+    requires { get bytes_eq tenants.old name.now ≡ None }
+    ensures kept { IfOk result (λ a. a.kept ≡ a.reply) }
+    ensures did { IfOk result (λ a. (log : Logged) → DidAt H.meaning name.now None step a.said a.reply (holding tenants.old log) (holding tenants.new log)) }
+    ensures others { (t : List ℕ) → bytes_eq t name.now ≡ false → get bytes_eq tenants.new t ≡ get bytes_eq tenants.old t }
+    ensures err { OnErr result (IsUnchanged tenants.old tenants.new) }
+{
+    match step {
+        TenantStep::Open {
+            kinds,
+            quota,
+            optimism,
+        } => open_new(alloc, handler, tenants, name, &kinds, quota, optimism),
+        _ => Ok(no_tenant_answer()),
+    }
+}
+
+/// Does a step of any tenant. Where no memory was found nothing is changed.
+pub(crate) fn answer<H: Handler, S: Store>(
+    alloc: Global,
+    handler: &H,
+    tenants: &mut Tenants<H>,
+    log: &mut SharedLog<S>,
+    step: &Step,
+) -> Result<Answer, NoMemory>
+    ensures kept { IfOk result (λ a. a.kept ≡ a.reply) }
+    ensures answered { IfOk result (λ a. IsAnswered H.meaning step.now a.said a.reply (holding tenants.old log.old) (holding tenants.new log.new)) }
+    ensures err { OnErr result (IsKept (holding tenants.old log.old) (holding tenants.new log.new)) }
+{
+    let own_step = step.tenant_step(alloc)?;
+    let name = step.tenant();
+    if let Some(tenant) = tenants.get_mut(name) {
+        return answer_open(alloc, handler, tenant, name, own_step, log);
+    }
+    answer_unopened(alloc, handler, tenants, name, own_step)
+}

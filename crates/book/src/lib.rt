@@ -1,0 +1,30 @@
+//! All tenants in one book, with the stored history.
+//!
+//! A `Book` runs the steps of any number of tenants over one store, and keeps each step with its
+//! reply as an entry of its history. It is the replay of that history: for each tenant, what the
+//! book keeps stands for the world that the tenant's own entries make, the replies to the tenant
+//! are those that it would get alone, and the records of the store are those that the entries
+//! acknowledged. Contracts see a book as a `Ledger`, its history and its log, and this stands in
+//! the book's invariant.
+//!
+//! - `Book::step`, `step_as` and `run` do steps. A step is entered with the reply that is given,
+//!   or there was no memory for it, and then nothing changed. Both copies of a reply are made
+//!   before the step has any effect.
+//! - `Book::history` gives the entries. They are legal, and what the store said in them is honest.
+//! - `Book::tenants`, `replies_of`, `released` and `rollbacks` read what the history says of a
+//!   tenant.
+//! - `isolated` is the law that tenants are isolated: the replies to a tenant and its world follow
+//!   from its own entries alone, whatever the other tenants do.
+//!
+//! The words of the contracts are in `specs/`: `Entries` says how a step is entered, and `History`
+//! what a history makes of tenants and log. The work of one step is `answer::answer`, and the lemma
+//! `entered` of `proofs/Replays` shows that the book is still the replay of its history after it.
+#![tactic(auto)]
+
+mod answer;
+mod book;
+
+pub use book::{Book, isolated};
+
+#[cfg(test)]
+mod tests;

@@ -1,0 +1,132 @@
+-- Serving one line after the other.
+use Rattle.std.proofs.Common.{◌≡◌, ◌<◌, ◌≤◌, ◌+◌, ℕ, List, [], ◌∷◌, ◌++◌, length, map, All, cond, Option, Some, None, refl, sym, ap, subst, ◌∙◌, append_assoc, append-nil, length-append, arith, inl, inr}
+use Rattle.std.specs.Prelude.{flat_map}
+use Rattle.std.proofs.lemmas.List.Elements.{All-head, All-tail}
+use Rattle.std.proofs.lemmas.Bool.{lt-leb}
+use Rattle.std.proofs.lemmas.Grind.{flat_map-append}
+use Rattle.std.proofs.lemmas.List.Concat.{flat_map-cons}
+use Rattle.std.specs.Io.KnownBytes.{Appends, Keeps}
+use Rattle.std.proofs.KnownBytes.{Appends-trans, Appends-kept}
+use Rattle.ident.specs.declared.limits.TheConstants.{MAX_LINE_BYTES}
+use Rattle.model.specs.declared.refusals.Refusal.TheVariants.{BadLine}
+use Rattle.model.specs.declared.replies.Entry.{Entry}
+use Rattle.model.specs.declared.replies.Reply.{Reply}
+use Rattle.model.specs.declared.replies.Reply.TheVariants.{Refused}
+use Rattle.model.specs.declared.replies.Who.TheVariants.{Caller}
+use Rattle.model.specs.declared.steps.Step.{Step}
+use Rattle.model.specs.declared.steps.Step.TheVariants.{Open, Join, Post, Deliver, Flush, Checkpoint, Kill, Restart, Notice, Release, Status}
+use Rattle.book.specs.Entries.{Ledger, memory_reply}
+use Rattle.forms.specs.Reading.{step_of_line}
+use Rattle.lines.specs.Lines.{LinesRead, AppendsBeginning}
+use Rattle.lines.specs.Serving.{line_step, Answered, AnsweredLine, Serves, IsRemembered, told, entered_before, IsBadOr, EntersEach, reply_line, ServedSome, TookLine, Broken}
+use Rattle.lines.proofs.Parts.{LinesRead-more, LinesRead-some}
+
+-- a line that is too long is no step
+pub line_step-long : (line : List ℕ) → MAX_LINE_BYTES < length line → line_step line ≡ None
+unfolding line_step
+line_step-long line long = ap (λ b. cond b (step_of_line line) None) (lt-leb (length line) MAX_LINE_BYTES long)
+
+-- a line that is too long, answered
+pub long_answered : (line : List ℕ) (old : Ledger) → MAX_LINE_BYTES < length line → AnsweredLine line old (Refused BadLine) old
+long_answered line old long = (subst (λ s. Answered s old (Refused BadLine) old) (sym (line_step-long line long)) (inr (refl, refl)), λ _. refl)
+
+-- a line that was held, answered
+pub held_answered : (line : List ℕ) (old new : Ledger) (reply : Reply) → length line ≤ MAX_LINE_BYTES → Answered (line_step line) old reply new → AnsweredLine line old reply new
+held_answered line old new reply fits answered = (answered, λ long. absurd (omega (arith, long)))
+
+-- what stays and then grows
+pub Keeps-then : (a b c : Option (List ℕ)) (bs : List ℕ) → Keeps a b → Appends b c bs → Appends a c bs
+Keeps-then None b c bs p q = tt
+Keeps-then (Some x) None c bs p q = absurd p
+Keeps-then (Some x) (Some y) None bs p q = absurd q
+Keeps-then (Some x) (Some y) (Some z) bs p q = q ∙ ap (λ l. l ++ bs) p
+
+-- what stays and then grows by a beginning
+pub Keeps-then_beginning : (a b c : Option (List ℕ)) (all : List ℕ) → Keeps a b → AppendsBeginning b c all → AppendsBeginning a c all
+Keeps-then_beginning a b c all p q = (q.0, Keeps-then a b c q.0 p q.1, q.2)
+
+-- one line more
+pub Serves-more : (lines : List (List ℕ)) (old mid new : Ledger) (replies : List Reply) (line : List ℕ) (reply : Reply)
+    → Serves lines old replies mid → AnsweredLine line mid reply new → Serves (lines ++ line ∷ []) old (replies ++ reply ∷ []) new
+Serves-more [] old mid new replies line reply p q =
+    (reply, [], new, ap (λ rs. rs ++ reply ∷ []) p.0, subst (λ s. AnsweredLine line s reply new) p.1 q, (refl, refl))
+Serves-more (l ∷ ls) old mid new replies line reply p q =
+    (p.0, p.1 ++ reply ∷ [], p.2, ap (λ rs. rs ++ reply ∷ []) p.3, p.4, Serves-more ls p.2 mid new p.1 line reply p.5 q)
+
+-- the lines of one reply more
+flat_map_more : (rs : List Reply) (r : Reply) → flat_map reply_line (rs ++ r ∷ []) ≡ flat_map reply_line rs ++ reply_line r
+flat_map_more rs r = flat_map-append reply_line rs (r ∷ []) ∙ ap (λ x. flat_map reply_line rs ++ x) (flat_map-cons reply_line r [] ∙ append-nil (reply_line r))
+
+module _ (input mid input' out omid out' : Option (List ℕ)) (old bmid new : Ledger) (lines : List (List ℕ)) (replies : List Reply) (read : LinesRead input mid lines) (run : Serves lines old replies bmid) (written : Appends out omid (flat_map reply_line replies)) where
+  -- one line more
+  pub goes_on : (count : ℕ) → length lines ≡ count → TookLine mid input' omid out' bmid new
+      → (lines' : List (List ℕ)) × (replies' : List Reply) × LinesRead input input' lines' × Serves lines' old replies' new × Appends out out' (flat_map reply_line replies') × (length lines' ≡ count + 1)
+  goes_on count is (line, reply, one, answered, grown) = (
+    lines ++ line ∷ [],
+    replies ++ reply ∷ [],
+    LinesRead-more _ _ _ lines line read one,
+    Serves-more lines old bmid new replies line reply run answered,
+    subst (Appends out out') (sym (flat_map_more replies reply)) (Appends-trans _ _ _ _ _ written grown),
+    omega (arith, is, length-append lines (line ∷ [])),
+  )
+
+  -- it ended early
+  pub stops : Broken mid input' omid out' bmid new → ServedSome input out out' old new
+  stops (inl (same, kept)) = (
+    lines,
+    replies,
+    LinesRead-some _ _ lines read,
+    subst (Serves lines old replies) (sym same) run,
+    (flat_map reply_line replies, Appends-kept _ _ _ _ written kept, ([], sym (append-nil _))),
+  )
+  stops (inr (line, reply, one, answered, begun)) = (
+    lines ++ line ∷ [],
+    replies ++ reply ∷ [],
+    LinesRead-some _ _ _ (LinesRead-more _ _ _ lines line read one),
+    Serves-more lines old bmid new replies line reply run answered,
+    (
+      flat_map reply_line replies ++ begun.0,
+      Appends-trans _ _ _ _ _ written begun.1,
+      (begun.2.0, flat_map_more replies reply ∙ ap (λ x. flat_map reply_line replies ++ x) begun.2.1 ∙ sym (append_assoc _ begun.0 begun.2.0)),
+    ),
+  )
+
+-- ---- where no reply is for want of memory
+
+-- the reply that tells want of memory for a step is one of the two
+memory_reply_is : {A : Type 0} (step : Step) (reply : Reply) → IsRemembered reply → reply ≡ memory_reply step → A
+memory_reply_is (Open tenant kinds quota optimism) reply kept is = absurd (kept.0 is)
+memory_reply_is (Join tenant kind) reply kept is = absurd (kept.0 is)
+memory_reply_is (Post tenant unit number text) reply kept is = absurd (kept.0 is)
+memory_reply_is (Deliver tenant letter) reply kept is = absurd (kept.0 is)
+memory_reply_is (Flush tenant unit) reply kept is = absurd (kept.1 is)
+memory_reply_is (Checkpoint tenant unit) reply kept is = absurd (kept.0 is)
+memory_reply_is (Kill tenant unit) reply kept is = absurd (kept.0 is)
+memory_reply_is (Restart tenant unit) reply kept is = absurd (kept.0 is)
+memory_reply_is (Notice tenant unit) reply kept is = absurd (kept.0 is)
+memory_reply_is (Release tenant unit) reply kept is = absurd (kept.0 is)
+memory_reply_is (Status tenant unit) reply kept is = absurd (kept.0 is)
+
+-- what one line adds to the history, before what later lines add
+one_line : (read : Option Step) (old mid : Ledger) (reply : Reply) → IsRemembered reply → Answered read old reply mid
+    → IsBadOr read reply × (entries : List Entry) × (mid.history ≡ old.history ++ entries) × ((others : List Entry) → map told (entries ++ others) ≡ entered_before read reply (map told others))
+one_line None old mid reply kept (inl (is, same)) = absurd (kept.0 is)
+one_line None old mid reply kept (inr (is, same)) = (is, [], ap (λ l. l.history) same ∙ sym (append-nil old.history), λ others. refl)
+one_line (Some step) old mid reply kept (inl (is, same)) = absurd (kept.0 is)
+one_line (Some step) old mid reply kept (inr (inl (said, grown, device))) =
+    (tt, record { who = Caller; step = step; said = said; reply = reply } ∷ [], grown, λ others. refl)
+one_line (Some step) old mid reply kept (inr (inr (is, same, log))) = memory_reply_is step reply kept is
+
+-- the law, one line after the other
+pub enters_each : (lines : List (List ℕ)) (old new : Ledger) (replies : List Reply) → Serves lines old replies new → All IsRemembered replies → EntersEach lines old replies new
+enters_each [] old new replies p all = (p.0, [], ap (λ l. l.history) p.1 ∙ sym (append-nil old.history), refl)
+enters_each (l ∷ ls) old new replies p all =
+    let every = subst (All IsRemembered) p.3 all in
+    let one = one_line (line_step l) old p.2 p.0 (All-head IsRemembered p.0 p.1 every) p.4.0 in
+    let rest = enters_each ls p.2 new p.1 p.5 (All-tail IsRemembered p.0 p.1 every) in
+    subst (λ rs. EntersEach (l ∷ ls) old rs new) (sym p.3) (
+      (one.0, rest.0),
+      one.1 ++ rest.1,
+      rest.2 ∙ ap (λ h. h ++ rest.1) one.2 ∙ append_assoc old.history one.1 rest.1,
+      one.3 rest.1 ∙ ap (entered_before (line_step l) p.0) rest.3,
+    )

@@ -1,0 +1,5 @@
+pub mod Lines
+pub mod Parts
+pub mod Serving
+pub mod Feeds
+pub mod Counting

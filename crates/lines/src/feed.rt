@@ -1,0 +1,77 @@
+//! The steps of a feed.
+
+ghost use Rattle.std.specs.Prelude.{◌≡◌, ◌≢◌, ◌<◌, ◌≤◌, IfOk, IfErr, OnOk, vec_capacity};
+ghost use Rattle.model.specs.Failures.{HasRisen};
+ghost use Rattle.lines.specs.Parts.{Hears};
+ghost use Rattle.lines.specs.Feeds.{IsReading, FeedOf};
+
+use crate::counted::Counted;
+use crate::fault::ServeFault;
+use crate::input::{Heard, fill, heard_at_end, line_kind};
+use crate::part::Part;
+use forms::{LineFault, read_step};
+use ident::MAX_LINE_BYTES;
+use model::Step;
+use std::alloc::Global;
+use std::io::BufRead;
+
+/// The step of each line of the input, in order, or why a line gave none: `Bad` exactly where it is
+/// no step, as a line of more than `MAX_LINE_BYTES` bytes is, and `NoMemory` where there was no
+/// memory to read it.
+///
+/// `Read` comes only where the reader failed, and `NoMemory` where there was no memory for a line's
+/// bytes or for the list. What was read up to then is lost.
+pub fn read_feed<R: BufRead>(
+    alloc: Global,
+    reader: &mut Counted<R>,
+) -> Result<Vec<Result<Step, LineFault>>, ServeFault>
+    ensures all { IfOk result (λ found. FeedOf (R.remaining reader.old.inner) found.items) }
+    ensures read { result ≡ Err ServeFault.Read → HasRisen reader.old.failed reader.new.failed }
+    ensures read_same { result ≢ Err ServeFault.Read → reader.new.failed ≡ reader.old.failed }
+    ensures write { result ≢ Err ServeFault.Write }
+{
+    let Ok(mut held) = Vec::with_capacity(alloc, MAX_LINE_BYTES) else {
+        return Err(ServeFault::NoMemory);
+    };
+    let mut found = Vec::new(alloc);
+    loop {
+        match feed_line(reader, &mut held)? {
+            Heard::End => return Ok(found),
+            kind => {
+                let step = step_of(alloc, kind, held.as_slice());
+                if found.push(step).is_err() {
+                    return Err(ServeFault::NoMemory);
+                }
+            }
+        }
+    }
+}
+
+fn step_of(alloc: Global, kind: Heard, held: &[u8]) -> Result<Step, LineFault>
+    ensures { IsReading kind held.now result }
+{
+    match kind {
+        Heard::Line => read_step(alloc, held),
+        Heard::Long | Heard::End => Err(LineFault::Bad),
+    }
+}
+
+fn feed_line<R: BufRead>(reader: &mut Counted<R>, held: &mut Vec<u8>) -> Result<Heard, ServeFault>
+    requires { MAX_LINE_BYTES ≤ vec_capacity held.old }
+    ensures room { MAX_LINE_BYTES ≤ vec_capacity held.new }
+    ensures heard { IfOk result (λ heard. Hears heard held.new.items
+        (R.remaining reader.old.inner) (R.remaining reader.new.inner)) }
+    ensures err { IfErr result (λ e. (e ≡ ServeFault.Read) × HasRisen reader.old.failed reader.new.failed) }
+    ensures same { OnOk result (reader.new.failed ≡ reader.old.failed) }
+    ensures fewer { OnOk result (reader.new.left < reader.old.left) }
+{
+    held.clear();
+    let mut is_long = false;
+    loop {
+        match fill(reader, held, &mut is_long)? {
+            Part::More => {}
+            Part::Ended(_) => return Ok(line_kind(is_long)),
+            Part::AtEnd => return Ok(heard_at_end(held.as_slice(), is_long)),
+        }
+    }
+}

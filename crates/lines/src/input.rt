@@ -1,0 +1,111 @@
+//! The next line of an input.
+
+ghost use Rattle.std.specs.Prelude.{◌≡◌, ◌≢◌, ◌<◌, ◌≤◌, ◌==◌, IfOk, IfErr, OnOk, if◌then◌else◌, length, vec_capacity};
+ghost use Rattle.std.specs.Io.KnownBytes.{Keeps};
+ghost use Rattle.model.specs.Failures.{HasRisen};
+ghost use Rattle.lines.specs.Parts.{Takes, Hears};
+
+use crate::counted::Counted;
+use crate::fault::ServeFault;
+use crate::part::Part;
+use ident::MAX_LINE_BYTES;
+use std::io::{BufRead, Write};
+
+/// What was read.
+#[derive(Clone, Copy, Debug, PartialEq, Eq)]
+pub(crate) enum Heard {
+    // A line, which is held.
+    Line,
+    // A line that is too long to hold.
+    Long,
+    // No line was left.
+    End,
+}
+
+/// Reads a line. Before each read that may wait, what was written is flushed: that is where the
+/// last read didn't show that there is more.
+pub(crate) fn read_line<R: BufRead, W: Write>(
+    reader: &mut Counted<R>,
+    writer: &mut Counted<W>,
+    held: &mut Vec<u8>,
+    ahead: &mut bool,
+) -> Result<Heard, ServeFault>
+    requires { MAX_LINE_BYTES ≤ vec_capacity held.old }
+    ensures room { MAX_LINE_BYTES ≤ vec_capacity held.new }
+    ensures heard { IfOk result (λ heard. Hears heard held.new.items
+        (R.remaining reader.old.inner) (R.remaining reader.new.inner)) }
+    ensures keeps { Keeps (W.contents writer.old.inner) (W.contents writer.new.inner) }
+    ensures read { result ≡ Err ServeFault.Read → HasRisen reader.old.failed reader.new.failed }
+    ensures write { result ≡ Err ServeFault.Write → HasRisen writer.old.failed writer.new.failed }
+    ensures memory { result ≢ Err ServeFault.NoMemory }
+    ensures read_same { result ≢ Err ServeFault.Read → reader.new.failed ≡ reader.old.failed }
+    ensures write_same { result ≢ Err ServeFault.Write → writer.new.failed ≡ writer.old.failed }
+    ensures fewer { OnOk result (reader.new.left < reader.old.left) }
+{
+    held.clear();
+    let mut is_long = false;
+    loop {
+        flush_unless(writer, *ahead)?;
+        *ahead = false;
+        match fill(reader, held, &mut is_long)? {
+            Part::More => {}
+            Part::Ended(more) => {
+                *ahead = more;
+                return Ok(line_kind(is_long));
+            }
+            Part::AtEnd => return Ok(heard_at_end(held.as_slice(), is_long)),
+        }
+    }
+}
+
+pub(crate) fn line_kind(is_long: bool) -> Heard
+    ensures { result ≡ (if is_long then Heard.Long else Heard.Line) }
+{
+    if is_long { Heard::Long } else { Heard::Line }
+}
+
+pub(crate) fn heard_at_end(held: &[u8], is_long: bool) -> Heard
+    ensures { result ≡ (if is_long then Heard.Long else if length held.now == 0 then Heard.End else Heard.Line) }
+{
+    if is_long {
+        Heard::Long
+    } else if held.is_empty() {
+        Heard::End
+    } else {
+        Heard::Line
+    }
+}
+
+pub(crate) fn flush_unless<W: Write>(writer: &mut Counted<W>, ahead: bool) -> Result<(), ServeFault>
+    ensures keeps { Keeps (W.contents writer.old.inner) (W.contents writer.new.inner) }
+    ensures err { IfErr result (λ e. (e ≡ ServeFault.Write) × HasRisen writer.old.failed writer.new.failed) }
+    ensures same { OnOk result (writer.new.failed ≡ writer.old.failed) }
+{
+    if ahead {
+        return Ok(());
+    }
+    match writer.flush_all() {
+        Ok(()) => Ok(()),
+        Err(_) => Err(ServeFault::Write),
+    }
+}
+
+pub(crate) fn fill<R: BufRead>(
+    reader: &mut Counted<R>,
+    held: &mut Vec<u8>,
+    is_long: &mut bool,
+) -> Result<Part, ServeFault>
+    requires { MAX_LINE_BYTES ≤ vec_capacity held.old }
+    ensures room { MAX_LINE_BYTES ≤ vec_capacity held.new }
+    ensures takes { IfOk result (λ part. Takes part
+        (R.remaining reader.old.inner) (R.remaining reader.new.inner)
+        held.old.items is_long.old held.new.items is_long.new) }
+    ensures err { IfErr result (λ e. (e ≡ ServeFault.Read) × HasRisen reader.old.failed reader.new.failed) }
+    ensures same { OnOk result (reader.new.failed ≡ reader.old.failed) }
+    ensures fewer { OnOk result (reader.new.left < reader.old.left) }
+{
+    match reader.fill(held, is_long) {
+        Ok(part) => Ok(part),
+        Err(_) => Err(ServeFault::Read),
+    }
+}

@@ -1,0 +1,28 @@
+//! Serving: lines in, lines out.
+//!
+//! - `serve`: answers each line of a reader, in order, by the book, and writes each reply as a line.
+//! - `read_feed`: the steps of all lines of a reader.
+//! - `Counted`: a reader or a writer with a count of its failures, by which the contracts tell
+//!   which end failed. What raises the count is private to the module `counted`.
+//! - `part` and `input`: a line is read a part at a time, in one buffer whatever its length.
+//! - `read_step`, `write_reply` and `LineFault` are those of `forms`: what one line means.
+//!
+//! A line ends at a line feed, which is no part of it; what follows the last line feed is a line
+//! where it isn't empty. `specs/Lines` says so, and `specs/Serving` what is answered.
+#![tactic(auto)]
+
+mod counted;
+mod fault;
+mod feed;
+mod input;
+mod part;
+mod serving;
+
+pub use counted::Counted;
+pub use fault::ServeFault;
+pub use feed::read_feed;
+pub use forms::{LineFault, read_step, write_reply};
+pub use serving::{memory_aside, serve};
+
+#[cfg(test)]
+mod tests;

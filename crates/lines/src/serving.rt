@@ -1,0 +1,155 @@
+//! Serving.
+
+ghost use Rattle.std.specs.Prelude.{◌≡◌, ◌≢◌, ◌<◌, ◌≤◌, ℕ, List, IfOk, OnOk, OnErr, All, length, vec_capacity, Some};
+ghost use Rattle.std.specs.Io.KnownBytes.{Appends};
+ghost use Rattle.model.specs.Failures.{HasRisen};
+ghost use Rattle.model.specs.declared.replies.Reply.{Reply as ReplyOf};
+ghost use Rattle.book.specs.Entries.{Ledger};
+ghost use Rattle.lines.specs.Lines.{AppendsBeginning};
+ghost use Rattle.lines.specs.Serving.{AnsweredLine, Serves, EntersEach, IsRemembered, reply_line, ServedAll, ServedSome, Took, Broken};
+
+use crate::counted::Counted;
+use crate::fault::ServeFault;
+use crate::input::{Heard, flush_unless, read_line};
+use book::Book;
+use forms::{LineFault, read_step, write_reply};
+use handler::Handler;
+use ident::{MAX_LINE_BYTES, Refusal};
+use model::Reply;
+use stable_log::Store;
+use std::alloc::Global;
+use std::io::{BufRead, Write};
+
+/// Answers each line of the input, in order, and tells how many there were.
+///
+/// A line that is no step, or is longer than `MAX_LINE_BYTES`, is answered `bad-line`; each step is
+/// done by the book as a caller's. A line takes one buffer of that many bytes, whatever its length,
+/// and a reply is flushed before the next read that may wait.
+///
+/// `Read` comes only where the reader failed, `Write` only where the writer failed, and `NoMemory`
+/// where there was no memory for the buffer or for a reply's text. After each the book holds the
+/// steps so far, and what is written is a beginning of the replies to the lines read so far.
+pub fn serve<R: BufRead, W: Write, H: Handler, S: Store>(
+    alloc: Global,
+    reader: &mut Counted<R>,
+    writer: &mut Counted<W>,
+    book: &mut Book<H, S>,
+) -> Result<u64, ServeFault>
+    ensures all { IfOk result (λ count. ServedAll (R.remaining reader.old.inner)
+        (W.contents writer.old.inner) (W.contents writer.new.inner) book.old book.new count) }
+    ensures some { OnErr result (ServedSome (R.remaining reader.old.inner)
+        (W.contents writer.old.inner) (W.contents writer.new.inner) book.old book.new) }
+    ensures read { result ≡ Err ServeFault.Read → HasRisen reader.old.failed reader.new.failed }
+    ensures write { result ≡ Err ServeFault.Write → HasRisen writer.old.failed writer.new.failed }
+    ensures read_same { result ≢ Err ServeFault.Read → reader.new.failed ≡ reader.old.failed }
+    ensures write_same { result ≢ Err ServeFault.Write → writer.new.failed ≡ writer.old.failed }
+{
+    let Ok(mut held) = Vec::with_capacity(alloc, MAX_LINE_BYTES) else {
+        return Err(ServeFault::NoMemory);
+    };
+    // Each line takes a call at least, so that the count of lines fits.
+    let _most = reader.calls_left();
+    let mut ahead = false;
+    let mut count = 0;
+    loop {
+        if !serve_line(alloc, reader, writer, book, &mut held, &mut ahead)? {
+            return Ok(count);
+        }
+        count += 1;
+    }
+}
+
+// Reads a line and answers it, if one is left.
+fn serve_line<R: BufRead, W: Write, H: Handler, S: Store>(
+    alloc: Global,
+    reader: &mut Counted<R>,
+    writer: &mut Counted<W>,
+    book: &mut Book<H, S>,
+    held: &mut Vec<u8>,
+    ahead: &mut bool,
+) -> Result<bool, ServeFault>
+    requires { MAX_LINE_BYTES ≤ vec_capacity held.old }
+    ensures room { MAX_LINE_BYTES ≤ vec_capacity held.new }
+    ensures took { IfOk result (λ found. Took found
+        (R.remaining reader.old.inner) (R.remaining reader.new.inner)
+        (W.contents writer.old.inner) (W.contents writer.new.inner) book.old book.new) }
+    ensures err { OnErr result (Broken
+        (R.remaining reader.old.inner) (R.remaining reader.new.inner)
+        (W.contents writer.old.inner) (W.contents writer.new.inner) book.old book.new) }
+    ensures read { result ≡ Err ServeFault.Read → HasRisen reader.old.failed reader.new.failed }
+    ensures write { result ≡ Err ServeFault.Write → HasRisen writer.old.failed writer.new.failed }
+    ensures read_same { result ≢ Err ServeFault.Read → reader.new.failed ≡ reader.old.failed }
+    ensures write_same { result ≢ Err ServeFault.Write → writer.new.failed ≡ writer.old.failed }
+    ensures fewer { OnOk result (reader.new.left < reader.old.left) }
+{
+    match read_line(reader, writer, held, ahead)? {
+        Heard::End => {
+            flush_unless(writer, false)?;
+            Ok(false)
+        }
+        Heard::Long => {
+            let reply = Reply::Refused {
+                refusal: Refusal::BadLine,
+            };
+            put_reply(alloc, writer, &reply)?;
+            Ok(true)
+        }
+        Heard::Line => {
+            let reply = answer_line(alloc, book, held.as_slice());
+            put_reply(alloc, writer, &reply)?;
+            Ok(true)
+        }
+    }
+}
+
+// Writes the line that answers.
+fn put_reply<W: Write>(
+    alloc: Global,
+    writer: &mut Counted<W>,
+    reply: &Reply,
+) -> Result<(), ServeFault>
+    ensures ok { OnOk result (Appends (W.contents writer.old.inner) (W.contents writer.new.inner)
+        (reply_line reply.now)) }
+    ensures err { OnErr result (AppendsBeginning (W.contents writer.old.inner)
+        (W.contents writer.new.inner) (reply_line reply.now)) }
+    ensures write { result ≡ Err ServeFault.Write → HasRisen writer.old.failed writer.new.failed }
+    ensures read { result ≢ Err ServeFault.Read }
+    ensures same { result ≢ Err ServeFault.Write → writer.new.failed ≡ writer.old.failed }
+{
+    let Ok(mut text) = write_reply(alloc, reply) else {
+        return Err(ServeFault::NoMemory);
+    };
+    if text.push('\n').is_err() {
+        return Err(ServeFault::NoMemory);
+    }
+    match writer.put(text.as_bytes()) {
+        Ok(()) => Ok(()),
+        Err(_) => Err(ServeFault::Write),
+    }
+}
+
+// Does what a line says.
+#[tactic(auto, unfolding(crate::specs::Serving::line_step))]
+fn answer_line<H: Handler, S: Store>(alloc: Global, book: &mut Book<H, S>, line: &[u8]) -> Reply
+    requires { length line.now ≤ MAX_LINE_BYTES }
+    ensures { AnsweredLine line.now book.old result book.new }
+{
+    match read_step(alloc, line) {
+        Ok(step) => book.step(step),
+        Err(LineFault::Bad) => Reply::Refused {
+            refusal: Refusal::BadLine,
+        },
+        Err(LineFault::NoMemory) => Reply::Refused {
+            refusal: Refusal::Memory,
+        },
+    }
+}
+
+/// Where no reply is for want of memory, the history grew by one entry for each line that is a
+/// step, in order, by the caller, with that step and its reply; the other lines were told to be
+/// bad.
+pub fn memory_aside()
+    ensures { (lines : List (List ℕ)) (old new : Ledger) (replies : List ReplyOf)
+        → Serves lines old replies new → All IsRemembered replies
+        → EntersEach lines old replies new }
+{}
