@@ -40,7 +40,11 @@ fn is_run<R: AllocGlobal>(rt: &R, words: &[String]) -> Result<bool, Error> {
     let run = Command::new(alloc, "run")
         .about("Reads step lines from standard input and writes a reply line for each")
         .after_help(EXAMPLE);
+    // The words' first is the name of the file that runs, which need not be `recall`.
+    let words = words.get(1..).unwrap_or(&[]);
     let recall = Command::new(alloc, "recall")
+        .no_binary_name(true)
+        .bin_name("recall")?
         .about("A multi-tenant optimistic recovery runtime")
         .after_help(EXAMPLE)
         .subcommand_required(true)
