@@ -1,5 +1,6 @@
 //! What counts failures. Only this module can raise a count, and it does so only where a call of
-//! what is counted failed: that part is read here, and not proved.
+//! what is counted failed, or where 2^64 - 1 calls were made: that part is read here, and not
+//! proved.
 
 ghost use Rattle.std.specs.Prelude.{◌≡◌, ◌<◌, ◌≤◌, OnOk, OnErr, IfOk, length, take, vec_capacity};
 ghost use Rattle.std.specs.Io.KnownBytes.{Appends, Keeps};
@@ -15,7 +16,8 @@ use std::marker::Model;
 /// A reader or a writer, with a count of its calls that failed. The count stays at its greatest.
 ///
 /// A call that was interrupted is made again, and isn't counted. A write that takes nothing has
-/// failed. A reader has failed too once 2^64 - 1 calls of it were made.
+/// failed. A reader has failed too once 2^64 - 1 calls of it were made, and a writer where as many
+/// went to one reply.
 #[derive(Drop)]
 pub struct Counted<T> {
     pub inner: T,

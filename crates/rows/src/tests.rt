@@ -1,81 +1,10 @@
-use crate::cases::ROWS;
-use book::Book;
+use crate::served;
 use handler::Sample;
-use lines::{Counted, serve};
 use model::{NoMemory, Quota, Refusal, Reply, TenantName, TenantStep, Text, Texts, Unit};
 use stable_log::{MemoryStore, SharedLog};
 use std::alloc::Global;
 use std::test::Fail;
 use tenant::Tenant;
-
-/// The reply lines of a new book to these step lines.
-fn served(alloc: Global, steps: &[u8]) -> Result<Vec<u8>, Fail> {
-    let mut reader = Counted::new(steps);
-    let mut writer = Counted::new(Vec::new(alloc));
-    let mut book = Book::new(alloc, Sample, MemoryStore::new(alloc));
-    serve(alloc, &mut reader, &mut writer, &mut book)?;
-    Ok(writer.inner)
-}
-
-#[test]
-fn the_worked_rows_get_their_replies(rt: HostRuntime) -> Result<(), Fail> {
-    for row in &ROWS {
-        let replies = served(rt.alloc(), row.steps.as_bytes())?;
-        assert!(rt; replies.as_slice() == row.replies.as_bytes(), "{}", row.name);
-    }
-    Ok(())
-}
-
-/// What another tenant does between two lines.
-const NOISE: &str = r#"{"do":"open","tenant":"b","units":["relay","echo"]}
-{"do":"post","number":0,"tenant":"b","text":"n","unit":0}
-{"do":"deliver","letter":0,"tenant":"b"}
-{"do":"flush","tenant":"b","unit":1}
-{"do":"kill","tenant":"b","unit":0}
-{"do":"restart","tenant":"b","unit":0}
-{"do":"notice","tenant":"b","unit":1}
-"#;
-
-/// Each of these lines with the noise before it, and how many lines the noise has.
-fn with_noise(alloc: Global, steps: &str) -> Result<Vec<u8>, Fail> {
-    let mut all = Vec::new(alloc);
-    for line in steps.lines() {
-        all.extend_from_slice(NOISE.as_bytes())?;
-        all.extend_from_slice(line.as_bytes())?;
-        all.push(b'\n')?;
-    }
-    Ok(all)
-}
-
-/// Every so-many-th line, from the last of the first so many on.
-fn every(alloc: Global, period: usize, text: &[u8]) -> Result<Vec<u8>, Fail> {
-    let mut kept = Vec::new(alloc);
-    let mut line = 0;
-    for byte in text {
-        if line + 1 == period {
-            kept.push(*byte)?;
-        }
-        if *byte == b'\n' {
-            line = if line + 1 >= period { 0 } else { line + 1 };
-        }
-    }
-    Ok(kept)
-}
-
-#[test]
-fn a_busy_tenant_beside_changes_no_reply(rt: HostRuntime) -> Result<(), Fail> {
-    let alloc = rt.alloc();
-    for row in &ROWS {
-        if row.steps.len() > 1000 {
-            continue;
-        }
-        let replies = served(alloc, with_noise(alloc, row.steps)?.as_slice())?;
-        let own = every(alloc, NOISE.lines().count() + 1, replies.as_slice())?;
-        let is_same = own.as_slice() == row.replies.as_bytes();
-        assert!(rt; is_same || row.name == "limits", "{}", row.name);
-    }
-    Ok(())
-}
 
 fn name(alloc: Global, text: &str) -> Result<TenantName, Fail> {
     Ok(TenantName::new(String::from_str(alloc, text)?).ok_or("no name")?)
@@ -139,5 +68,34 @@ fn a_bad_opening_opens_nothing(rt: HostRuntime) -> Result<(), Fail> {
     );
     assert!(rt; is_bad);
     assert!(rt; opened.is_none());
+    Ok(())
+}
+
+const OPEN: &str = "{\"do\":\"open\",\"tenant\":\"a\",\"units\":[\"echo\"]}\n";
+
+const KILL: &str = "{\"do\":\"kill\",\"tenant\":\"a\",\"unit\":0}\n";
+
+const RESTART: &str = "{\"do\":\"restart\",\"tenant\":\"a\",\"unit\":0}\n";
+
+const STATUS: &str = "{\"do\":\"status\",\"tenant\":\"a\",\"unit\":0}\n";
+
+const LAST_REPLIES: &str = r#"{"ok":"restart","row":[65535,1]}
+{"lost":0,"ok":"kill"}
+{"no":"limit"}
+{"at":[0,0],"held":0,"known":65535,"ok":"status","outside":0,"released":0,"rows":65535,"stable":0,"up":false,"volatile":0}
+"#;
+
+#[test]
+fn a_unit_goes_back_65535_times(rt: HostRuntime) -> Result<(), Fail> {
+    let alloc = rt.alloc();
+    let mut steps = Vec::new(alloc);
+    steps.extend_from_slice(OPEN.as_bytes())?;
+    for _ in 0..65_536 {
+        steps.extend_from_slice(KILL.as_bytes())?;
+        steps.extend_from_slice(RESTART.as_bytes())?;
+    }
+    steps.extend_from_slice(STATUS.as_bytes())?;
+    let replies = served(alloc, steps.as_slice())?;
+    assert!(rt; replies.as_slice().ends_with(LAST_REPLIES.as_bytes()));
     Ok(())
 }

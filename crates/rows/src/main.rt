@@ -1,0 +1,53 @@
+//! The worked rows, as bytes in and bytes out through `lines::serve`.
+//!
+//! For each name on standard input, the step lines of `NAME.steps` go to a new book, and the reply
+//! lines must be those of `NAME.replies`, which were written down from the rules, not taken from
+//! the program. They must be the same where a busy tenant does its steps before each of the lines.
+#![tactic(auto)]
+
+mod beside;
+#[cfg(test)]
+mod tests;
+
+use beside::{every, with_noise};
+use book::Book;
+use handler::Sample;
+use lines::{Counted, serve};
+use stable_log::MemoryStore;
+use std::alloc::Global;
+use std::fs;
+
+fn main(rt: HostRuntime) -> anyhow::Result<()> {
+    for name in rt.lines(rt.alloc()) {
+        let name = name?;
+        let what = verdict(&rt, name.as_str())?;
+        println!(rt; "{name}: {what}")?;
+    }
+    Ok(())
+}
+
+/// How a row came out.
+fn verdict(rt: &HostRuntime, name: &str) -> anyhow::Result<&'static str> {
+    let alloc = rt.alloc();
+    let steps = fs::read_to_string(rt, format!(in alloc; "{name}.steps")?)?;
+    let replies = fs::read_to_string(rt, format!(in alloc; "{name}.replies")?)?;
+    let alone = served(alloc, steps.as_bytes())?;
+    if alone.as_slice() != replies.as_bytes() {
+        return Ok("the replies differ from those that they must be");
+    }
+    let beside = served(alloc, with_noise(alloc, steps.as_str())?.as_slice())?;
+    let own = every(alloc, beside.as_slice())?;
+    if own.as_slice() != replies.as_bytes() {
+        return Ok("the replies differ beside a busy tenant");
+    }
+    Ok("the replies are as they must be, alone and beside a busy tenant")
+}
+
+/// The reply lines of a new book to these step lines.
+fn served(alloc: Global, steps: &[u8]) -> anyhow::Result<Vec<u8>> {
+    let mut reader = Counted::new(steps);
+    let mut writer = Counted::new(Vec::new(alloc));
+    let mut book = Book::new(alloc, Sample, MemoryStore::new(alloc));
+    serve(alloc, &mut reader, &mut writer, &mut book)?;
+    Ok(writer.inner)
+}
