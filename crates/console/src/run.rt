@@ -37,6 +37,8 @@ pub(crate) fn run_on<L: Log, R: Read + Drop, W: Write + Drop, S: Store>(
     match serve(alloc, &mut reader, &mut writer, &mut book) {
         Ok(_) => 0,
         Err(fault) => {
+            // What was answered goes out, as far as it can.
+            let _ = writer.inner.flush();
             tell(rt, fault);
             1
         }

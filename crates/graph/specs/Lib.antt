@@ -1,3 +1,3 @@
 pub mod Causes
 pub mod Letters
-pub mod Wanted
+pub mod Marks

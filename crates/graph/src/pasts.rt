@@ -1,11 +1,11 @@
 //! Pasts of nodes, and what they tell.
 
-ghost use Rattle.std.specs.Prelude.{◌≡◌, ◌+◌, ◌<◌, ◌∷◌, [], ◌++◌, IfOk, OnOk, length, drop, take, List, ℕ, not, ◌&&◌, ◌==◌};
+ghost use Rattle.std.specs.Prelude.{◌≡◌, ◌+◌, ◌<◌, ◌∷◌, [], ◌++◌, IfOk, OnOk, length, drop, take, List, ℕ, not, ◌&&◌, ◌||◌, ◌==◌, false, slice_index_or};
 ghost use Rattle.std.specs.List.{list_any, list_all};
 ghost use Rattle.model.specs.Lists.{has as is_in};
 ghost use Rattle.model.specs.Nodes.{no_node, node_at as node_of, past as past_of, past_of_all, parents, place_before, sender_of};
 ghost use Rattle.graph.specs.Causes.{cause_of};
-ghost use Rattle.graph.specs.Wanted.{IsMarked};
+ghost use Rattle.graph.specs.Marks.{IsMarked, AreStableMarks};
 ghost use Rattle.model.specs.World.{is_lost_by as is_lost_by_row, is_lost as is_lost_of, is_told as is_told_of, is_stable as is_stable_of, is_blind as is_blind_of, is_orphan as is_orphan_of, stable_path as stable_path_of};
 
 use crate::member::Member;
@@ -16,13 +16,20 @@ use model::{NoMemory, Row};
 use std::alloc::Global;
 use std::collections::VecDeque;
 
-/// One more place is wanted.
-fn want(marks: &mut [bool], place: usize)
-    ensures { (wanted : List ℕ) → IsMarked marks.old wanted → IsMarked marks.new (place ∷ wanted) }
+/// Marks one more place.
+fn mark(marks: &mut [bool], place: usize)
+    ensures { (x : ℕ) → x < length marks.new → slice_index_or marks.new x false ≡ ((place == x) || slice_index_or marks.old x false) }
 {
     if place < marks.len() {
         marks[place] = true;
     }
+}
+
+/// One more place is wanted.
+fn want(marks: &mut [bool], place: usize)
+    ensures { (wanted : List ℕ) → IsMarked marks.old wanted → IsMarked marks.new (place ∷ wanted) }
+{
+    mark(marks, place);
 }
 
 fn want_before(marks: &mut [bool], before: Option<usize>)
@@ -106,17 +113,59 @@ pub fn past(alloc: Global, nodes: &VecDeque<Node>, x: usize) -> Result<Vec<usize
     Ok(found)
 }
 
-/// Whether the node stands on the path of its unit within the stable length.
-pub fn is_stable(members: &[Member], x: usize) -> bool
+/// Marks these places too.
+fn mark_all(marks: &mut [bool], places: &[usize])
+    ensures { (x : ℕ) → x < length marks.new → slice_index_or marks.new x false ≡ (is_in places.now x || slice_index_or marks.old x false) }
+{
+    for place in places {
+        mark(marks, *place);
+    }
+}
+
+/// Marks the stable places of these units, where nothing is marked yet.
+fn mark_stable(marks: &mut [bool], members: &[Member])
+    requires { IsMarked marks.old [] }
+    ensures { (x : ℕ) → x < length marks.new → slice_index_or marks.new x false ≡ is_stable_of members.now x }
+{
+    for member in members {
+        mark_all(marks, member.stable_path());
+    }
+}
+
+/// Marks for the nodes at the places below a count, set for those that are stable.
+pub fn stable_marks(alloc: Global, members: &[Member], count: usize) -> Result<Vec<bool>, NoMemory>
+    ensures { IfOk result (λ marks. AreStableMarks members.now marks.items) }
+{
+    let mut marks = vec![in alloc; false; count]?;
+    mark_stable(marks.as_mut_slice(), members);
+    Ok(marks)
+}
+
+fn is_on_a_stable_path(members: &[Member], x: usize) -> bool
     ensures { result ≡ is_stable_of members.now x }
 {
     members.iter().any(|m| has(m.stable_path(), x))
 }
 
-pub fn are_stable(members: &[Member], past: &[usize]) -> bool
-    ensures { result ≡ list_all (is_stable_of members.now) past.now }
+/// Whether the node stands on the path of its unit within the stable length. These marks tell at
+/// once; beyond them the paths are walked.
+pub fn is_stable(members: &[Member], marks: &[bool], x: usize) -> bool
+    requires { AreStableMarks members.now marks.now }
+    ensures { result ≡ is_stable_of members.now x }
 {
-    past.iter().all(|y| is_stable(members, *y))
+    if x < marks.len() {
+        marks[x]
+    } else {
+        is_on_a_stable_path(members, x)
+    }
+}
+
+/// Whether all of these are stable.
+pub fn are_stable(members: &[Member], marks: &[bool], places: &[usize]) -> bool
+    requires { AreStableMarks members.now marks.now }
+    ensures { result ≡ list_all (is_stable_of members.now) places.now }
+{
+    places.iter().all(|place| is_stable(members, marks, *place))
 }
 
 fn is_lost_by(row: &Row, node: &Node) -> bool

@@ -8,6 +8,8 @@ use std::test::Fail;
 
 const BAD: &str = "{\"no\":\"bad-line\"}\n";
 
+const NO_TENANT: &str = "{\"no\":\"no-tenant\"}\n";
+
 const STATUS: &str = r#"{"do":"status","tenant":"a","unit":0}"#;
 
 fn book(rt: &HostRuntime) -> Book<Sample, MemoryStore> {
@@ -71,15 +73,77 @@ fn bad_lines_are_told_so(rt: HostRuntime) -> Result<(), Fail> {
 }
 
 #[test]
-fn steps_are_not_told_to_be_bad(rt: HostRuntime) -> Result<(), Fail> {
-    for line in [
-        STATUS,
-        " {\"unit\" : 255 ,\t\"tenant\":\"abcdefghijklmnopqrstuvwxyz-01234\",\"do\":\"status\"}\r\n",
-        r#"{"do":"deliver","tenant":"a","letter":4294967295}"#,
-        r#"{"do":"open","tenant":"a","units":[],"quota":{"held":0,"letters":0,"volatile":0},"optimism":0}"#,
+fn steps_are_done_by_the_book(rt: HostRuntime) -> Result<(), Fail> {
+    for (line, reply) in [
+        (STATUS, NO_TENANT),
+        (
+            " {\"unit\" : 255 ,\t\"tenant\":\"abcdefghijklmnopqrstuvwxyz-01234\",\"do\":\"status\"}\r\n",
+            NO_TENANT,
+        ),
+        (
+            r#"{"do":"deliver","tenant":"a","letter":4294967295}"#,
+            NO_TENANT,
+        ),
+        (
+            r#"{"do":"open","tenant":"a","units":[],"quota":{"held":0,"letters":0,"volatile":0},"optimism":0}"#,
+            "{\"no\":\"bad-open\"}\n",
+        ),
     ] {
-        assert!(rt; is_step(&rt, line.as_bytes())?, "{line}");
+        assert!(rt; served(&rt, line.as_bytes())?.as_str() == reply, "{line}");
     }
+    Ok(())
+}
+
+#[test]
+fn a_run_is_entered_and_answered(rt: HostRuntime) -> Result<(), Fail> {
+    let steps = r#"{"do":"open","tenant":"a","units":["echo"]}
+{"do":"post","number":0,"tenant":"a","text":"x","unit":0}
+{
+{"do":"flush","tenant":"a","unit":0}
+{"do":"release","tenant":"a","unit":0}
+"#;
+    let replies = r#"{"ok":"open","units":1}
+{"at":[0,1],"held":1,"letters":[],"ok":"accepted"}
+{"no":"bad-line"}
+{"count":1,"ok":"flush"}
+{"ok":"released","outputs":["x"]}
+"#;
+    let mut reader = Counted::new(steps.as_bytes());
+    let mut writer = Counted::new(Vec::new(rt.alloc()));
+    let mut book = book(&rt);
+    assert_eq!(rt;
+        serve(rt.alloc(), &mut reader, &mut writer, &mut book),
+        Ok(5)
+    );
+    assert!(rt; writer.inner.as_slice() == replies.as_bytes());
+    assert_eq!(rt; book.history().len(), 4);
+    Ok(())
+}
+
+#[test]
+fn after_a_fault_the_book_holds_the_steps_so_far(rt: HostRuntime) -> Result<(), Fail> {
+    let line = "{\"do\":\"status\",\"tenant\":\"a\",\"unit\":0}\n";
+    let text = line.repeat(rt.alloc(), 4)?;
+    for n in 0..4 {
+        let mut reader = Counted::new(FuseReader::new(text.as_bytes(), n));
+        let mut writer = Counted::new(FuseWriter::new(&rt, 1000));
+        let mut book = book(&rt);
+        let result = serve(rt.alloc(), &mut reader, &mut writer, &mut book);
+        assert_eq!(rt; result, Err(ServeFault::Read));
+        assert!(rt; book.history().len() == n as usize, "line {n}");
+        let want = NO_TENANT.repeat(rt.alloc(), n as usize)?;
+        assert!(rt;
+            writer.inner.taken.as_slice() == want.as_bytes(),
+            "line {n}"
+        );
+    }
+    // The second reply has 20 bytes, and is cut: its step was done.
+    let mut reader = Counted::new(text.as_bytes());
+    let mut writer = Counted::new(FuseWriter::new(&rt, 30));
+    let mut book = book(&rt);
+    let result = serve(rt.alloc(), &mut reader, &mut writer, &mut book);
+    assert_eq!(rt; result, Err(ServeFault::Write));
+    assert!(rt; book.history().len() >= 2);
     Ok(())
 }
 

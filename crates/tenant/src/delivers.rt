@@ -32,13 +32,20 @@ fn known_rows(table: &[Row], known: usize) -> &[Row]
     }
 }
 
-/// The places that are not stable.
-fn unstable(alloc: Global, members: &[Member], past: &[usize]) -> Result<Vec<usize>, NoMemory>
+/// The places that are not stable, where there are so many nodes.
+fn unstable(
+    alloc: Global,
+    members: &[Member],
+    past: &[usize],
+    count: usize,
+) -> Result<Vec<usize>, NoMemory>
     ensures { IfOk result (λ ys. ys.items ≡ filter (λ y. not (is_stable_of members.now y)) past.now) }
 {
+    let stable = pasts::stable_marks(alloc, members, count)?;
+    let marks = stable.as_slice();
     let places = past
         .iter()
-        .filter(|y| !pasts::is_stable(members, **y))
+        .filter(|y| !pasts::is_stable(members, marks, **y))
         .copied()
         .collect(alloc)?;
     Ok(places)
@@ -97,7 +104,12 @@ impl<H: Handler> Tenant<H> {
         ensures { IfOk result (λ n. n ≡ length (unstable_units_of self.now x)) }
     {
         let past = pasts::past(alloc, &self.nodes, x)?;
-        let places = unstable(alloc, self.members.as_slice(), past.as_slice())?;
+        let places = unstable(
+            alloc,
+            self.members.as_slice(),
+            past.as_slice(),
+            self.nodes.len(),
+        )?;
         Ok(count_units(self.members.as_slice(), &self.nodes, places.as_slice()))
     }
 

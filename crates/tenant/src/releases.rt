@@ -38,7 +38,9 @@ impl<H: Handler> Tenant<H> {
         ensures { IfOk result (λ b. b ≡ is_firm_of self.now x) }
     {
         let past = pasts::past(alloc, &self.nodes, x)?;
-        Ok(pasts::are_stable(self.members.as_slice(), past.as_slice()))
+        let members = self.members.as_slice();
+        let stable = pasts::stable_marks(alloc, members, self.nodes.len())?;
+        Ok(pasts::are_stable(members, stable.as_slice(), past.as_slice()))
     }
 
     /// Takes the output if it is firm.

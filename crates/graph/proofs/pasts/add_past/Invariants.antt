@@ -1,6 +1,6 @@
 use Rattle.std.proofs.Common.{◌≡◌, ℕ, List, ◌++◌, drop}
 use Rattle.model.specs.Nodes.{past, past_of_all}
-use Rattle.graph.specs.Wanted.{IsMarked}
+use Rattle.graph.specs.Marks.{IsMarked}
 use Rattle.graph.proofs.pasts.add_past.Given as goal
 
 abbrev pub invariant-loop-i : goal.invariant-loop-i

@@ -1,7 +1,7 @@
 use Rattle.std.proofs.Common.{◌≡◌, ◌+◌, ◌-◌, length, ◌++◌, ◌∷◌, [], List, ℕ, drop, ap, sym, ◌∙◌, append_assoc, subst, true, false}
 use Rattle.model.specs.Lists.{has}
 use Rattle.model.specs.Nodes.{parents, past_of_all}
-use Rattle.graph.specs.Wanted.{IsMarked}
+use Rattle.graph.specs.Marks.{IsMarked}
 use Rattle.graph.proofs.Places.{past_skip, past_take}
 use Rattle.graph.proofs.pasts.past_step.Goals as goal
 
