@@ -1,3 +1,4 @@
 pub mod Answers
 pub mod Replays
 pub mod Runs
+pub mod Certified

@@ -55,8 +55,7 @@ opened history = flat_map (λ e. opened_by (addressed e.step).0 (addressed e.ste
 
 -- ---- the log
 
--- What the store said during a step of the tenant is honest, where it took these records then.
--- A tenant that is not open does not ask the store.
+-- what the store said during a step of the tenant is honest, where it took these records then: a tenant that is not open asks nothing of it
 abbrev pub IsHonestAt : {S : Type 0} → Meaning S → List ℕ → Option World → TenantStep → Said → List Record → Type 0
 IsHonestAt M tenant None step said grown = IsQuiet said grown
 IsHonestAt M tenant (Some w) step said grown = IsHonest M tenant w step said grown
@@ -66,8 +65,7 @@ abbrev pub IsHonestAfter : {S : Type 0} → Meaning S → List Entry → Entry �
 IsHonestAfter M before e grown =
     IsHonestAt M (addressed e.step).0 (world_of M (addressed e.step).0 before) (addressed e.step).1 e.said grown
 
--- The store took these records during these entries, those of each entry in turn,
--- and what it said during each is honest. The entries `before` came before them.
+-- where other entries came before, the store took these records during these entries, those of each in turn, and what it said during each is honest
 abbrev pub RecordedAfter : {S : Type 0} → Meaning S → List Entry → List Entry → List Record → Type 0
 RecordedAfter M before [] records = records ≡ []
 RecordedAfter M before (e ∷ entries) records =
@@ -80,7 +78,7 @@ IsRecorded M history records = RecordedAfter M [] history records
 
 -- ---- one step
 
--- The tenants and the log of a book: what is kept under each name, the names in their order, and the log.
+-- the tenants and the log of a book: what is kept under each name, the names in the order of opening, and the log
 pub record Holding (K : Type 0) : Type 0 where
   pub at : List ℕ → Option K
   pub names : List (List ℕ)
@@ -97,8 +95,7 @@ StepsAt M tenant w k step said answer records =
     × (step_alone M w (record { step = step; said = said }) ≡ record { reply = answer; world = z })
     × StandsAt M tenant k z records
 
--- The log grew by what the store took during a step of the tenant, and what it said is honest.
--- The device is said to have failed only where it did.
+-- the log grew by what the store took during a step of the tenant, honestly, and the device is said to have failed only where it did
 pub record LogsAt {S : Type 0} (M : Meaning S) (tenant : List ℕ) (w : Option World) (step : TenantStep) (said : Said) (before after : Logged) : Type 0 where
   pub honest : (grown : List Record) × (after.records ≡ before.records ++ grown) × IsHonestAt M tenant w step said grown
   pub device : said.end ≡ Device → HasRisen before.failures after.failures
@@ -115,8 +112,7 @@ KeepsOthers {S = S} M tenant before after =
     (k : Option (Kept S)) (w : Option World) (other : List ℕ)
     → bytes_eq other tenant ≡ false → StandsAt M other k w before → StandsAt M other k w after
 
--- The step was done: whichever world its tenant stood for, this is the reply and what is left.
--- Every other tenant is kept as it was, and stands for what it stood for.
+-- the step was done: whichever world its tenant stood for, this is the reply and what is left, and every other tenant is as it was and stands for what it did
 pub record IsAnswered {S : Type 0} (M : Meaning S) (step : Step) (said : Said) (answer : Reply) (before after : Holding (Kept S)) : Type 0 where
   pub did : (w : Option World)
       → StandsAt M (addressed step).0 (before.at (addressed step).0) w before.log.records

@@ -4,20 +4,21 @@ ghost use Rattle.std.specs.Prelude.{◌≡◌, [], IfOk, OnErr, MatchOption, Non
 ghost use Rattle.model.specs.Alone.{alone};
 ghost use Rattle.model.specs.History.{IsLegal, own, pairs, replies_to};
 ghost use Rattle.model.specs.declared.replies.Who.TheVariants.{Caller};
+ghost use Rattle.book.specs.Certificates.{CertifiesAt, IsHeadline, certificate_at, seats_at};
 ghost use Rattle.book.specs.Entries.{IsEntered};
 ghost use Rattle.book.specs.History.{IsIsolated, IsRecorded, Ran, opened, released_at, table_at, world_of};
 
 use crate::answer::{Tenants, answer, memory_reply};
 use handler::Handler;
 use indexmap::IndexMap;
-use model::{Entry, NoMemory, Reply, Row, Step, TenantName, Text, Unit, Who};
+use model::{Entry, Move, NoMemory, Reply, Row, Seat, Step, TenantName, Text, Unit, Who};
 use stable_log::{SharedLog, Store};
 use std::alloc::Global;
 use std::marker::Model;
 use tenant::Answer;
 
-/// All tenants, the log of all of them, and the history. Contracts see a book as its history and
-/// its log.
+/// All tenants, the log of all of them, and the history of their steps. Contracts see a book as its
+/// history and its log. It is always the replay of its history.
 #[derive(Drop)]
 pub struct Book<H: Handler, S: Store> {
     alloc: Global,
@@ -40,6 +41,7 @@ impl<H: Handler, S: Store> Model for Book<H, S> {
 
 impl<H: Handler, S: Store> Book<H, S> {
     /// A book with no tenants and an empty history, over a store that acknowledged nothing yet.
+    /// It takes no memory.
     pub fn new(alloc: Global, handler: H, store: S) -> Book<H, S>
         requires { S.log store ≡ [] }
         ensures history { result.history ≡ [] }
@@ -55,7 +57,8 @@ impl<H: Handler, S: Store> Book<H, S> {
         }
     }
 
-    /// The entries, in order.
+    /// The entries, in order. To each tenant the replies are those that it gets alone, and the
+    /// records of the log are those that the entries acknowledged, honestly.
     pub fn history(&self) -> &[Entry]
         ensures entries { result.now ≡ self.now.history }
         ensures legal { IsLegal H.meaning self.now.history }
@@ -65,6 +68,10 @@ impl<H: Handler, S: Store> Book<H, S> {
     }
 
     /// Does a step that this one gave, and enters it with its reply.
+    ///
+    /// Where there is no memory for the step it is answered `memory` (a flush: stopped after no
+    /// record), it is not entered, and history, tenants and records are as they were. A flush that
+    /// is stopped later has had its effect, and is entered.
     pub fn step_as(&mut self, who: Who, step: Step) -> Reply
         ensures { IsEntered self.old who step result self.new }
     {
@@ -93,14 +100,14 @@ impl<H: Handler, S: Store> Book<H, S> {
         }
     }
 
-    /// Does a step of a caller, and enters it with its reply.
+    /// Does a step of a caller, and enters it with its reply, as `step_as` does.
     pub fn step(&mut self, step: Step) -> Reply
         ensures { IsEntered self.old Caller step result self.new }
     {
         self.step_as(Who::Caller, step)
     }
 
-    /// Does an equal step of a caller.
+    /// Does an equal step of a caller. Where it cannot be copied there is no memory for it.
     fn step_copy(&mut self, step: &Step) -> Reply
         ensures { IsEntered self.old Caller step.now result self.new }
     {
@@ -110,7 +117,11 @@ impl<H: Handler, S: Store> Book<H, S> {
         }
     }
 
-    /// Does steps of a caller in order, and gives their replies.
+    /// Does steps of a caller in order, and gives their replies, one for each step.
+    ///
+    /// `NoMemory` comes where there is none for the list of replies, before the first step: nothing
+    /// has changed then. A step for which there is no memory is answered so in its place, and the
+    /// steps after it are still done.
     pub fn run(&mut self, steps: &[Step]) -> Result<Vec<Reply>, NoMemory>
         ensures ran { IfOk result (λ replies. Ran self.old steps.now replies.items self.new) }
         ensures err { OnErr result (self.new ≡ self.old) }
@@ -125,14 +136,16 @@ impl<H: Handler, S: Store> Book<H, S> {
         Ok(replies)
     }
 
-    /// The names of the tenants, in the order of opening.
+    /// The names of the open tenants, in the order of opening. `NoMemory` comes where there is none
+    /// for the copies.
     pub fn tenants(&self, alloc: Global) -> Result<Vec<TenantName>, NoMemory>
         ensures { IfOk result (λ names. names.items ≡ opened self.now.history) }
     {
         names_of(alloc, self.tenants.keys().as_slice())
     }
 
-    /// The replies to a tenant so far, in order. They are those to the tenant alone.
+    /// The replies to a tenant so far, in order: none where no step named it. They are those that
+    /// the tenant gets alone. `NoMemory` comes where there is none for the copies.
     pub fn replies_of(&self, alloc: Global, tenant: &TenantName) -> Result<Vec<Reply>, NoMemory>
         ensures replies { IfOk result (λ replies. replies.items ≡ replies_to tenant.now self.now.history) }
         ensures alone { IfOk result (λ replies. replies.items ≡ (alone H.meaning (own tenant.now (pairs self.now.history))).replies) }
@@ -140,7 +153,8 @@ impl<H: Handler, S: Store> Book<H, S> {
         replies_in(alloc, self.history(), tenant)
     }
 
-    /// The outputs that a unit of the tenant has released so far, if the tenant is open and has the unit.
+    /// The outputs that a unit of the tenant has released so far, if the tenant is open and has the
+    /// unit. They follow from the tenant's own entries.
     pub fn released(&self, tenant: &TenantName, unit: Unit) -> Option<&[Text]>
         ensures { MatchOption result (released_at (world_of H.meaning tenant.now self.now.history) unit ≡ None) (λ texts. released_at (world_of H.meaning tenant.now self.now.history) unit ≡ Some texts.now) }
     {
@@ -150,7 +164,8 @@ impl<H: Handler, S: Store> Book<H, S> {
         }
     }
 
-    /// The rows of the tenant's table, in order, if the tenant is open.
+    /// The rows of the tenant's table, which say where its units went back to, in order, if the
+    /// tenant is open. They follow from the tenant's own entries.
     pub fn rollbacks(&self, tenant: &TenantName) -> Option<&[Row]>
         ensures { MatchOption result (table_at (world_of H.meaning tenant.now self.now.history) ≡ None) (λ rows. table_at (world_of H.meaning tenant.now self.now.history) ≡ Some rows.now) }
     {
@@ -158,6 +173,38 @@ impl<H: Handler, S: Store> Book<H, S> {
             Some(open) => Some(open.rollbacks()),
             None => None,
         }
+    }
+}
+
+impl<H: Handler, S: Store> Book<H, S> {
+    /// The seats that the tenant was opened with, unit 0 first; none for a tenant that is not open.
+    pub fn seats(&self, alloc: Global, tenant: &TenantName) -> Result<Vec<Seat>, NoMemory>
+        ensures { IfOk result (λ seats. seats.items ≡ seats_at (world_of H.meaning tenant.now self.now.history)) }
+    {
+        match self.tenants.get(tenant) {
+            Some(open) => open.opening_seats(alloc),
+            None => Ok(Vec::new(alloc)),
+        }
+    }
+
+    /// The moves of the certificate of the tenant's world.
+    fn certificate_moves(&self, alloc: Global, tenant: &TenantName) -> Result<Vec<Move>, NoMemory>
+        ensures { IfOk result (λ moves. moves.items ≡ certificate_at (world_of H.meaning tenant.now self.now.history)) }
+    {
+        match self.tenants.get(tenant) {
+            Some(open) => open.certificate(alloc),
+            None => Ok(Vec::new(alloc)),
+        }
+    }
+
+    /// The certificate of the tenant: the receipts of all its firm intervals and the joins, in order
+    /// of creation. They are a run without failures of the seats that it was opened with, over a
+    /// beginning of each unit's logged receipts, and each unit's outputs in that run begin with what
+    /// the unit released. There are no moves for a tenant that is not open.
+    pub fn certificate(&self, alloc: Global, tenant: &TenantName) -> Result<Vec<Move>, NoMemory>
+        ensures { IfOk result (λ moves. CertifiesAt H.meaning (world_of H.meaning tenant.now self.now.history) moves.items) }
+    {
+        self.certificate_moves(alloc, tenant)
     }
 }
 
@@ -185,8 +232,20 @@ fn replies_in(alloc: Global, history: &[Entry], tenant: &TenantName) -> Result<V
     Ok(replies)
 }
 
+/// Tenants are isolated: in any two legal histories in which a tenant has the same steps, with the
+/// same answers of the store, the replies to it are the same, and so is its world. Hence so are its
+/// rows and its released outputs, which by the contracts of `Book::rollbacks` and `Book::released`
+/// are read off that world. A book's history is legal by the contract of `Book::history`.
 #[tactic(auto, using(crate::proofs::Replays::isolated))]
-/// What a tenant is answered, and its world, follow from its own pairs alone.
 pub fn isolated<H: Handler>()
     ensures { IsIsolated H.meaning }
+{}
+
+/// The headline. For any two legal histories (so, of any two books) that agree on a tenant's own
+/// steps and on what the store said to them: the replies to the tenant, its rollbacks and its
+/// released outputs are equal, whatever other tenants do; and some run without failures of its
+/// units over a beginning of their logged receipts gives, unit by unit, outputs that begin with
+/// exactly those released.
+pub fn headline<H: Handler>()
+    ensures { IsHeadline H.meaning }
 {}

@@ -15,6 +15,8 @@
 //!   tenant.
 //! - `isolated` is the law that tenants are isolated: the replies to a tenant and its world follow
 //!   from its own entries alone, whatever the other tenants do.
+//! - `Book::certificate` and `Book::seats` show what was released: a run without failures, for an
+//!   auditor. `headline` says what follows of isolation and certificate together.
 //!
 //! The words of the contracts are in `specs/`: `Entries` says how a step is entered, and `History`
 //! what a history makes of tenants and log. The work of one step is `answer::answer`, and the lemma
@@ -24,7 +26,7 @@
 mod answer;
 mod book;
 
-pub use book::{Book, isolated};
+pub use book::{Book, headline, isolated};
 
 #[cfg(test)]
 mod tests;

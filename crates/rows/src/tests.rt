@@ -1,6 +1,10 @@
 use crate::served;
+use book::Book;
 use handler::Sample;
-use model::{NoMemory, Quota, Refusal, Reply, TenantName, TenantStep, Text, Texts, Unit};
+use lines::{Counted, serve};
+use model::{
+    Kind, Move, NoMemory, Quota, Refusal, Reply, TenantName, TenantStep, Text, Texts, Unit,
+};
 use stable_log::{MemoryStore, SharedLog};
 use std::alloc::Global;
 use std::test::Fail;
@@ -97,5 +101,65 @@ fn a_unit_goes_back_65535_times(rt: HostRuntime) -> Result<(), Fail> {
     steps.extend_from_slice(STATUS.as_bytes())?;
     let replies = served(alloc, steps.as_slice())?;
     assert!(rt; replies.as_slice().ends_with(LAST_REPLIES.as_bytes()));
+    Ok(())
+}
+
+const AFTER_A_KILL: &str = r#"{"do":"open","tenant":"a","units":["relay","echo"]}
+{"do":"post","number":0,"tenant":"a","text":"x","unit":0}
+{"do":"deliver","letter":0,"tenant":"a"}
+{"do":"flush","tenant":"a","unit":1}
+{"do":"kill","tenant":"a","unit":0}
+{"do":"restart","tenant":"a","unit":0}
+{"do":"post","number":0,"tenant":"a","text":"y","unit":0}
+{"do":"notice","tenant":"a","unit":1}
+{"do":"deliver","letter":1,"tenant":"a"}
+{"do":"flush","tenant":"a","unit":0}
+{"do":"flush","tenant":"a","unit":1}
+{"do":"release","tenant":"a","unit":1}
+"#;
+
+const WITH_A_JOIN: &str = r#"{"do":"open","tenant":"a","units":["tee"]}
+{"do":"post","number":0,"tenant":"a","text":"x","unit":0}
+{"do":"join","kind":"echo","tenant":"a"}
+{"do":"post","number":1,"tenant":"a","text":"y","unit":0}
+{"do":"deliver","letter":0,"tenant":"a"}
+{"do":"flush","tenant":"a","unit":0}
+{"do":"flush","tenant":"a","unit":1}
+"#;
+
+/// Whether this is the move that takes the text from outside.
+fn takes(moved: &Move, at: Unit, what: &str) -> bool {
+    match moved {
+        Move::Outside { unit, text } => *unit == at && text.as_str() == what,
+        _ => false,
+    }
+}
+
+#[test]
+fn certificates_hold_what_is_firm(rt: HostRuntime) -> Result<(), Fail> {
+    let alloc = rt.alloc();
+    let name = name(alloc, "a")?;
+    for (steps, count) in [(AFTER_A_KILL, 2), (WITH_A_JOIN, 1)] {
+        let mut reader = Counted::new(steps.as_bytes());
+        let mut writer = Counted::new(Vec::new(alloc));
+        let mut book = Book::new(alloc, Sample, MemoryStore::new(alloc));
+        assert!(rt; book.certificate(alloc, &name)?.is_empty());
+        assert!(rt; book.seats(alloc, &name)?.is_empty());
+        serve(alloc, &mut reader, &mut writer, &mut book)?;
+        assert_eq!(rt; book.seats(alloc, &name)?.len(), count);
+        let moves = book.certificate(alloc, &name)?;
+        let letter = moves.last().ok_or("no moves")?;
+        let is_taken = matches!(letter, Move::Letter { to, from } if *to == Unit::new(1) && *from == Unit::new(0));
+        assert!(rt; is_taken);
+        if count == 2 {
+            assert_eq!(rt; moves.len(), 2);
+            assert!(rt; takes(&moves[0], Unit::new(0), "y"));
+        } else {
+            assert_eq!(rt; moves.len(), 4);
+            assert!(rt; takes(&moves[0], Unit::new(0), "x"));
+            assert!(rt; matches!(&moves[1], Move::Join { kind } if *kind == Kind::new(0)));
+            assert!(rt; takes(&moves[2], Unit::new(0), "y"));
+        }
+    }
     Ok(())
 }

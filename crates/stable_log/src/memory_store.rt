@@ -28,9 +28,9 @@ impl Store for MemoryStore {
 
     ghost failures = { λ _. 0 };
 
-    fn append(&mut self, record: &Record) -> Result<(), StoreFault> {
+    fn append(&mut self, logged: &Record) -> Result<(), StoreFault> {
         let alloc = *self.records.allocator();
-        let copied = match record.copy(alloc) {
+        let copied = match logged.copy(alloc) {
             Ok(copied) => copied,
             Err(_) => return Err(StoreFault::NoMemory),
         };

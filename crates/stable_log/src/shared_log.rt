@@ -32,12 +32,12 @@ impl<S: Store> SharedLog<S> {
 
     /// Logs a record. `Device` comes only where the device failed in this call; after an error the
     /// records are as they were.
-    pub fn append(&mut self, record: &Record) -> Result<(), StoreFault>
-        ensures ok { OnOk result (self.new.records ≡ self.old.records ++ record.now ∷ []) }
+    pub fn append(&mut self, logged: &Record) -> Result<(), StoreFault>
+        ensures ok { OnOk result (self.new.records ≡ self.old.records ++ logged.now ∷ []) }
         ensures err { OnErr result (self.new.records ≡ self.old.records) }
         ensures device { result ≡ Err StoreFault.Device → HasRisen self.old.failures self.new.failures }
         ensures up { self.old.failures ≤ self.new.failures }
     {
-        self.store.append(record)
+        self.store.append(logged)
     }
 }

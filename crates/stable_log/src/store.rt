@@ -37,8 +37,8 @@ pub trait Store: Drop {
     ghost failures: { Self → ℕ };
 
     /// Keeps a record, or leaves all as it was.
-    fn append(&mut self, record: &model::Record) -> Result<(), StoreFault>
-        ensures ok { OnOk result (log self.new ≡ log self.old ++ record.now ∷ []) }
+    fn append(&mut self, logged: &model::Record) -> Result<(), StoreFault>
+        ensures ok { OnOk result (log self.new ≡ log self.old ++ logged.now ∷ []) }
         ensures err { OnErr result (log self.new ≡ log self.old) }
         ensures device { result ≡ Err StoreFault.Device → HasRisen (failures self.old) (failures self.new) }
         ensures up { failures self.old ≤ failures self.new };

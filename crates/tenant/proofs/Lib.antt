@@ -3,3 +3,4 @@ pub mod Accepted
 pub mod Receipts
 pub mod GoingBack
 pub mod Letters
+pub mod Certificates

@@ -15,10 +15,12 @@
 mod accepts;
 mod answer;
 mod backs;
+mod certificate;
 mod delivers;
 mod flushes;
 mod joins;
 mod kills;
+pub mod laws;
 mod opens;
 mod posts;
 mod receipt_tests;

@@ -34,7 +34,7 @@ fn add_released(members: &mut Vec<Member>, i: usize, texts: Vec<Text>) -> Result
 }
 
 impl<H: Handler> Tenant<H> {
-    fn is_firm(&self, alloc: Global, x: usize) -> Result<bool, NoMemory>
+    pub(crate) fn is_firm(&self, alloc: Global, x: usize) -> Result<bool, NoMemory>
         ensures { IfOk result (λ b. b ≡ is_firm_of self.now x) }
     {
         let past = pasts::past(alloc, &self.nodes, x)?;
