@@ -149,7 +149,8 @@ fn certificates_hold_what_is_firm(rt: HostRuntime) -> Result<(), Fail> {
         assert_eq!(rt; book.seats(alloc, &name)?.len(), count);
         let moves = book.certificate(alloc, &name)?;
         let letter = moves.last().ok_or("no moves")?;
-        let is_taken = matches!(letter, Move::Letter { to, from } if *to == Unit::new(1) && *from == Unit::new(0));
+        let is_taken =
+            matches!(letter, Move::Letter { to, from } if *to == Unit::new(1) && *from == Unit::new(0));
         assert!(rt; is_taken);
         if count == 2 {
             assert_eq!(rt; moves.len(), 2);

@@ -1,0 +1,5 @@
+pub mod Queues
+pub mod Orders
+pub mod Making
+pub mod Beginning
+pub mod Floats

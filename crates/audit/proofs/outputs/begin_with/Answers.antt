@@ -1,0 +1,5 @@
+use Rattle.audit.proofs.Beginning.{begins_is}
+use Rattle.audit.proofs.outputs.begin_with.Goals as goal
+
+pub returns : goal.returns
+returns c = begins_is c.args.outputs.now c.args.list.now c.starts_with.result c.starts_with.ensures.value

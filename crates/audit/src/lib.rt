@@ -1,0 +1,30 @@
+//! Whether what was released is what a run without failures puts out.
+//!
+//! A tenant that recovers from failures must have released no more than its units put out in some
+//! run in which nothing fails. Its certificate is the list of moves of such a run. `check` makes
+//! these moves over plain queues, where there is no kill, no log, no dependency and no incarnation,
+//! and compares what each unit put out with what was released of it. It stands on `model` and
+//! `handler` alone, so that whoever reads it need trust nothing else of the runtime.
+//!
+//! - `network`: units at work and the packets between them, as the definitions' records.
+//! - `moves`: one move, and all of them in order.
+//! - `outputs`: the first unit whose outputs do not begin with its list.
+//! - `verdict`: `check`, which puts these together; `checkable`: whether it may be asked.
+//! - `line`: the line of JSON that tells the outcome.
+//!
+//! The definitions are those of `model`'s `FailureFree`; `specs/Audits` says what a verdict means.
+#![tactic(auto)]
+
+mod checkable;
+mod line;
+mod moves;
+mod network;
+mod outputs;
+mod verdict;
+
+pub use checkable::can_check;
+pub use line::audit_line;
+pub use verdict::{Verdict, check};
+
+#[cfg(test)]
+mod tests;
