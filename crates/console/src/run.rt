@@ -2,6 +2,7 @@
 
 ghost use Rattle.std.specs.Prelude.{◌≡◌, []};
 
+use crate::audits::audit_all;
 use book::Book;
 use handler::Sample;
 use lines::{Counted, ServeFault, serve};
@@ -14,13 +15,15 @@ use std::io::{BufReader, BufWriter, Read, Write};
 const BLOCK: usize = 65536;
 
 /// Answers each line of the input, over a store that acknowledged nothing yet, and tells the status
-/// to end with: 0 where all lines are answered, 1 after a fault of input, output or memory.
+/// to end with: 0 where all lines are answered, 1 after a fault of input, output or memory. With
+/// `audit`, audits each open tenant after the last line; 1 too where an audit doesn't say yes.
 pub(crate) fn run_on<L: Log, R: Read + Drop, W: Write + Drop, S: Store>(
     rt: &L,
     alloc: Global,
     input: R,
     output: W,
     store: S,
+    audit: bool,
 ) -> u8
     requires { S.log store ≡ [] }
 {
@@ -35,6 +38,7 @@ pub(crate) fn run_on<L: Log, R: Read + Drop, W: Write + Drop, S: Store>(
     let mut writer = Counted::new(writer);
     let mut book = Book::new(alloc, Sample, store);
     match serve(alloc, &mut reader, &mut writer, &mut book) {
+        Ok(_) if audit => audit_all(rt, alloc, &mut writer.inner, &book),
         Ok(_) => 0,
         Err(fault) => {
             // What was answered goes out, as far as it can.
