@@ -210,3 +210,17 @@ fn outcomes_are_told(rt: HostRuntime) -> Result<(), Fail> {
     }
     Ok(())
 }
+
+#[test]
+fn a_check_needs_a_list_for_each_unit(rt: HostRuntime) -> Result<(), Fail> {
+    let alloc = rt.alloc();
+    let seats = [seat(0, 4, 1), seat(1, 0, 1)];
+    let released = empty_lists(alloc, 3)?;
+    let lists = released.as_slice();
+    assert!(rt; can_check(&seats, &[join(0)], lists));
+    assert!(rt; !can_check(&seats, &[], lists));
+    assert!(rt; !can_check(&seats, &[join(0), join(0)], lists));
+    assert!(rt; !can_check(&seats, &[join(0)], &[]));
+    assert!(rt; !can_check(&[seats[1], seats[0]], &[join(0)], lists));
+    Ok(())
+}

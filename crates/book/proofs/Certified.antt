@@ -1,5 +1,5 @@
 -- The certificate of a tenant's world holds, whatever its entries are.
-use Rattle.std.proofs.Common.{◌≡◌, refl, ap, sym, subst, ◌∙◌, List, ℕ}
+use Rattle.std.proofs.Common.{◌≡◌, refl, ap, sym, subst, List, ℕ}
 use Rattle.std.specs.Prelude.{Option, Some, None}
 use Rattle.model.specs.Alone.{Event, alone}
 use Rattle.model.specs.Handler.{Meaning}

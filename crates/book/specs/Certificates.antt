@@ -1,6 +1,5 @@
 -- What a book can show of what it released.
 use Rattle.std.specs.Prelude.{◌≡◌, ℕ, List, [], Option, Some, None}
-use Rattle.model.specs.Alone.{alone}
 use Rattle.model.specs.FailureFree.{CertificateHolds, certificate, opening_seats}
 use Rattle.model.specs.Handler.{Meaning}
 use Rattle.model.specs.History.{IsLegal, own, pairs, replies_to}

@@ -48,7 +48,9 @@ fn read_run<R: AllocGlobal>(rt: &R, words: &[String]) -> Result<Option<bool>, Er
             Arg::new(alloc, AUDIT)
                 .long(AUDIT)
                 .action(ArgAction::SetTrue)
-                .help("After the last reply, writes a line for each open tenant that tells whether a run without failures puts out what was released"),
+                .help(
+                    "After the last reply, writes a line for each open tenant that tells whether a run without failures puts out what was released",
+                ),
         )?;
     // The words' first is the name of the file that runs, which need not be `recall`.
     let words = words.get(1..).unwrap_or(&[]);
