@@ -1,9 +1,11 @@
 use crate::served;
+use audit::{Verdict, can_check, check};
 use book::Book;
 use handler::Sample;
 use lines::{Counted, serve};
 use model::{
-    Kind, Move, NoMemory, Quota, Refusal, Reply, TenantName, TenantStep, Text, Texts, Unit,
+    Flaw, Kind, Move, NoMemory, Quota, Refusal, Reply, Seat, TenantName, TenantStep, Text, Texts,
+    Unit,
 };
 use stable_log::{MemoryStore, SharedLog};
 use std::alloc::Global;
@@ -162,5 +164,53 @@ fn certificates_hold_what_is_firm(rt: HostRuntime) -> Result<(), Fail> {
             assert!(rt; takes(&moves[2], Unit::new(0), "y"));
         }
     }
+    Ok(())
+}
+
+/// The audit, where there is a list for each unit.
+fn audited(
+    alloc: Global,
+    seats: &[Seat],
+    moves: &[Move],
+    released: &[Texts],
+) -> Result<Result<Verdict, Flaw>, Fail> {
+    if !can_check(seats, moves, released) {
+        return Err(Fail::from("no list for each unit"));
+    }
+    Ok(check(alloc, &Sample, seats, moves, released))
+}
+
+/// No output of unit 0, and one of unit 1.
+fn one_output(alloc: Global, text: &str) -> Result<Vec<Texts>, NoMemory> {
+    let mut outputs = Vec::new(alloc);
+    outputs.push(Text::of(alloc, text)?)?;
+    let mut lists = Vec::new(alloc);
+    lists.push(Texts::new(Vec::new(alloc)))?;
+    lists.push(Texts::new(outputs))?;
+    Ok(lists)
+}
+
+#[test]
+fn tampering_is_found(rt: HostRuntime) -> Result<(), Fail> {
+    let alloc = rt.alloc();
+    let name = name(alloc, "a")?;
+    let mut reader = Counted::new(AFTER_A_KILL.as_bytes());
+    let mut writer = Counted::new(Vec::new(alloc));
+    let mut book = Book::new(alloc, Sample, MemoryStore::new(alloc));
+    serve(alloc, &mut reader, &mut writer, &mut book)?;
+    let seats = book.seats(alloc, &name)?;
+    let moves = book.certificate(alloc, &name)?;
+    let (seats, moves) = (seats.as_slice(), moves.as_slice());
+    let lists = one_output(alloc, "y")?;
+    let released = lists.as_slice();
+    assert_eq!(rt; audited(alloc, seats, moves, released)?, Ok(Verdict { moves: 2 }));
+    let lost = one_output(alloc, "x")?;
+    let told = audited(alloc, seats, moves, lost.as_slice())?;
+    assert_eq!(rt; told, Err(Flaw::OutputsDiffer(Unit::new(1))));
+    let told = audited(alloc, seats, &moves[..1], released)?;
+    assert_eq!(rt; told, Err(Flaw::OutputsDiffer(Unit::new(1))));
+    let told = audited(alloc, seats, &moves[1..], released)?;
+    assert_eq!(rt; told, Err(Flaw::NothingToReceive(Unit::new(1))));
+    assert!(rt; audited(alloc, &seats[..1], moves, released).is_err());
     Ok(())
 }

@@ -1,5 +1,5 @@
 -- The moves of all places, one place after another.
-use Rattle.std.proofs.Common.{◌≡◌, refl, sym, ◌∙◌, ap, ℕ, zero, suc, ◌+◌, ◌-◌, ◌<◌, List, [], ◌∷◌, ◌++◌, arith, add-one, append_assoc}
+use Rattle.std.proofs.Common.{◌≡◌, refl, ℕ, zero, suc, ◌+◌, ◌-◌, ◌<◌, List, ◌∷◌, ◌++◌, arith, add-one, append_assoc}
 use Rattle.std.specs.List.{flat_map}
 use Rattle.model.specs.Lists.{numbers_from}
 
