@@ -24,14 +24,8 @@ fn take_text<H: Handler>(
     if !net.has(unit) {
         return Err(Flaw::NoUnit(unit));
     }
-    let own = match text.copy(alloc) {
-        Ok(own) => own,
-        Err(_) => return Err(Flaw::NoMemory),
-    };
-    match work(alloc, handler, net, unit, Source::Outside, own) {
-        Ok(next) => Ok(next),
-        Err(_) => Err(Flaw::NoMemory),
-    }
+    let own = text.copy(alloc).map_err(|_| Flaw::NoMemory)?;
+    work(alloc, handler, net, unit, Source::Outside, own).map_err(|_| Flaw::NoMemory)
 }
 
 /// The network without the next packet from one unit to the other, and that packet's text.
@@ -93,10 +87,8 @@ fn join<H: Handler>(
         kind,
         home: units as u8 + 1,
     };
-    match add_worker(alloc, handler, &mut workers, seat) {
-        Ok(()) => Ok(Network { workers, packets }),
-        Err(_) => Err(Flaw::NoMemory),
-    }
+    add_worker(alloc, handler, &mut workers, seat).map_err(|_| Flaw::NoMemory)?;
+    Ok(Network { workers, packets })
 }
 
 /// Makes one move, if it can be made.

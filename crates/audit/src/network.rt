@@ -63,12 +63,6 @@ impl Packet {
     {
         self.source.number() == source.number() && self.target.number() == target.number()
     }
-
-    fn into_text(self) -> Text
-        ensures { result ≡ self.text }
-    {
-        self.text
-    }
 }
 
 /// The place of the first packet from one unit to the other.
@@ -90,7 +84,7 @@ pub fn take_next(packets: &mut Vec<Packet>, source: Unit, target: Unit) -> Optio
     ensures rest { packets.new.items ≡ without_next source target packets.old.items }
 {
     match place_of_next(packets.as_slice(), source, target) {
-        Some(i) => Some(packets.remove(i).into_text()),
+        Some(i) => Some(packets.remove(i).text),
         None => None,
     }
 }
@@ -149,23 +143,16 @@ pub fn add_worker<H: Handler>(
 {
     let own = seat;
     let state = handler.begin(alloc, seat)?;
-    workers.push(Worker::new(alloc, own, state))?;
+    workers.push(Worker {
+        seat: own,
+        state,
+        received: Vec::new(alloc),
+        outputs: Vec::new(alloc),
+    })?;
     Ok(())
 }
 
 impl<S> Worker<S> {
-    /// A unit that has received nothing yet.
-    fn new(alloc: Global, seat: Seat, state: S) -> Worker<S>
-        ensures { result ≡ record { seat = seat; state = state; received = []; outputs = [] } }
-    {
-        Worker {
-            seat,
-            state,
-            received: Vec::new(alloc),
-            outputs: Vec::new(alloc),
-        }
-    }
-
     /// The unit's number.
     pub fn unit(&self) -> Unit
         ensures { result ≡ self.now.seat.unit }

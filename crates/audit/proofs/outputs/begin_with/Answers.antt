@@ -1,5 +1,6 @@
+use Rattle.std.proofs.Common.{rules}
 use Rattle.audit.proofs.Beginning.{begins_is}
 use Rattle.audit.proofs.outputs.begin_with.Goals as goal
 
 pub returns : goal.returns
-returns c = begins_is c.args.outputs.now c.args.list.now c.starts_with.result c.starts_with.ensures.value
+returns c = begins_is c.args.outputs.now c.args.list.now _ (search rules)
