@@ -203,7 +203,10 @@ fn tampering_is_found(rt: HostRuntime) -> Result<(), Fail> {
     let (seats, moves) = (seats.as_slice(), moves.as_slice());
     let lists = one_output(alloc, "y")?;
     let released = lists.as_slice();
-    assert_eq!(rt; audited(alloc, seats, moves, released)?, Ok(Verdict { moves: 2 }));
+    assert_eq!(rt;
+        audited(alloc, seats, moves, released)?,
+        Ok(Verdict { moves: 2 })
+    );
     let lost = one_output(alloc, "x")?;
     let told = audited(alloc, seats, moves, lost.as_slice())?;
     assert_eq!(rt; told, Err(Flaw::OutputsDiffer(Unit::new(1))));
