@@ -210,10 +210,13 @@ fn tampering_is_found(rt: HostRuntime) -> Result<(), Fail> {
     let lost = one_output(alloc, "x")?;
     let told = audited(alloc, seats, moves, lost.as_slice())?;
     assert_eq!(rt; told, Err(Flaw::OutputsDiffer(Unit::new(1))));
-    let told = audited(alloc, seats, &moves[..1], released)?;
+    let first = moves.get(..1).ok_or("no moves")?;
+    let told = audited(alloc, seats, first, released)?;
     assert_eq!(rt; told, Err(Flaw::OutputsDiffer(Unit::new(1))));
-    let told = audited(alloc, seats, &moves[1..], released)?;
+    let rest = moves.get(1..).ok_or("no moves")?;
+    let told = audited(alloc, seats, rest, released)?;
     assert_eq!(rt; told, Err(Flaw::NothingToReceive(Unit::new(1))));
-    assert!(rt; !can_check(&seats[..1], moves, released));
+    let one_seat = seats.get(..1).ok_or("no seats")?;
+    assert!(rt; !can_check(one_seat, moves, released));
     Ok(())
 }
