@@ -2,4 +2,3 @@ pub mod Queues
 pub mod Orders
 pub mod Making
 pub mod Beginning
-pub mod Floats

@@ -1,4 +1,3 @@
 pub mod Working
 pub mod Released
 pub mod Audits
-pub mod Line

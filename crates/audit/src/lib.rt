@@ -9,21 +9,16 @@
 //! - `network`: units at work and the packets between them, as the definitions' records.
 //! - `moves`: one move, and all of them in order.
 //! - `outputs`: the first unit whose outputs do not begin with its list.
-//! - `verdict`: `check`, which puts these together; `checkable`: whether it may be asked.
-//! - `line`: the line of JSON that tells the outcome.
+//! - `verdict`: `check`, which puts these together.
 //!
 //! The definitions are those of `model`'s `FailureFree`; `specs/Audits` says what a verdict means.
 #![tactic(auto)]
 
-mod checkable;
-mod line;
 mod moves;
 mod network;
 mod outputs;
 mod verdict;
 
-pub use checkable::can_check;
-pub use line::audit_line;
 pub use verdict::{Verdict, check};
 
 #[cfg(test)]

@@ -5,16 +5,21 @@ ghost use Rattle.model.specs.FailureFree.{is_between as is_between_of, next_text
 ghost use Rattle.audit.specs.Working.{AreInOrder, after_turn, packets_from, IsNowhere, IsFirst};
 
 use handler::{Handler, Turn};
-use model::{NoMemory, Seat, Source, Text, Unit};
-use std::alloc::Global;
+use model::{Flaw, NoMemory, Seat, Source, Text, Unit};
 use std::marker::Model;
+
+/// A message that a unit received, and from where.
+pub type Receipt = (Source, Text);
+
+/// The network after a move, or the flaw of the move.
+pub type Made<H> = Result<Network<<H as Handler>::State>, Flaw>;
 
 /// A unit at work: its seat and state, what it received, and what it put out.
 #[derive(Drop)]
 pub struct Worker<S> {
     seat: Seat,
     state: S,
-    received: Vec<(Source, Text)>,
+    received: Vec<Receipt>,
     outputs: Vec<Text>,
 }
 
@@ -90,25 +95,21 @@ pub fn take_next(packets: &mut Vec<Packet>, source: Unit, target: Unit) -> Optio
 }
 
 /// Sends one text.
-fn send(
-    alloc: Global,
-    packets: &mut Vec<Packet>,
-    source: Unit,
-    sent: &(Unit, Text),
-) -> Result<(), NoMemory>
+fn send(packets: &mut Vec<Packet>, source: Unit, sent: &(Unit, Text)) -> Result<(), NoMemory>
     ensures { OnOk result (packets.new.items ≡ packets.old.items ++ record { source = source; target = sent.now.0; text = sent.now.1 } ∷ []) }
 {
-    let text = sent.1.copy(alloc)?;
+    let target = sent.0;
+    let text = sent.1.copy(*packets.allocator())?;
     packets.push(Packet {
         source,
-        target: sent.0,
+        target,
         text,
     })?;
     Ok(())
 }
 
 /// Whether the unit is one of the first `units`.
-fn is_within(unit: Unit, units: usize) -> bool
+pub fn is_within(unit: Unit, units: usize) -> bool
     ensures { result ≡ nat_lt unit units }
 {
     usize::from(unit.number()) < units
@@ -116,7 +117,6 @@ fn is_within(unit: Unit, units: usize) -> bool
 
 /// Sends what a unit sends to the units that are there.
 fn send_all(
-    alloc: Global,
     packets: &mut Vec<Packet>,
     source: Unit,
     units: usize,
@@ -126,7 +126,7 @@ fn send_all(
 {
     for sent in sends {
         if is_within(sent.0, units) {
-            send(alloc, packets, source, sent)?;
+            send(packets, source, sent)?;
         }
     }
     Ok(())
@@ -134,18 +134,17 @@ fn send_all(
 
 /// Adds a unit that has received nothing yet.
 pub fn add_worker<H: Handler>(
-    alloc: Global,
     handler: &H,
     workers: &mut Vec<Worker<H::State>>,
     seat: Seat,
 ) -> Result<(), NoMemory>
     ensures { OnOk result (workers.new.items ≡ workers.old.items ++ new_worker H.meaning seat ∷ []) }
 {
+    let alloc = *workers.allocator();
     let own = seat;
-    let state = handler.begin(alloc, seat)?;
     workers.push(Worker {
         seat: own,
-        state,
+        state: handler.begin(alloc, seat)?,
         received: Vec::new(alloc),
         outputs: Vec::new(alloc),
     })?;
@@ -168,100 +167,74 @@ impl<S> Worker<S> {
     }
 }
 
+/// What a unit does upon a receipt.
+fn turn_at<H: Handler>(
+    handler: &H,
+    workers: &Vec<Worker<H::State>>,
+    i: usize,
+    receipt: &Receipt,
+) -> Result<Turn<H::State>, NoMemory>
+    requires { i < length workers.now.items }
+    ensures { IfOk result (λ turn. (a : WorkerOf H.State) → slice_get workers.now.items i ≡ Some a → turn ≡ H.meaning.handle a.seat a.state receipt.now.0 receipt.now.1) }
+{
+    let worker = &workers[i];
+    let alloc = *workers.allocator();
+    let text = receipt.1.as_str();
+    handler.handle(alloc, worker.seat, &worker.state, receipt.0, text)
+}
+
 /// Keeps a receipt and what its turn puts out.
 fn keep(
-    received: &mut Vec<(Source, Text)>,
+    received: &mut Vec<Receipt>,
     outputs: &mut Vec<Text>,
-    source: Source,
-    text: Text,
+    receipt: Receipt,
     put_out: Vec<Text>,
 ) -> Result<(), NoMemory>
-    ensures received { OnOk result (received.new.items ≡ received.old.items ++ (source, text) ∷ []) }
+    ensures received { OnOk result (received.new.items ≡ received.old.items ++ receipt ∷ []) }
     ensures outputs { OnOk result (outputs.new.items ≡ outputs.old.items ++ put_out.items) }
 {
     let mut put_out = put_out;
-    received.push((source, text))?;
+    received.push(receipt)?;
     outputs.append(&mut put_out)?;
     Ok(())
-}
-
-/// What a unit does upon a receipt.
-fn turn_at<H: Handler>(
-    alloc: Global,
-    handler: &H,
-    workers: &[Worker<H::State>],
-    i: usize,
-    source: Source,
-    text: &Text,
-) -> Result<Turn<H::State>, NoMemory>
-    requires { i < length workers.now }
-    ensures { IfOk result (λ turn. (a : WorkerOf H.State) → slice_get workers.now i ≡ Some a → turn ≡ H.meaning.handle a.seat a.state source text.now) }
-{
-    let worker = &workers[i];
-    handler.handle(alloc, worker.seat, &worker.state, source, text.as_str())
 }
 
 /// The unit has taken a receipt, and done this upon it. What is left is what it sends.
 fn take_turn<S: Drop>(
     workers: &mut Vec<Worker<S>>,
     i: usize,
-    source: Source,
-    text: Text,
+    receipt: Receipt,
     turn: Turn<S>,
 ) -> Result<Vec<(Unit, Text)>, NoMemory>
     requires { i < length workers.old.items }
-    ensures worker { OnOk result ((a : WorkerOf S) → slice_get workers.old.items i ≡ Some a → workers.new.items ≡ slice_set workers.old.items i (after_turn a source text turn)) }
+    ensures worker { OnOk result ((a : WorkerOf S) → slice_get workers.old.items i ≡ Some a → workers.new.items ≡ slice_set workers.old.items i (after_turn a receipt.0 receipt.1 turn)) }
     ensures sends { IfOk result (λ sends. sends.items ≡ turn.sends) }
 {
     let worker = &mut workers[i];
-    keep(
-        &mut worker.received,
-        &mut worker.outputs,
-        source,
-        text,
-        turn.outputs,
-    )?;
+    let put_out = turn.outputs;
+    keep(&mut worker.received, &mut worker.outputs, receipt, put_out)?;
     worker.state = turn.state;
     Ok(turn.sends)
 }
 
-impl<S> Network<S> {
-    /// The units, in the order of their numbers.
-    pub fn workers(&self) -> &[Worker<S>]
-        ensures { result.now ≡ self.now.workers }
-    {
-        self.workers.as_slice()
-    }
-
-    /// Whether the unit is there.
-    pub fn has(&self, unit: Unit) -> bool
-        ensures { result ≡ nat_lt unit (length self.now.workers) }
-    {
-        is_within(unit, self.workers.len())
-    }
-}
-
-/// A unit that is there works on a receipt.
+/// A unit that is there works on a receipt. The only error is want of memory.
 pub fn work<H: Handler>(
-    alloc: Global,
     handler: &H,
     net: Network<H::State>,
     unit: Unit,
-    source: Source,
-    text: Text,
+    receipt: Receipt,
 ) -> Result<Network<H::State>, NoMemory>
     requires order { AreInOrder net.workers }
     requires within { unit < length net.workers }
-    ensures { IfOk result (λ next. (a : WorkerOf H.State) → slice_get net.workers unit ≡ Some a → next ≡ works_on H.meaning net a source text) }
+    ensures { IfOk result (λ next. (a : WorkerOf H.State) → slice_get net.workers unit ≡ Some a → next ≡ works_on H.meaning net a receipt.0 receipt.1) }
 {
     let Network { workers, packets } = net;
     let mut workers = workers;
     let mut packets = packets;
     let units = workers.len();
     let at = usize::from(unit.number());
-    let from = source;
-    let turn = turn_at(alloc, handler, workers.as_slice(), at, from, &text)?;
-    let sends = take_turn(&mut workers, at, source, text, turn)?;
-    send_all(alloc, &mut packets, unit, units, sends.as_slice())?;
+    let turn = turn_at(handler, &workers, at, &receipt)?;
+    let sends = take_turn(&mut workers, at, receipt, turn)?;
+    send_all(&mut packets, unit, units, sends.as_slice())?;
     Ok(Network { workers, packets })
 }

@@ -4,7 +4,7 @@ ghost use Rattle.audit.specs.Audits.{joins};
 
 use super::*;
 use handler::Sample;
-use model::{Flaw, Kind, Move, NoMemory, Seat, TenantName, Text, Texts, Unit};
+use model::{Flaw, Kind, Move, NoMemory, Seat, Text, Texts, Unit};
 use std::alloc::Global;
 use std::test::Fail;
 
@@ -179,48 +179,5 @@ fn no_unit_joins_sixteen(rt: HostRuntime) -> Result<(), Fail> {
     let released = empty_lists(alloc, 17)?;
     let told = check(alloc, &Sample, &seats, &[join(0)], &released);
     assert_eq!(rt; told, Err(Flaw::NoUnit(Unit::new(16))));
-    Ok(())
-}
-
-#[test]
-fn outcomes_are_told(rt: HostRuntime) -> Result<(), Fail> {
-    let alloc = rt.alloc();
-    let name = String::from_str(alloc, "a")?;
-    let tenant = TenantName::new(name).ok_or("no name")?;
-    let unit = Unit::new(3);
-    let cases = [
-        (Ok(Verdict { moves: 2 }), r#"{"audit":"ok","tenant":"a"}"#),
-        (
-            Err(Flaw::NoUnit(unit)),
-            r#"{"audit":"no","flaw":"no-unit","tenant":"a","unit":3}"#,
-        ),
-        (
-            Err(Flaw::NothingToReceive(unit)),
-            r#"{"audit":"no","flaw":"nothing-to-receive","tenant":"a","unit":3}"#,
-        ),
-        (
-            Err(Flaw::OutputsDiffer(unit)),
-            r#"{"audit":"no","flaw":"outputs-differ","tenant":"a","unit":3}"#,
-        ),
-        (Err(Flaw::NoMemory), r#"{"audit":"memory","tenant":"a"}"#),
-    ];
-    for (outcome, want) in cases {
-        let line = audit_line(alloc, &tenant, &outcome)?;
-        assert_eq!(rt; line.as_str(), want);
-    }
-    Ok(())
-}
-
-#[test]
-fn a_check_needs_a_list_for_each_unit(rt: HostRuntime) -> Result<(), Fail> {
-    let alloc = rt.alloc();
-    let seats = [seat(0, 4, 1), seat(1, 0, 1)];
-    let released = empty_lists(alloc, 3)?;
-    let lists = released.as_slice();
-    assert!(rt; can_check(&seats, &[join(0)], lists));
-    assert!(rt; !can_check(&seats, &[], lists));
-    assert!(rt; !can_check(&seats, &[join(0), join(0)], lists));
-    assert!(rt; !can_check(&seats, &[join(0)], &[]));
-    assert!(rt; !can_check(&[seats[1], seats[0]], &[join(0)], lists));
     Ok(())
 }

@@ -34,13 +34,12 @@ pub fn check<H: Handler>(
     requires lists { length released.now ≡ length seats.now + joins moves.now }
     ensures { Audits H.meaning seats.now moves.now released.now result }
 {
-    let workers = match workers_at(alloc, handler, seats) {
-        Ok(workers) => workers,
-        Err(_) => return Err(Flaw::NoMemory),
+    let Ok(workers) = workers_at(alloc, handler, seats) else {
+        return Err(Flaw::NoMemory);
     };
     let packets = Vec::new(alloc);
-    let net = make_all(alloc, handler, Network { workers, packets }, moves)?;
-    match first_differing(net.workers(), released) {
+    let net = make_all(handler, Network { workers, packets }, moves)?;
+    match first_differing(net.workers.as_slice(), released) {
         Some(unit) => Err(Flaw::OutputsDiffer(unit)),
         None => Ok(Verdict {
             moves: moves.len() as u64,

@@ -1,6 +1,6 @@
 use Rattle.std.proofs.Common.{◌∙◌, sym, arith}
-use Rattle.audit.proofs.Orders.{numbered_down}
-use Rattle.audit.proofs.checkable.are_numbered.Goals as goal
+use Rattle.auditor.proofs.Orders.{numbered_down}
+use Rattle.auditor.proofs.checkable.are_numbered.Goals as goal
 
 pub loop-left-preserved : goal.loop-left-preserved
 loop-left-preserved c =

@@ -1,8 +1,8 @@
 use Rattle.std.proofs.Common.{◌∙◌, ap}
 use Rattle.serde_json.specs.Written.{has_float, compact_text}
-use Rattle.audit.specs.Line.{data_text, outcome_data}
-use Rattle.audit.proofs.Floats.{has_float-outcome}
-use Rattle.audit.proofs.line.audit_line.Goals as goal
+use Rattle.auditor.specs.Line.{data_text, outcome_data}
+use Rattle.auditor.proofs.Floats.{has_float-outcome}
+use Rattle.auditor.proofs.line.audit_line.Goals as goal
 
 pub returns : goal.returns
 unfolding data_text

@@ -1,0 +1,3 @@
+pub mod Orders
+pub mod Floats
+pub mod Clear

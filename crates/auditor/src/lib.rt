@@ -1,0 +1,21 @@
+//! The audit of a book's tenant.
+//!
+//! - `audit_tenant` (`tenant_audit`): puts a tenant's seats, its certificate and what it released
+//!   before `audit::check`. It finds no flaw, whatever the tenants' steps and the store's answers
+//!   were.
+//! - `audit_line` (`line`): the line of JSON that tells an outcome.
+//! - `can_check` (`checkable`): whether `audit::check` may be asked of lists from elsewhere.
+//!
+//! `check` itself stands in `audit`, so that an auditor need read nothing of the runtime.
+#![tactic(auto)]
+
+mod checkable;
+mod line;
+mod tenant_audit;
+
+pub use checkable::can_check;
+pub use line::audit_line;
+pub use tenant_audit::audit_tenant;
+
+#[cfg(test)]
+mod tests;

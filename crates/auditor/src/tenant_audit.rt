@@ -1,0 +1,74 @@
+//! The audit of a tenant.
+
+ghost use Rattle.std.specs.Prelude.{◌≡◌, IfOk, MatchOption, None, Some};
+ghost use Rattle.book.specs.Certificates.{CertifiesAt, seats_at};
+ghost use Rattle.book.specs.History.{released_at, world_of};
+ghost use Rattle.auditor.specs.Lists.{IsClear, lists_at};
+
+use audit::{Verdict, check};
+use book::Book;
+use handler::Handler;
+use ident::MAX_UNITS;
+use model::{Flaw, NoMemory, TenantName, Text, Texts, Unit};
+use stable_log::Store;
+use std::alloc::Global;
+
+/// Equal texts.
+fn texts_of(alloc: Global, texts: &[Text]) -> Result<Texts, NoMemory>
+    ensures { IfOk result (λ copies. copies ≡ texts.now) }
+{
+    let mut copies = Vec::new(alloc);
+    for text in texts {
+        copies.push(text.copy(alloc)?)?;
+    }
+    Ok(Texts::new(copies))
+}
+
+/// What each unit of the tenant released, unit 0 first. There is nothing of a tenant that is not
+/// open.
+fn all_released<H: Handler, S: Store>(
+    alloc: Global,
+    book: &Book<H, S>,
+    tenant: &TenantName,
+) -> Result<Vec<Texts>, NoMemory>
+    ensures { IfOk result (λ lists. lists.items ≡ lists_at (world_of H.meaning tenant.now book.now.history)) }
+{
+    let mut lists = Vec::new(alloc);
+    for number in 0..MAX_UNITS as u8 {
+        if let Some(released) = book.released(tenant, Unit::new(number)) {
+            lists.push(texts_of(alloc, released)?)?;
+        }
+    }
+    Ok(lists)
+}
+
+/// Audits what a tenant of the book released: its certificate is a run without failures of the seats
+/// that it was opened with, and what each unit puts out in it begins with what the unit released.
+///
+/// There is never a flaw but want of memory. Of a tenant that is not open there is nothing to audit:
+/// a yes to no moves.
+pub fn audit_tenant<H: Handler, S: Store>(
+    alloc: Global,
+    handler: &H,
+    book: &Book<H, S>,
+    tenant: &TenantName,
+) -> Result<Verdict, Flaw>
+    ensures { IsClear (world_of H.meaning tenant.now book.now.history) result }
+{
+    let Ok(seats) = book.seats(alloc, tenant) else {
+        return Err(Flaw::NoMemory);
+    };
+    let Ok(moves) = book.certificate(alloc, tenant) else {
+        return Err(Flaw::NoMemory);
+    };
+    let Ok(released) = all_released(alloc, book, tenant) else {
+        return Err(Flaw::NoMemory);
+    };
+    check(
+        alloc,
+        handler,
+        seats.as_slice(),
+        moves.as_slice(),
+        released.as_slice(),
+    )
+}
