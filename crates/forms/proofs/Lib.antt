@@ -1,3 +1,4 @@
 pub mod Lines
 pub mod OneLine
 pub mod Replies
+pub mod Floats

@@ -5,6 +5,9 @@ use Rattle.serde_json.specs.View.{items_of}
 use Rattle.serde_json.specs.Written.{compact_text}
 use Rattle.model.specs.Refusals.{refusal_name}
 use Rattle.model.specs.declared.names.Mark.{Mark}
+use Rattle.model.specs.declared.names.Source.{Source}
+use Rattle.model.specs.declared.names.Source.TheVariants.{Outside, Unit as FromUnit}
+use Rattle.model.specs.declared.records.Record.{Record}
 use Rattle.model.specs.declared.names.Start.{Start}
 use Rattle.model.specs.declared.refusals.Refusal.{Refusal}
 use Rattle.model.specs.declared.replies.Reply.{Reply}
@@ -102,3 +105,31 @@ data_text d = compact_text d
 -- the text of a reply, without a line feed
 abbrev pub reply_text : Reply → List ℕ
 reply_text r = data_text (reply_data r)
+
+-- ---- the value of a record
+
+-- who sent what was received
+abbrev pub from_data : Source → Data
+from_data Outside = string (codes "outside")
+from_data (FromUnit unit) = whole unit
+
+-- a letter, where it was one
+abbrev pub letter_data : Option ℕ → Data
+letter_data None = null
+letter_data (Some letter) = whole letter
+
+-- a dependency vector
+abbrev pub marks : List Mark → Items
+marks ms = items_of (map mark_data ms)
+
+-- a record that is logged: its keys are in the order of their bytes
+abbrev pub record_data : Record → Data
+record_data r =
+    object (member (codes "from") (from_data r.source) (member (codes "letter") (letter_data r.letter)
+    (member (codes "mark") (mark_data r.mark) (member (codes "number") (whole r.number)
+    (member (codes "tenant") (string r.tenant) (member (codes "text") (string r.text)
+    (member (codes "unit") (whole r.unit) (member (codes "vector") (array (marks r.vector)) no_members))))))))
+
+-- the text of a record, without a line feed
+abbrev pub record_text : Record → List ℕ
+record_text r = data_text (record_data r)

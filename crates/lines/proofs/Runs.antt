@@ -17,7 +17,8 @@ use Rattle.model.specs.declared.steps.Step.{Step}
 use Rattle.model.specs.declared.steps.Step.TheVariants.{Open, Join, Post, Deliver, Flush, Checkpoint, Kill, Restart, Notice, Release, Status}
 use Rattle.book.specs.Entries.{Ledger, memory_reply}
 use Rattle.forms.specs.Reading.{step_of_line}
-use Rattle.lines.specs.Lines.{LinesRead, AppendsBeginning}
+use Rattle.lines.specs.Lines.{LinesRead}
+use Rattle.written.specs.Beginnings.{AppendsBeginning}
 use Rattle.lines.specs.Serving.{line_step, Answered, AnsweredLine, Serves, IsRemembered, told, entered_before, IsBadOr, EntersEach, reply_line, ServedSome, TookLine, Broken}
 use Rattle.lines.proofs.Parts.{LinesRead-more, LinesRead-some}
 

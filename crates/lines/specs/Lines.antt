@@ -1,6 +1,5 @@
 -- The lines of an input, and what a reader of lines has read of one.
 use Rattle.std.specs.Prelude.{◌≡◌, ◌≢◌, ◌<◌, ◌≤◌, ℕ, List, [], ◌∷◌, ◌++◌, length, All, Bool, true, false, ◌==◌, if◌then◌else◌, Option, Some, None, ⊤}
-use Rattle.std.specs.Io.KnownBytes.{Appends}
 use Rattle.ident.specs.declared.limits.TheConstants.{MAX_LINE_BYTES}
 
 -- x goes before the first line
@@ -21,14 +20,6 @@ IsPart bytes = All (λ x. x ≢ 10) bytes
 abbrev pub Holds : List ℕ → Bool → List ℕ → Type 0
 Holds held false text = (held ≡ text) × (length text ≤ MAX_LINE_BYTES)
 Holds held true text = MAX_LINE_BYTES < length text
-
--- bytes is a beginning of all
-abbrev pub IsBeginning : List ℕ → List ℕ → Type 0
-IsBeginning bytes all = (rest : List ℕ) × (all ≡ bytes ++ rest)
-
--- what is known grows by a beginning of all
-abbrev pub AppendsBeginning : Option (List ℕ) → Option (List ℕ) → List ℕ → Type 0
-AppendsBeginning old new all = (bytes : List ℕ) × Appends old new bytes × IsBeginning bytes all
 
 -- The known bytes began with these lines, and the others are left.
 abbrev pub LinesRead : Option (List ℕ) → Option (List ℕ) → List (List ℕ) → Type 0

@@ -12,7 +12,8 @@ use Rattle.model.specs.declared.steps.Step.{Step}
 use Rattle.book.specs.Entries.{Ledger, IsEntered}
 use Rattle.forms.specs.Reading.{step_of_line}
 use Rattle.forms.specs.Writing.{reply_text}
-use Rattle.lines.specs.Lines.{lines_of, LinesRead, AppendsBeginning}
+use Rattle.lines.specs.Lines.{lines_of, LinesRead}
+use Rattle.written.specs.Beginnings.{AppendsBeginning}
 
 -- ---- one line
 

@@ -2,16 +2,17 @@
 //! what is counted failed, or where 2^64 - 1 calls were made: that part is read here, and not
 //! proved.
 
-ghost use Rattle.std.specs.Prelude.{◌≡◌, ◌<◌, ◌≤◌, OnOk, OnErr, IfOk, length, take, vec_capacity};
+ghost use Rattle.std.specs.Prelude.{◌≡◌, ◌<◌, ◌≤◌, OnOk, OnErr, IfOk, vec_capacity};
 ghost use Rattle.std.specs.Io.KnownBytes.{Appends, Keeps};
 ghost use Rattle.model.specs.Failures.{HasRisen};
-ghost use Rattle.lines.specs.Lines.{AppendsBeginning};
 ghost use Rattle.lines.specs.Parts.{Takes};
+ghost use Rattle.written.specs.Beginnings.{AppendsBeginning};
 
-use crate::part::{Part, is_interrupted, read_part};
+use crate::part::{Part, read_part};
 use ident::MAX_LINE_BYTES;
 use std::io::{BufRead, Write};
 use std::marker::Model;
+use written::{Failed, flush_all, put_all};
 
 /// A reader or a writer, with a count of its calls that failed. The count stays at its greatest.
 ///
@@ -32,10 +33,6 @@ impl<T> Model for Counted<T> {
 
     ghost view = { λ c. record { inner = c.inner; failed = c.failed; left = c.left } };
 }
-
-/// A call of what is counted failed, and was counted.
-#[derive(Clone, Copy, Debug, PartialEq, Eq)]
-pub(crate) struct Failed;
 
 impl<T> Counted<T> {
     pub fn new(inner: T) -> Counted<T>
@@ -109,42 +106,11 @@ impl<W: Write> Counted<W> {
         ensures risen { OnErr result (HasRisen self.old.failed self.new.failed) }
         ensures same { OnOk result (self.new.failed ≡ self.old.failed) }
     {
-        let mut rest = bytes;
-        for _ in 0..u64::MAX {
-            if rest.is_empty() {
-                return Ok(());
-            }
-            let n = self.put_some(rest)?;
-            let (_, after) = rest.split_at(n);
-            rest = after;
+        let put = put_all(&mut self.inner, bytes);
+        if put.is_err() {
+            self.count_failure();
         }
-        self.count_failure();
-        Err(Failed)
-    }
-
-    // How many of the bytes one write took: none where it was interrupted.
-    fn put_some(&mut self, bytes: &[u8]) -> Result<usize, Failed>
-        ensures within { IfOk result (λ n. n ≤ length bytes.now) }
-        ensures ok { IfOk result (λ n. Appends (W.contents self.old.inner) (W.contents self.new.inner) (take n bytes.now)) }
-        ensures err { OnErr result (Keeps (W.contents self.old.inner) (W.contents self.new.inner)) }
-        ensures risen { OnErr result (HasRisen self.old.failed self.new.failed) }
-        ensures same { OnOk result (self.new.failed ≡ self.old.failed) }
-    {
-        match self.inner.write(bytes) {
-            Ok(0) => {
-                self.count_failure();
-                Err(Failed)
-            }
-            Ok(n) => Ok(n),
-            Err(e) => {
-                if is_interrupted(&e) {
-                    Ok(0)
-                } else {
-                    self.count_failure();
-                    Err(Failed)
-                }
-            }
-        }
+        put
     }
 
     /// Flushes what was written.
@@ -153,31 +119,10 @@ impl<W: Write> Counted<W> {
         ensures risen { OnErr result (HasRisen self.old.failed self.new.failed) }
         ensures same { OnOk result (self.new.failed ≡ self.old.failed) }
     {
-        for _ in 0..u64::MAX {
-            if self.flush_some()? {
-                return Ok(());
-            }
+        let flushed = flush_all(&mut self.inner);
+        if flushed.is_err() {
+            self.count_failure();
         }
-        self.count_failure();
-        Err(Failed)
-    }
-
-    // Whether one flush came to its end: it doesn't where it was interrupted.
-    fn flush_some(&mut self) -> Result<bool, Failed>
-        ensures bytes { Keeps (W.contents self.old.inner) (W.contents self.new.inner) }
-        ensures risen { OnErr result (HasRisen self.old.failed self.new.failed) }
-        ensures same { OnOk result (self.new.failed ≡ self.old.failed) }
-    {
-        match self.inner.flush() {
-            Ok(()) => Ok(true),
-            Err(e) => {
-                if is_interrupted(&e) {
-                    Ok(false)
-                } else {
-                    self.count_failure();
-                    Err(Failed)
-                }
-            }
-        }
+        flushed
     }
 }

@@ -6,7 +6,8 @@ ghost use Rattle.lines.specs.Parts.{Takes};
 
 use ident::MAX_LINE_BYTES;
 use std::io;
-use std::io::{BufRead, ErrorKind};
+use std::io::BufRead;
+use written::is_interrupted;
 
 /// How far a read came.
 #[derive(Clone, Copy, Debug, PartialEq, Eq)]
@@ -17,10 +18,6 @@ pub(crate) enum Part {
     Ended(bool),
     // There is no more input.
     AtEnd,
-}
-
-pub(crate) fn is_interrupted(error: &io::Error) -> bool {
-    error.kind() == ErrorKind::Interrupted
 }
 
 /// Takes what the reader shows of the line. Where the call was interrupted it takes nothing, and

@@ -5,7 +5,7 @@ ghost use Rattle.std.specs.Io.KnownBytes.{Appends};
 ghost use Rattle.model.specs.Failures.{HasRisen};
 ghost use Rattle.model.specs.declared.replies.Reply.{Reply as ReplyOf};
 ghost use Rattle.book.specs.Entries.{Ledger};
-ghost use Rattle.lines.specs.Lines.{AppendsBeginning};
+ghost use Rattle.written.specs.Beginnings.{AppendsBeginning};
 ghost use Rattle.lines.specs.Serving.{AnsweredLine, Serves, EntersEach, IsRemembered, reply_line, ServedAll, ServedSome, Took, Broken};
 
 use crate::counted::Counted;
