@@ -1,0 +1,208 @@
+//! The shelf and its calls.
+
+ghost use Rattle.std.specs.Prelude.{◌≡◌, ◌≤◌, [], ◌∷◌, ◌++◌, None, IfOk, IsTrue, OnErr, MatchOption, Some, ◌+◌, ◌<◌, drop, nat_lt, slice_get, length};
+ghost use Rattle.std.specs.List.{list_any, position_or_len, prefix_len};
+ghost use Rattle.std.specs.Option.{option_copied};
+ghost use Rattle.checkpoint.specs.Shelves.{based_at, cut_at, has_index, is_at, later_of as later_by, nearest_of, option_any, put_on, with_room, AllAbove, IsNearest, IsTop, Rises};
+
+use crate::snapshot::Snapshot;
+use ident::{MAX_CHECKPOINTS, NoMemory};
+use std::alloc::Global;
+use std::marker::Model;
+
+/// The snapshots of a unit: the base, which never goes, and at most 64 others, of which the one
+/// first put goes. Indices rise in the order of putting. Each call takes time by their count at most.
+#[derive(Drop)]
+pub struct Shelf<S> {
+    base: Option<Snapshot<S>>,
+    others: Vec<Snapshot<S>>,
+}
+
+impl<S> Model for Shelf<S> {
+    ghost use Rattle.checkpoint.specs.Shelves.{Shelved, Rises};
+
+    ghost Value = { Shelved S };
+
+    ghost view = { λ s. record { base = s.base; others = s.others.items } };
+
+    ghost invariant = { λ s. Rises s.base s.others.items };
+}
+
+impl<S: Drop> Shelf<S> {
+    /// A shelf without snapshots.
+    pub fn new(alloc: Global) -> Shelf<S>
+        ensures { result ≡ record { base = None; others = [] } }
+    {
+        Shelf {
+            base: None,
+            others: Vec::new(alloc),
+        }
+    }
+
+    /// How many snapshots there are beside the base.
+    pub fn len(&self) -> usize
+        ensures { result ≡ length self.now.others }
+    {
+        self.others.len()
+    }
+
+    /// Whether a snapshot of this index is shelved.
+    pub fn has(&self, index: u32) -> bool
+        ensures { result ≡ has_index self.now index }
+    {
+        is_base_at(&self.base, index) || is_some_at(self.others.as_slice(), index)
+    }
+
+    /// Shelves a snapshot, which no other is above. One at an index that is shelved leaves the shelf
+    /// as it is. Where there are 64 others, the one first put goes.
+    ///
+    /// # Errors
+    ///
+    /// `NoMemory` where the snapshot finds no memory; the shelf stays as it was.
+    pub fn put(&mut self, snapshot: Snapshot<S>) -> Result<(), NoMemory>
+        requires { IsTop self.old snapshot.index }
+        ensures ok { IfOk result (λ _. self.new ≡ put_on self.old snapshot) }
+        ensures err { OnErr result (self.new ≡ self.old) }
+    {
+        if self.has(snapshot.index) {
+            return Ok(());
+        }
+        push_last(&mut self.others, snapshot)?;
+        Ok(())
+    }
+
+    /// The snapshot of the greatest index that is not above this one.
+    pub fn nearest(&self, index: u32) -> Option<&Snapshot<S>>
+        ensures exact { option_copied result ≡ nearest_of self.now index }
+        ensures greatest { MatchOption (option_copied result) (AllAbove self.now index) (λ x. IsNearest self.now index x) }
+    {
+        nearest_among(&self.base, self.others.as_slice(), index)
+    }
+
+    /// Gives up the snapshots that are not below the index; the base stays. Takes no memory.
+    pub fn cut(&mut self, index: u32)
+        ensures { self.new ≡ cut_at self.old index }
+    {
+        let kept = count_below(self.others.as_slice(), index);
+        self.others.truncate(kept);
+    }
+
+    /// Makes the snapshot of this index the base; the base before it and those below go. Takes no memory.
+    pub fn move_base(&mut self, index: u32)
+        requires { IsTrue (list_any (is_at index) self.old.others) }
+        ensures { self.new ≡ based_at self.old index }
+    {
+        let at = place_of(self.others.as_slice(), index);
+        let base = take_at(&mut self.others, at);
+        self.base = Some(base);
+    }
+}
+
+/// Adds a snapshot at the end, where at most 64 are kept. Where that finds no memory, all stay.
+fn push_last<S: Drop>(others: &mut Vec<Snapshot<S>>, snapshot: Snapshot<S>) -> Result<(), NoMemory>
+    ensures ok { IfOk result (λ _. others.new.items ≡ with_room others.old.items ++ snapshot ∷ []) }
+    ensures err { OnErr result (others.new.items ≡ others.old.items) }
+{
+    others.reserve(1)?;
+    if others.len() >= MAX_CHECKPOINTS {
+        let _ = others.remove(0);
+    }
+    others.push_reserved(snapshot);
+    Ok(())
+}
+
+/// The place of the first snapshot of this index.
+fn place_of<S>(others: &[Snapshot<S>], index: u32) -> usize
+    requires { IsTrue (list_any (is_at index) others.now) }
+    ensures place { result ≡ position_or_len (is_at index) others.now }
+    ensures within { result < length others.now }
+{
+    let mut place = 0;
+    for x in others {
+        if x.index == index {
+            return place;
+        }
+        place += 1;
+    }
+    unreachable!()
+}
+
+/// Takes the snapshot at this place out, and those before it away.
+fn take_at<S: Drop>(others: &mut Vec<Snapshot<S>>, at: usize) -> Snapshot<S>
+    requires { at < length others.old.items }
+    ensures taken { slice_get others.old.items at ≡ Some result }
+    ensures rest { others.new.items ≡ drop (at + 1) others.old.items }
+{
+    for _ in 0..at {
+        let _ = others.remove(0);
+    }
+    others.remove(0)
+}
+
+fn is_base_at<S>(base: &Option<Snapshot<S>>, index: u32) -> bool
+    ensures { result ≡ option_any (is_at index) base.now }
+{
+    match base {
+        Some(base) => base.index == index,
+        None => false,
+    }
+}
+
+fn is_some_at<S>(others: &[Snapshot<S>], index: u32) -> bool
+    ensures { result ≡ list_any (is_at index) others.now }
+{
+    for x in others {
+        if x.index == index {
+            return true;
+        }
+    }
+    false
+}
+
+/// How many snapshots at the front are below the index.
+fn count_below<S>(others: &[Snapshot<S>], index: u32) -> usize
+    ensures { result ≡ prefix_len (λ x. nat_lt x.index index) others.now }
+{
+    let mut count = 0;
+    for x in others {
+        if x.index >= index {
+            return count;
+        }
+        count += 1;
+    }
+    count
+}
+
+fn nearest_among<'a, S>(
+    base: &'a Option<Snapshot<S>>,
+    others: &'a [Snapshot<S>],
+    index: u32,
+) -> Option<&'a Snapshot<S>>
+    requires { Rises base.now others.now }
+    ensures exact { option_copied result ≡ nearest_of (record { base = base.now; others = others.now }) index }
+    ensures greatest { MatchOption (option_copied result) (AllAbove (record { base = base.now; others = others.now }) index) (λ x. IsNearest (record { base = base.now; others = others.now }) index x) }
+{
+    let mut best = match base {
+        Some(base) => later_of(index, None, base),
+        None => None,
+    };
+    for x in others {
+        best = later_of(index, best, x);
+    }
+    best
+}
+
+/// This snapshot, where it is not above the index, else the best so far.
+fn later_of<'a, S>(
+    index: u32,
+    best: Option<&'a Snapshot<S>>,
+    other: &'a Snapshot<S>,
+) -> Option<&'a Snapshot<S>>
+    ensures { option_copied result ≡ later_by index (option_copied best.entry) other.now }
+{
+    if other.index <= index {
+        Some(other)
+    } else {
+        best
+    }
+}

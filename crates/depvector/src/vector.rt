@@ -1,0 +1,139 @@
+//! The vector and its calls.
+
+ghost use Rattle.std.specs.Prelude.{◌≡◌, ◌<◌, ◌≤◌, IfOk, OnErr, length, slice_set};
+ghost use Rattle.depvector.specs.Vectors.{begun, joined, mark_for, widened};
+
+use crate::marks::{beginning, join_marks};
+use model::{Mark, Marks, NoMemory, Unit};
+use std::alloc::Global;
+use std::marker::Model;
+
+/// For each unit of a tenant its latest interval that an interval depends on, as a mark: incarnation
+/// and index. It has an entry for each of the first units, at most 256 of them.
+///
+/// A unit that joined the tenant after the vector was made has no entry in it, and counts as being
+/// at its beginning. Each call takes time by the count of units at most, and `get` and `set_own` a
+/// constant time.
+#[derive(Drop)]
+pub struct DepVector {
+    marks: Vec<Mark>,
+}
+
+impl Model for DepVector {
+    ghost use Rattle.std.specs.Prelude.{List, ◌≤◌, length};
+    ghost use Rattle.model.specs.declared.names.Mark.{Mark};
+
+    ghost Value = { List Mark };
+
+    ghost view = { λ v. v.marks.items };
+
+    ghost invariant = { λ v. length v.marks.items ≤ 256 };
+}
+
+impl DepVector {
+    /// The vector of a beginning, for a tenant of `n` units.
+    ///
+    /// # Errors
+    ///
+    /// `NoMemory` where the entries find no memory.
+    pub fn new(alloc: Global, n: usize) -> Result<DepVector, NoMemory>
+        requires { n ≤ 256 }
+        ensures { IfOk result (λ v. v ≡ begun n) }
+    {
+        let marks = vec![in alloc; beginning(); n]?;
+        Ok(DepVector { marks })
+    }
+
+    /// The vector of these marks, unit 0 first. Takes no memory.
+    pub fn from_marks(marks: Vec<Mark>) -> DepVector
+        requires { length marks.items ≤ 256 }
+        ensures { result ≡ marks.items }
+    {
+        DepVector { marks }
+    }
+
+    /// The marks, unit 0 first.
+    pub fn as_slice(&self) -> &[Mark]
+        ensures marks { result.now ≡ self.now }
+        ensures few { length result.now ≤ 256 }
+    {
+        self.marks.as_slice()
+    }
+
+    /// How many units have an entry.
+    pub fn len(&self) -> usize
+        ensures len { result ≡ length self.now }
+        ensures few { result ≤ 256 }
+    {
+        self.marks.len()
+    }
+
+    /// The mark of a unit; a unit without an entry is at its beginning.
+    pub fn get(&self, unit: Unit) -> Mark
+        ensures { result ≡ mark_for self.now unit }
+    {
+        match self.marks.get(usize::from(unit.number())) {
+            Some(mark) => *mark,
+            None => beginning(),
+        }
+    }
+
+    /// Takes the later mark for each unit: by incarnation, then by index. Takes no memory.
+    ///
+    /// The other vector is not the longer one, since a tenant's units are never fewer than they were.
+    #[tactic(auto, using(crate::proofs::Joins::joins))]
+    pub fn join(&mut self, other: &DepVector)
+        requires { length other.now ≤ length self.old }
+        ensures { self.new ≡ joined self.old other.now }
+    {
+        join_marks(self.marks.as_mut_slice(), other.marks.as_slice());
+    }
+
+    /// Sets the mark of a unit that has an entry. Takes no memory.
+    pub fn set_own(&mut self, unit: Unit, mark: Mark)
+        requires { unit < length self.old }
+        ensures { self.new ≡ slice_set self.old unit mark }
+    {
+        self.marks[usize::from(unit.number())] = mark;
+    }
+
+    /// Adds the beginnings of units that joined, up to `n` units in all. A vector that has as many
+    /// stays as it is.
+    ///
+    /// # Errors
+    ///
+    /// `NoMemory` where the entries find no memory; the vector stays as it was.
+    pub fn widen(&mut self, n: usize) -> Result<(), NoMemory>
+        requires { n ≤ 256 }
+        ensures ok { IfOk result (λ _. self.new ≡ widened self.old n) }
+        ensures err { OnErr result (self.new ≡ self.old) }
+    {
+        if self.marks.len() < n {
+            self.marks.resize(n, beginning())?;
+        }
+        Ok(())
+    }
+
+    /// An equal vector.
+    ///
+    /// # Errors
+    ///
+    /// `NoMemory` where the copy finds no memory.
+    pub fn copy(&self) -> Result<DepVector, NoMemory>
+        ensures { IfOk result (λ v. v ≡ self.now) }
+    {
+        let marks = self.marks.clone()?;
+        Ok(DepVector { marks })
+    }
+
+    /// The marks as a record holds them.
+    ///
+    /// # Errors
+    ///
+    /// `NoMemory` where the copy finds no memory.
+    pub fn to_marks(&self) -> Result<Marks, NoMemory>
+        ensures { IfOk result (λ m. m ≡ self.now) }
+    {
+        Ok(Marks::new(self.marks.clone()?))
+    }
+}

@@ -1,0 +1,2 @@
+pub mod FilesLaws
+pub mod StartsLaws

@@ -1,0 +1,9 @@
+pub mod Fronts
+pub mod Marks
+pub mod Made
+pub mod Sessions
+pub mod SessionSteps
+pub mod Orphans
+pub mod Unstable
+pub mod Frontiers
+pub mod Volatile

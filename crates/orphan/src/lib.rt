@@ -1,0 +1,20 @@
+//! Tests of dependency vectors against the rows of a tenant: what is blind, an orphan or unstable
+//! (orphans are those of Strom and Yemini 1985).
+//!
+//! - `is_blind`, `is_orphan`, `unstable_units`: tests of one vector;
+//! - `first_orphan`: the first place of a path that is an orphan.
+//!
+//! Of vectors that hold the greatest mark of each unit in a past, these are the definitions' tests of
+//! that past: `tenant::laws::vectors_tell`, and `layer_laws` for the count and the first orphan. None
+//! takes memory, and each looks at every entry a constant number of times, however long paths and the
+//! table are.
+#![tactic(auto)]
+
+mod paths;
+mod vectors;
+
+pub use paths::first_orphan;
+pub use vectors::{is_blind, is_orphan, unstable_units};
+
+#[cfg(test)]
+mod tests;

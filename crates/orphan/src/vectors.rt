@@ -1,0 +1,58 @@
+//! Tests of one vector.
+
+ghost use Rattle.std.specs.Prelude.{◌≡◌, ◌≤◌, ◌<◌, length, take};
+ghost use Rattle.orphan.specs.Tests.{is_blind_by, is_orphan_by, is_stable_by, unstable_count};
+
+use depvector::DepVector;
+use incarnation::StartTable;
+use model::{Mark, Unit};
+
+/// Whether some entry's incarnation has no row among the first `known` ones. Takes no memory, and a
+/// constant time for each entry.
+pub fn is_blind(vector: &DepVector, table: &StartTable, known: usize) -> bool
+    ensures { result ≡ is_blind_by (take known table.now) vector.now }
+{
+    for (unit, mark) in vector.as_slice().iter().enumerate() {
+        if !table.tells_of(known, Unit::new(unit as u8), *mark) {
+            return true;
+        }
+    }
+    false
+}
+
+/// Whether the first `known` rows lose some entry. Takes no memory, and a constant time for each entry.
+pub fn is_orphan(vector: &DepVector, table: &StartTable, known: usize) -> bool
+    ensures { result ≡ is_orphan_by (take known table.now) vector.now }
+{
+    for (unit, mark) in vector.as_slice().iter().enumerate() {
+        if table.loses(known, Unit::new(unit as u8), *mark) {
+            return true;
+        }
+    }
+    false
+}
+
+/// Whether the unit's interval of this mark stands within the unit's stable length, and no row loses it.
+fn is_stable(table: &StartTable, stable_lengths: &[u64], unit: usize, mark: Mark) -> bool
+    requires few { unit < 256 }
+    requires given { unit < length stable_lengths.now }
+    ensures { result ≡ is_stable_by table.now stable_lengths.now unit mark }
+{
+    u64::from(mark.index) < stable_lengths[unit]
+        && !table.loses(table.len(), Unit::new(unit as u8), mark)
+}
+
+/// How many units have an entry that is lost, or that does not stand within the unit's stable length.
+/// There is a stable length for each entry. Takes no memory, and a constant time for each entry.
+pub fn unstable_units(vector: &DepVector, table: &StartTable, stable_lengths: &[u64]) -> u32
+    requires { length vector.now ≤ length stable_lengths.now }
+    ensures { result ≡ unstable_count table.now stable_lengths.now vector.now }
+{
+    let mut count = 0;
+    for (unit, mark) in vector.as_slice().iter().enumerate() {
+        if !is_stable(table, stable_lengths, unit, *mark) {
+            count += 1;
+        }
+    }
+    count
+}

@@ -1,0 +1,47 @@
+-- What holds, tickets and outlets give.
+use Rattle.std.specs.Prelude.{ℕ, Bool, false, nat_lt, List, [], ◌∷◌, map, slice_get, slice_index, unwrap_or}
+use Rattle.std.specs.List.{take_while}
+use Rattle.model.specs.declared.names.Mark.{Mark}
+use Rattle.output_commit.specs.declared.held.Held.{Held}
+
+-- a unit's held outputs in order, and how many more can be held without a growth
+pub record Holding : Type 0 where
+  pub unit : ℕ
+  pub outputs : List Held
+  pub room : ℕ
+
+-- one output that may leave: of which unit and interval, and its text
+pub record Issued : Type 0 where
+  pub unit : ℕ
+  pub output : Held
+
+-- what a unit released, and how many more texts can follow without a growth
+pub record Line : Type 0 where
+  pub texts : List (List ℕ)
+  pub room : ℕ
+
+-- the outputs of one interval
+abbrev pub held_of : Mark → List (List ℕ) → List Held
+held_of mark texts = map (λ text. record { mark = mark; text = text }) texts
+
+-- the interval of the first output is below the unit's frontier
+abbrev pub first_is_firm : ℕ → List Held → Bool
+first_is_firm frontier [] = false
+first_is_firm frontier (o ∷ outputs) = nat_lt o.mark.index frontier
+
+abbrev pub front_is_firm : Holding → List ℕ → Bool
+front_is_firm h frontiers = first_is_firm (slice_index frontiers h.unit) h.outputs
+
+-- the outputs at the front that are of intervals below the index
+abbrev pub below : List Held → ℕ → List Held
+below outputs index = take_while (λ o. nat_lt o.mark.index index) outputs
+
+abbrev pub no_line : Line
+no_line = record { texts = []; room = 0 }
+
+-- what a unit released; nothing where it has no list
+abbrev pub texts_of : List Line → ℕ → List (List ℕ)
+texts_of lines unit = (unwrap_or (slice_get lines unit) no_line).texts
+
+abbrev pub room_of : List Line → ℕ → ℕ
+room_of lines unit = (unwrap_or (slice_get lines unit) no_line).room

@@ -1,0 +1,183 @@
+//! What left.
+
+ghost use Rattle.std.specs.Prelude.{◌≡◌, ◌+◌, ◌<◌, ◌≤◌, ◌∷◌, [], ◌++◌, IfErr, IfOk, IsOk, OnErr, OnOk, length, max, vec_capacity, vec_len, ◌≢◌, ℕ};
+ghost use Rattle.output_commit.specs.Holds.{room_of, texts_of};
+
+use crate::held::Held;
+use crate::ticket::Ticket;
+use model::{NoMemory, Text, Unit};
+use std::alloc::Global;
+use std::marker::Model;
+
+/// What one unit released.
+#[derive(Drop)]
+pub struct Released {
+    texts: Vec<Text>,
+}
+
+impl Model for Released {
+    ghost use Rattle.std.specs.Prelude.{◌-◌, vec_len, vec_capacity};
+    ghost use Rattle.output_commit.specs.Holds.{Line};
+
+    ghost Value = { Line };
+
+    ghost view = { λ r. record { texts = r.texts.items; room = vec_capacity r.texts - vec_len r.texts } };
+}
+
+impl Released {
+    pub(crate) fn new(alloc: Global) -> Released
+        ensures { result.texts ≡ [] }
+    {
+        Released {
+            texts: Vec::new(alloc),
+        }
+    }
+
+    pub(crate) fn as_slice(&self) -> &[Text]
+        ensures { result.now ≡ self.now.texts }
+    {
+        self.texts.as_slice()
+    }
+
+    pub(crate) fn reserve(&mut self, k: usize) -> Result<(), NoMemory>
+        ensures texts { self.new.texts ≡ self.old.texts }
+        ensures room { IfOk result (λ _. k ≤ self.new.room) }
+    {
+        self.texts.reserve(k)?;
+        Ok(())
+    }
+
+    pub(crate) fn emit(&mut self, ticket: Ticket) -> Result<(), Ticket>
+        ensures ok { OnOk result (self.new.texts ≡ self.old.texts ++ ticket.output.text ∷ []) }
+        ensures err { OnErr result (self.new.texts ≡ self.old.texts) }
+        ensures back { IfErr result (λ t. t ≡ ticket) }
+        ensures succeeds { 0 < self.old.room → IsOk result }
+        ensures room { self.old.room ≤ self.new.room + 1 }
+    {
+        let unit = ticket.unit();
+        let Held { mark, text } = ticket.into_output();
+        match self.texts.push(text) {
+            Ok(()) => Ok(()),
+            Err(refused) => {
+                let text = refused.value;
+                Err(Ticket::new(unit, Held { mark, text }))
+            }
+        }
+    }
+}
+
+/// What the units of a tenant released.
+#[derive(Drop)]
+pub struct Outlet {
+    lines: Vec<Released>,
+}
+
+impl Model for Outlet {
+    ghost use Rattle.std.specs.Prelude.{List};
+    ghost use Rattle.output_commit.specs.Holds.{Line};
+
+    ghost Value = { List Line };
+
+    ghost view = { λ o. o.lines.items };
+}
+
+impl Outlet {
+    /// The outlet of a tenant of `n` units, none of which released anything.
+    ///
+    /// # Errors
+    ///
+    /// `NoMemory` where the lists find no memory.
+    pub fn new(alloc: Global, n: usize) -> Result<Outlet, NoMemory>
+        ensures len { IfOk result (λ o. length o ≡ n) }
+        ensures none { IfOk result (λ o. (u : ℕ) → texts_of o u ≡ []) }
+    {
+        let mut outlet = Outlet {
+            lines: Vec::new(alloc),
+        };
+        outlet.widen(n)?;
+        Ok(outlet)
+    }
+
+    /// How many units there are.
+    pub fn len(&self) -> usize
+        ensures { result ≡ length self.now }
+    {
+        self.lines.len()
+    }
+
+    /// What the unit released, in order.
+    #[tactic(auto, using(crate::proofs::Lines::line_laws))]
+    pub fn released(&self, unit: Unit) -> &[Text]
+        requires { unit < length self.now }
+        ensures { result.now ≡ texts_of self.now unit }
+    {
+        let line = &self.lines[usize::from(unit.number())];
+        line.as_slice()
+    }
+
+    /// Makes room for `k` more texts of a unit.
+    ///
+    /// # Errors
+    ///
+    /// `NoMemory` where they find none; what was released stays.
+    #[tactic(auto, using(crate::proofs::Lines::line_laws))]
+    pub fn reserve(&mut self, unit: Unit, k: usize) -> Result<(), NoMemory>
+        requires { unit < length self.old }
+        ensures len { length self.new ≡ length self.old }
+        ensures texts { (u : ℕ) → texts_of self.new u ≡ texts_of self.old u }
+        ensures room { IfOk result (λ _. k ≤ room_of self.new unit) }
+    {
+        let line = &mut self.lines[usize::from(unit.number())];
+        line.reserve(k)?;
+        Ok(())
+    }
+
+    /// Lets the output of a ticket out, behind what its unit released. Succeeds where `reserve` made room.
+    ///
+    /// # Errors
+    ///
+    /// The ticket, where its text finds no memory; what was released stays.
+    #[tactic(auto, using(crate::proofs::Lines::line_laws))]
+    pub fn emit(&mut self, ticket: Ticket) -> Result<(), Ticket>
+        requires { ticket.unit < length self.old }
+        ensures len { length self.new ≡ length self.old }
+        ensures ok { OnOk result (texts_of self.new ticket.unit ≡ texts_of self.old ticket.unit ++ ticket.output.text ∷ []) }
+        ensures others { (u : ℕ) → u ≢ ticket.unit → texts_of self.new u ≡ texts_of self.old u }
+        ensures err { OnErr result (texts_of self.new ticket.unit ≡ texts_of self.old ticket.unit) }
+        ensures back { IfErr result (λ t. t ≡ ticket) }
+        ensures succeeds { 0 < room_of self.old ticket.unit → IsOk result }
+        ensures room { room_of self.old ticket.unit ≤ room_of self.new ticket.unit + 1 }
+    {
+        let line = &mut self.lines[usize::from(ticket.unit().number())];
+        line.emit(ticket)
+    }
+
+    /// Adds lists for units that joined, up to `n` units in all.
+    ///
+    /// # Errors
+    ///
+    /// `NoMemory` where the lists find no memory; what was released stays.
+    pub fn widen(&mut self, n: usize) -> Result<(), NoMemory>
+        ensures len { IfOk result (λ _. length self.new ≡ max n (length self.old)) }
+        ensures texts { (u : ℕ) → texts_of self.new u ≡ texts_of self.old u }
+        ensures err { OnErr result (length self.new ≡ length self.old) }
+    {
+        let missing = n.saturating_sub(self.lines.len());
+        self.lines.reserve(missing)?;
+        push_empty(&mut self.lines, missing);
+        Ok(())
+    }
+}
+
+/// Adds this many lists, for which there is room.
+#[tactic(auto, using(crate::proofs::Lines::line_laws))]
+fn push_empty(lines: &mut Vec<Released>, count: usize)
+    requires { vec_len lines.old + count ≤ vec_capacity lines.old }
+    ensures len { length lines.new.items ≡ length lines.old.items + count }
+    ensures texts { (u : ℕ) → texts_of lines.new.items u ≡ texts_of lines.old.items u }
+{
+    let alloc = *lines.allocator();
+    for _ in 0..count {
+        lines.push_reserved(Released::new(alloc));
+    }
+}

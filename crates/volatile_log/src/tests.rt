@@ -1,0 +1,44 @@
+use crate::{Record, VolatileLog};
+use model::{Mark, Marks, NoMemory, Source, TenantName, Text, Unit};
+use std::alloc::Global;
+use std::test::Fail;
+
+fn logged(alloc: Global, index: u32) -> Result<Record, NoMemory> {
+    let Some(tenant) = TenantName::new(String::from_str(alloc, "a")?) else {
+        return Err(NoMemory);
+    };
+    let mark = Mark {
+        incarnation: 0,
+        index,
+    };
+    Ok(Record {
+        tenant,
+        unit: Unit::new(0),
+        mark,
+        source: Source::Outside,
+        letter: None,
+        number: 0,
+        text: Text::of(alloc, "x")?,
+        vector: Marks::new([mark].to_vec(alloc)?),
+    })
+}
+
+#[test]
+fn keeps_records_in_order(rt: HostRuntime) -> Result<(), Fail> {
+    let alloc = rt.alloc();
+    let mut log = VolatileLog::new(alloc);
+    log.reserve(3)?;
+    log.push(logged(alloc, 1)?);
+    log.reserve(2)?;
+    log.push(logged(alloc, 2)?);
+    log.reserve(1)?;
+    log.push(logged(alloc, 3)?);
+    assert_eq!(rt; log.front().map(|r| r.mark.index), Some(1));
+    log.cut(3);
+    assert_eq!(rt; log.len(), 2);
+    log.mark_stable(1);
+    assert_eq!(rt; log.front().map(|r| r.mark.index), Some(2));
+    assert_eq!(rt; log.clear(), 1);
+    assert_eq!(rt; log.len(), 0);
+    Ok(())
+}
