@@ -1,11 +1,10 @@
 //! `recall run --audit`: after the replies, one audit line for each open tenant.
 
-use audit::{Verdict, audit_line, can_check, check};
+use auditor::{audit_line, audit_tenant};
 use book::Book;
 use handler::Sample;
-use ident::MAX_UNITS;
 use log::{Log, error};
-use model::{Flaw, Move, NoMemory, Seat, TenantName, Text, Texts, Unit};
+use model::{NoMemory, TenantName};
 use stable_log::Store;
 use std::alloc::Global;
 use std::io::Write;
@@ -57,10 +56,7 @@ fn audit_one<L: Log, W: Write, S: Store>(
         error!(rt; "a tenant has no name: it is not audited");
         return false;
     };
-    let Some(outcome) = audit_tenant(alloc, book, &tenant) else {
-        error!(rt; "a tenant's units and their outputs are not of one number: it is not audited");
-        return false;
-    };
+    let outcome = audit_tenant(alloc, &Sample, book, &tenant);
     let Ok(mut line) = audit_line(alloc, &tenant, &outcome) else {
         error!(rt; "there is no memory for an audit line: it is missing");
         return false;
@@ -70,72 +66,4 @@ fn audit_one<L: Log, W: Write, S: Store>(
         return false;
     }
     outcome.is_ok()
-}
-
-/// The audit of a tenant: no memory for its certificate, seats or outputs is told as such. There is
-/// none where `can_check` says that it can't be made, as of no tenant of a book it should.
-fn audit_tenant<S: Store>(
-    alloc: Global,
-    book: &Book<Sample, S>,
-    tenant: &TenantName,
-) -> Option<Result<Verdict, Flaw>> {
-    match gather(alloc, book, tenant) {
-        Ok(gathered) => gathered.audit(alloc),
-        Err(_) => Some(Err(Flaw::NoMemory)),
-    }
-}
-
-/// What an audit is made of.
-#[derive(Drop)]
-struct Gathered {
-    seats: Vec<Seat>,
-    moves: Vec<Move>,
-    released: Vec<Texts>,
-}
-
-fn gather<S: Store>(
-    alloc: Global,
-    book: &Book<Sample, S>,
-    tenant: &TenantName,
-) -> Result<Gathered, NoMemory> {
-    Ok(Gathered {
-        seats: book.seats(alloc, tenant)?,
-        moves: book.certificate(alloc, tenant)?,
-        released: all_released(alloc, book, tenant)?,
-    })
-}
-
-/// What each unit of the tenant released, unit 0 first.
-fn all_released<S: Store>(
-    alloc: Global,
-    book: &Book<Sample, S>,
-    tenant: &TenantName,
-) -> Result<Vec<Texts>, NoMemory> {
-    let mut lists = Vec::new(alloc);
-    for number in 0..MAX_UNITS as u8 {
-        if let Some(released) = book.released(tenant, Unit::new(number)) {
-            lists.push(texts_of(alloc, released)?)?;
-        }
-    }
-    Ok(lists)
-}
-
-fn texts_of(alloc: Global, texts: &[Text]) -> Result<Texts, NoMemory> {
-    let mut copies = Vec::new(alloc);
-    for text in texts {
-        copies.push(text.copy(alloc)?)?;
-    }
-    Ok(Texts::new(copies))
-}
-
-impl Gathered {
-    fn audit(&self, alloc: Global) -> Option<Result<Verdict, Flaw>> {
-        let seats = self.seats.as_slice();
-        let moves = self.moves.as_slice();
-        let released = self.released.as_slice();
-        if !can_check(seats, moves, released) {
-            return None;
-        }
-        Some(check(alloc, &Sample, seats, moves, released))
-    }
 }

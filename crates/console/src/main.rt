@@ -2,37 +2,61 @@
 //!
 //! - `words`: the words of the command line, read with `clap`;
 //! - `run`: `recall run`, thin over `lines::serve`, which carries the theorem;
-//! - `audits`: the audit lines, thin over `audit::check`, which carries its own.
+//! - `log_file`: the file of `--log`, thin over `stores::WriterStore`, which carries its own;
+//! - `audits`: the audit lines, thin over `auditor::audit_tenant`, which carries its own.
 #![tactic(auto)]
 
 mod audits;
+mod log_file;
 mod run;
 mod words;
 
 use log::sink::Console;
-use log::{LevelFilter, Logged};
+use log::{LevelFilter, Logged, error};
+use log_file::LogFile;
 use run::run_on;
-use stable_log::MemoryStore;
+use stable_log::{MemoryStore, Store};
+use std::fs::File;
 use std::io;
 use std::process::ExitCode;
-use words::{Asked, read_words};
+use stores::WriterStore;
+use words::{Asked, RunWords, read_words};
 
 fn main(rt: HostRuntime) -> io::Result<ExitCode> {
     let words: Vec<String> = std::env::args(&rt)?.collect(rt.alloc())?;
     let status = match read_words(&rt, words.as_slice()) {
-        Asked::Run { audit } => {
-            let logged = Logged::new(&rt, LevelFilter::Warn, Console(&rt));
-            let store = MemoryStore::new(rt.alloc());
-            run_on(
-                &logged,
-                rt.alloc(),
-                &mut rt.reader(),
-                &mut io::writer(&rt),
-                store,
-                audit,
-            )
-        }
+        Asked::Run(run) => run_as_asked(&rt, &run),
         Asked::Ended(status) => status,
     };
     Ok(ExitCode::from(status))
+}
+
+/// `recall run`: with a log that is written, where a file is named for it, or with one in memory.
+fn run_as_asked(rt: &HostRuntime, run: &RunWords<'_>) -> u8 {
+    let logged = Logged::new(rt, LevelFilter::Warn, Console(rt));
+    let alloc = rt.alloc();
+    let Some(path) = run.log else {
+        let store = MemoryStore::new(alloc);
+        return run_on(
+            &logged,
+            alloc,
+            &mut rt.reader(),
+            &mut io::writer(rt),
+            store,
+            run.audit,
+        );
+    };
+    let Ok(file) = File::create(rt, path) else {
+        error!(&logged; "the log can't be made at {path}: name a file that can be written");
+        return 1;
+    };
+    let store = WriterStore::new(alloc, LogFile::new(&logged, file));
+    run_on(
+        &logged,
+        alloc,
+        &mut rt.reader(),
+        &mut io::writer(rt),
+        store,
+        run.audit,
+    )
 }

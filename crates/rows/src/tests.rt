@@ -1,5 +1,6 @@
 use crate::served;
-use audit::{Verdict, can_check, check};
+use audit::{Verdict, check};
+use auditor::can_check;
 use book::Book;
 use handler::Sample;
 use lines::{Counted, serve};
