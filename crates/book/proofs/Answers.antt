@@ -1,6 +1,6 @@
 -- What the calls of a tenant say of a tenant that may be unopened.
 use Rattle.std.proofs.Common.{◌≡◌, ℕ, List, [], ◌∷◌, Bool, true, false, if◌then◌else◌, refl, sym, ap, subst}
-use Rattle.std.specs.Prelude.{Option, None, Some, Result, Ok, Err, IfOk, bytes_eq}
+use Rattle.std.specs.Prelude.{Option, None, Some, Result, Ok, Err, IfOk, IfSome, bytes_eq}
 use Rattle.model.specs.Addresses.{addressed}
 use Rattle.model.specs.Alone.{step_open}
 use Rattle.model.specs.Handler.{Meaning}
@@ -18,12 +18,18 @@ use Rattle.model.specs.declared.steps.TenantStep.TheVariants.{Open}
 use Rattle.stable_log.specs.Logged.{Logged}
 use Rattle.tenant.specs.Outcomes.{done}
 use Rattle.tenant.specs.Stands.{Kept, Stands, StandsAt, Did, IsOpened}
+use Rattle.book.specs.Commits.{needs_at}
 use Rattle.book.specs.History.{DidAt, Holding, IsAnswered, KeepsOthers, LogsAt, StepsAt, named_if_opened, opened_by}
 
 -- what follows from a clause on `Ok`
 pub if_ok : {A E : Type 0} {P Q : A → Type 0} (r : Result A E) → ((a : A) → P a → Q a) → IfOk r P → IfOk r Q
 if_ok (Ok a) f h = f a h
 if_ok (Err e) f h = tt
+
+-- what follows from a clause on `Some`
+pub if_some : {A : Type 0} {P Q : A → Type 0} (o : Option A) → ((a : A) → P a → Q a) → IfSome o P → IfSome o Q
+if_some None f h = tt
+if_some (Some a) f h = f a h
 
 module _ {S : Type 0} (M : Meaning S) where
   -- what an opening gives, where it is accepted or not

@@ -1,3 +1,4 @@
 pub mod Entries
 pub mod History
 pub mod Certificates
+pub mod Commits

@@ -1,15 +1,19 @@
 //! The work of one step, whichever the tenant.
 
-ghost use Rattle.std.specs.Prelude.{◌≡◌, [], ◌∷◌, ◌++◌, ℕ, List, IfOk, OnOk, OnErr, Option, None, Some, false, bytes_eq};
+ghost use Rattle.std.specs.Prelude.{◌≡◌, [], ◌∷◌, ◌++◌, ℕ, List, IfOk, IfNone, IfSome, OnOk, OnErr, Option, None, Some, false, bytes_eq};
 ghost use Rattle.indexmap.specs.IndexMap.{IsUnchanged, get, keys};
+ghost use Rattle.model.specs.Addresses.{addressed};
 ghost use Rattle.model.specs.World.{World};
+ghost use Rattle.model.specs.declared.records.Record.{Record};
+ghost use Rattle.tenant.specs.Needs.{WasFresh};
 ghost use Rattle.tenant.specs.Outcomes.{IsPlain};
 ghost use Rattle.tenant.specs.Stands.{IsOpened, StandsAt};
 ghost use Rattle.stable_log.specs.Logged.{Logged};
+ghost use Rattle.book.specs.Commits.{needs_at};
 ghost use Rattle.book.specs.Entries.{memory_reply as reply_of_memory};
 ghost use Rattle.book.specs.History.{DidAt, IsAnswered, IsKept, KeepsOthers, LogsAt, StepsAt, holding, opened_by};
 
-use handler::Handler;
+use handler::{Ask, Done, Handler};
 use indexmap::IndexMap;
 use model::{End, NoMemory, Quota, Refusal, Reply, Said, Step, TenantName, TenantStep, Texts};
 use stable_log::{SharedLog, Store};
@@ -168,4 +172,69 @@ pub(crate) fn answer<H: Handler, S: Store>(
         return answer_open(alloc, handler, tenant, name, own_step, log);
     }
     answer_unopened(alloc, handler, tenants, name, own_step)
+}
+
+/// The input of the turn that a step of any tenant now needs, if it needs one.
+pub(crate) fn ask<H: Handler>(
+    alloc: Global,
+    handler: &H,
+    tenants: &Tenants<H>,
+    step: &Step,
+) -> Result<Option<Ask<H>>, NoMemory>
+    ensures { IfOk result (λ a. (w : Option World) (records : List Record) → StandsAt H.meaning (addressed step.now).0 (get bytes_eq tenants.now (addressed step.now).0) w records → a ≡ needs_at H.meaning w (addressed step.now).1) }
+{
+    let Some(tenant) = tenants.get(step.tenant()) else {
+        return Ok(None);
+    };
+    let own_step = step.tenant_step(alloc)?;
+    tenant.prepare(alloc, handler, &own_step)
+}
+
+/// Does a step of an open tenant by a turn that was worked, if it needs no other.
+fn answer_open_with<H: Handler, S: Store>(
+    alloc: Global,
+    handler: &H,
+    tenant: &mut Tenant<H>,
+    name: &TenantName,
+    step: TenantStep,
+    worked: Done<H>,
+    log: &mut SharedLog<S>,
+) -> Result<Option<Answer>, NoMemory>
+    ensures fresh { IfOk result (λ o. (w : Option World) → StandsAt H.meaning name.now (Some tenant.old) w log.old.records → WasFresh (needs_at H.meaning w step) worked.input o) }
+    ensures kept { IfOk result (λ o. IfSome o (λ a. a.kept ≡ a.reply)) }
+    ensures steps { IfOk result (λ o. IfSome o (λ a. (w : Option World) → StandsAt H.meaning name.now (Some tenant.old) w log.old.records → StepsAt H.meaning name.now w (Some tenant.new) step a.said a.reply log.new.records)) }
+    ensures logs { IfOk result (λ o. IfSome o (λ a. (w : Option World) → StandsAt H.meaning name.now (Some tenant.old) w log.old.records → LogsAt H.meaning name.now w step a.said log.old log.new)) }
+    ensures unopened { IfOk result (λ o. IfSome o (λ a. (w : Option World) → StandsAt H.meaning name.now (Some tenant.old) w log.old.records → opened_by name.now step a.reply ≡ [])) }
+    ensures others_stand { KeepsOthers H.meaning name.now log.old.records log.new.records }
+    ensures stale { IfOk result (λ o. IfNone o (tenant.new ≡ tenant.old)) }
+    ensures stale_log { IfOk result (λ o. IfNone o (log.new.records ≡ log.old.records)) }
+    ensures err { OnErr result (tenant.new ≡ tenant.old) }
+    ensures err_log { OnErr result (log.new.records ≡ log.old.records) }
+{
+    tenant.step_with(alloc, handler, name, step, worked, log)
+}
+
+/// Does a step of any tenant by a turn that was worked, if it needs no other. Where there is no
+/// answer, or no memory was found, nothing is changed.
+pub(crate) fn answer_with<H: Handler, S: Store>(
+    alloc: Global,
+    handler: &H,
+    tenants: &mut Tenants<H>,
+    log: &mut SharedLog<S>,
+    step: &Step,
+    worked: Done<H>,
+) -> Result<Option<Answer>, NoMemory>
+    ensures fresh { IfOk result (λ o. (w : Option World) → StandsAt H.meaning (addressed step.now).0 (get bytes_eq tenants.old (addressed step.now).0) w log.old.records → WasFresh (needs_at H.meaning w (addressed step.now).1) worked.input o) }
+    ensures kept { IfOk result (λ o. IfSome o (λ a. a.kept ≡ a.reply)) }
+    ensures answered { IfOk result (λ o. IfSome o (λ a. IsAnswered H.meaning step.now a.said a.reply (holding tenants.old log.old) (holding tenants.new log.new))) }
+    ensures stale { IfOk result (λ o. IfNone o (IsKept (holding tenants.old log.old) (holding tenants.new log.new))) }
+    ensures err { OnErr result (IsKept (holding tenants.old log.old) (holding tenants.new log.new)) }
+{
+    let own_step = step.tenant_step(alloc)?;
+    let name = step.tenant();
+    if let Some(opened) = tenants.get_mut(name) {
+        return answer_open_with(alloc, handler, opened, name, own_step, worked, log);
+    }
+    let answer = answer_unopened(alloc, handler, tenants, name, own_step)?;
+    Ok(Some(answer))
 }

@@ -1,15 +1,17 @@
 //! The book of all tenants.
 
-ghost use Rattle.std.specs.Prelude.{◌≡◌, [], IfOk, OnErr, MatchOption, None, Some};
+ghost use Rattle.std.specs.Prelude.{◌≡◌, ◌+◌, ◌≤◌, [], ◌∷◌, ◌++◌, IfOk, OnOk, OnErr, MatchOption, None, Some, vec_len, vec_capacity};
 ghost use Rattle.model.specs.Alone.{alone};
 ghost use Rattle.model.specs.History.{IsLegal, own, pairs, replies_to};
 ghost use Rattle.model.specs.declared.replies.Who.TheVariants.{Caller};
 ghost use Rattle.book.specs.Certificates.{CertifiesAt, IsHeadline, certificate_at, seats_at};
+ghost use Rattle.book.specs.Commits.{Commits, needed};
 ghost use Rattle.book.specs.Entries.{IsEntered};
 ghost use Rattle.book.specs.History.{IsIsolated, IsRecorded, Ran, opened, released_at, table_at, world_of};
 
-use crate::answer::{Tenants, answer, memory_reply};
-use handler::Handler;
+use crate::answer::{Tenants, answer, answer_with, ask, memory_reply};
+use crate::committed::Committed;
+use handler::{Ask, Done, Handler};
 use indexmap::IndexMap;
 use model::{Entry, Move, NoMemory, Reply, Row, Seat, Step, TenantName, Text, Unit, Who};
 use stable_log::{SharedLog, Store};
@@ -51,7 +53,7 @@ impl<H: Handler, S: Store> Book<H, S> {
         Book {
             alloc,
             handler,
-            log: SharedLog::new(store),
+            log: SharedLog::new(alloc, store),
             tenants: IndexMap::new(alloc),
             history: Vec::new(alloc),
         }
@@ -75,7 +77,7 @@ impl<H: Handler, S: Store> Book<H, S> {
     pub fn step_as(&mut self, who: Who, step: Step) -> Reply
         ensures { IsEntered self.old who step result self.new }
     {
-        if self.history.reserve(1).is_err() {
+        if reserve_place(&mut self.history).is_err() {
             return memory_reply(&step);
         }
         let done = answer(
@@ -87,16 +89,43 @@ impl<H: Handler, S: Store> Book<H, S> {
         );
         match done {
             Err(_) => memory_reply(&step),
-            Ok(answer) => {
-                let Answer { said, reply, kept } = answer;
-                self.history.push_reserved(Entry {
-                    who,
-                    step,
-                    said,
-                    reply: kept,
-                });
-                reply
-            }
+            Ok(answer) => enter(&mut self.history, who, step, answer),
+        }
+    }
+
+    /// The whole input of the turn that the step now needs, if it needs one: a post or a delivery
+    /// needs one, unless it is refused before its turn. Whoever works it may do so beside the book,
+    /// and commit it with `step_with`. `NoMemory` comes where there is none for the copies.
+    pub fn prepare(&self, step: &Step) -> Result<Option<Ask<H>>, NoMemory>
+        ensures { IfOk result (λ a. a ≡ needed H.meaning self.now.history step.now) }
+    {
+        ask(self.alloc, &self.handler, &self.tenants, step)
+    }
+
+    /// Does a step that this one gave by a turn that was worked, and enters it with its reply, as
+    /// `step_as` does.
+    ///
+    /// The step is given back, with nothing changed, exactly where it now needs a turn of another
+    /// whole input (seat, state, source and text). Where there is no memory for it the answer is as
+    /// that of `step_as`.
+    pub fn step_with(&mut self, who: Who, step: Step, worked: Done<H>) -> Committed
+        ensures { Commits H.meaning self.old who step worked.input result self.new }
+    {
+        if reserve_place(&mut self.history).is_err() {
+            return Committed::Reply(memory_reply(&step));
+        }
+        let done = answer_with(
+            self.alloc,
+            &self.handler,
+            &mut self.tenants,
+            &mut self.log,
+            &step,
+            worked,
+        );
+        match done {
+            Err(_) => Committed::Reply(memory_reply(&step)),
+            Ok(None) => Committed::Stale(step),
+            Ok(Some(answer)) => Committed::Reply(enter(&mut self.history, who, step, answer)),
         }
     }
 
@@ -206,6 +235,31 @@ impl<H: Handler, S: Store> Book<H, S> {
     {
         self.certificate_moves(alloc, tenant)
     }
+}
+
+/// Room for one more entry. `NoMemory` comes where there is none.
+fn reserve_place(history: &mut Vec<Entry>) -> Result<(), NoMemory>
+    ensures same { history.new.items ≡ history.old.items }
+    ensures room { OnOk result (vec_len history.new + 1 ≤ vec_capacity history.new) }
+{
+    history.reserve(1)?;
+    Ok(())
+}
+
+/// Enters a step with its answer in reserved room, and gives the reply.
+fn enter(history: &mut Vec<Entry>, who: Who, step: Step, answer: Answer) -> Reply
+    requires { vec_len history.old + 1 ≤ vec_capacity history.old }
+    ensures entered { history.new.items ≡ history.old.items ++ record { who = who; step = step; said = answer.said; reply = answer.kept } ∷ [] }
+    ensures reply { result ≡ answer.reply }
+{
+    let Answer { said, reply, kept } = answer;
+    history.push_reserved(Entry {
+        who,
+        step,
+        said,
+        reply: kept,
+    });
+    reply
 }
 
 /// Equal names.

@@ -10,6 +10,8 @@
 //! - `Book::step`, `step_as` and `run` do steps. A step is entered with the reply that is given,
 //!   or there was no memory for it, and then nothing changed. Both copies of a reply are made
 //!   before the step has any effect.
+//! - `Book::prepare` and `step_with` part a step from the working of its turn: the turn can be
+//!   worked beside the book, and is taken only if the step still needs that very input.
 //! - `Book::history` gives the entries. They are legal, and what the store said in them is honest.
 //! - `Book::tenants`, `replies_of`, `released` and `rollbacks` read what the history says of a
 //!   tenant.
@@ -25,8 +27,10 @@
 
 mod answer;
 mod book;
+mod committed;
 
 pub use book::{Book, headline, isolated};
+pub use committed::Committed;
 
 #[cfg(test)]
 mod tests;

@@ -1,11 +1,12 @@
 -- A shelf rises after each call.
-use Rattle.std.proofs.Common.{◌≡◌, ◌≢◌, inl, inr, refl, ◌∙◌, ap, ℕ, zero, suc, ◌+◌, ◌<◌, Bool, true, false, cond, ◌||◌, List, [], ◌∷◌, ◌++◌, length, take, drop, arith, length-append}
+use Rattle.std.proofs.Common.{◌≡◌, ◌≢◌, inl, inr, refl, ◌∙◌, ap, ℕ, suc, ◌+◌, ◌<◌, Bool, true, false, cond, ◌||◌, List, [], ◌∷◌, ◌++◌, length, take, drop, arith, length-append}
 use Rattle.std.specs.Prelude.{Option, Some, None, slice_get, nat_lt}
 use Rattle.std.specs.List.{list_any, remove}
+use Rattle.std.specs.Option.{option_map_or}
 use Rattle.std.proofs.lemmas.Option.{slice_get_within}
-use Rattle.theory.proofs.ListLaws.{get_append, get_take, at_any, same_some, true_eq}
+use Rattle.theory.proofs.ListLaws.{get_append, get_drop, get_take, at_any, same_some, true_eq}
 use Rattle.checkpoint.specs.declared.snapshot.Snapshot.{Snapshot}
-use Rattle.checkpoint.specs.Shelves.{Shelved, Rises, IsShelved, IsTop, option_any, is_at, has_index, with_room}
+use Rattle.checkpoint.specs.Shelves.{Shelved, Rises, IsShelved, IsTop, is_at, has_index, with_room}
 
 -- an empty shelf
 pub rises_none : {S : Type 0} → Rises {S = S} None []
@@ -17,11 +18,6 @@ rises_take base others n r = record {
   above = λ b i x e f. r.above b i x e (get_take others n i x f).0;
   rising = λ i j x y h e f. r.rising i j x y h (get_take others n i x e).0 (get_take others n j y f).0;
 }
-
-get_drop : {X : Type 0} (xs : List X) (n i : ℕ) (x : X) → slice_get (drop n xs) i ≡ Some x → slice_get xs (n + i) ≡ Some x
-get_drop xs zero i x e = let k : 0 + i ≡ i = omega arith in rw k e
-get_drop [] (suc n) i x e = cc
-get_drop (y ∷ xs) (suc n) i x e = let k : suc n + i ≡ suc (n + i) = omega arith in rw k (get_drop xs n i x e)
 
 -- what is behind one of the others, with that one as the base
 pub rises_based : {S : Type 0} (base : Option (Snapshot S)) (others : List (Snapshot S)) (at : ℕ) (b : Snapshot S) → slice_get others at ≡ Some b → Rises base others → Rises (Some b) (drop (at + 1) others)
@@ -44,8 +40,8 @@ with_room_at others i x e = go (nat_lt (length others) 64) e
 
 -- a snapshot that is not at the index of another
 not_at : {S : Type 0} (s : Shelved S) (index : ℕ) (x : Snapshot S) → has_index s index ≡ false → IsShelved s x → x.index ≢ index
-not_at s index x none (inl e) is = absurd (let t : option_any (is_at index) s.base ≡ true = rw e (true_eq x.index index is) in let k : has_index s index ≡ true = rw t refl in cc (k, none))
-not_at s index x none (inr t) is = absurd (go (option_any (is_at index) s.base) (at_any (is_at index) s.others t.0 x t.1 (true_eq x.index index is)) none)
+not_at s index x none (inl e) is = absurd (let t : option_map_or (is_at index) s.base false ≡ true = rw e (true_eq x.index index is) in let k : has_index s index ≡ true = rw t refl in cc (k, none))
+not_at s index x none (inr t) is = absurd (go (option_map_or (is_at index) s.base false) (at_any (is_at index) s.others t.0 x t.1 (true_eq x.index index is)) none)
   where
     go : (b : Bool) → list_any (is_at index) s.others ≡ true → (b || list_any (is_at index) s.others) ≡ false → ⊥
     go true p q = cc

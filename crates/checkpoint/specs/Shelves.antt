@@ -1,6 +1,7 @@
 -- What the calls on a shelf give.
 use Rattle.std.specs.Prelude.{◌≡◌, ◌⊎◌, ℕ, ◌+◌, ◌<◌, ◌≤◌, Bool, false, cond, ◌||◌, ◌==◌, nat_lt, nat_le, List, [], ◌∷◌, ◌++◌, length, drop, Option, Some, None, option_and_then, slice_get}
 use Rattle.std.specs.List.{fold, list_any, position_or_len, remove, take_while}
+use Rattle.std.specs.Option.{option_map_or}
 use Rattle.checkpoint.specs.declared.snapshot.Snapshot.{Snapshot}
 
 -- the snapshot that never goes, and the others in the order of putting
@@ -21,16 +22,12 @@ IsShelved s x = (s.base ≡ Some x) ⊎ ((i : ℕ) × (slice_get s.others i ≡ 
 abbrev pub IsTop : {S : Type 0} → Shelved S → ℕ → Type 0
 IsTop s index = (x : _) → IsShelved s x → x.index ≤ index
 
-abbrev pub option_any : {X : Type 0} → (X → Bool) → Option X → Bool
-option_any p None = false
-option_any p (Some x) = p x
-
 abbrev pub is_at : {S : Type 0} → ℕ → Snapshot S → Bool
 is_at index x = x.index == index
 
 -- a snapshot of this index is shelved
 abbrev pub has_index : {S : Type 0} → Shelved S → ℕ → Bool
-has_index s index = option_any (is_at index) s.base || list_any (is_at index) s.others
+has_index s index = option_map_or (is_at index) s.base false || list_any (is_at index) s.others
 
 -- at most 64 others: the one first put goes
 abbrev pub with_room : {S : Type 0} → List (Snapshot S) → List (Snapshot S)

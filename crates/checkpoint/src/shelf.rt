@@ -1,9 +1,9 @@
 //! The shelf and its calls.
 
-ghost use Rattle.std.specs.Prelude.{◌≡◌, ◌≤◌, [], ◌∷◌, ◌++◌, None, IfOk, IsTrue, OnErr, MatchOption, Some, ◌+◌, ◌<◌, drop, nat_lt, slice_get, length};
+ghost use Rattle.std.specs.Prelude.{◌≡◌, ◌≤◌, [], ◌∷◌, ◌++◌, None, IfOk, IsTrue, OnErr, MatchOption, Some, ◌+◌, ◌<◌, drop, false, nat_lt, slice_get, length};
 ghost use Rattle.std.specs.List.{list_any, position_or_len, prefix_len};
-ghost use Rattle.std.specs.Option.{option_copied};
-ghost use Rattle.checkpoint.specs.Shelves.{based_at, cut_at, has_index, is_at, later_of as later_by, nearest_of, option_any, put_on, with_room, AllAbove, IsNearest, IsTop, Rises};
+ghost use Rattle.std.specs.Option.{option_copied, option_map_or};
+ghost use Rattle.checkpoint.specs.Shelves.{based_at, cut_at, has_index, is_at, later_of as later_by, nearest_of, put_on, with_room, AllAbove, IsNearest, IsTop, Rises};
 
 use crate::snapshot::Snapshot;
 use ident::{MAX_CHECKPOINTS, NoMemory};
@@ -140,7 +140,7 @@ fn take_at<S: Drop>(others: &mut Vec<Snapshot<S>>, at: usize) -> Snapshot<S>
 }
 
 fn is_base_at<S>(base: &Option<Snapshot<S>>, index: u32) -> bool
-    ensures { result ≡ option_any (is_at index) base.now }
+    ensures { result ≡ option_map_or (is_at index) base.now false }
 {
     match base {
         Some(base) => base.index == index,

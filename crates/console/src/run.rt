@@ -12,7 +12,7 @@ use std::alloc::Global;
 use std::io::{BufReader, BufWriter, Read, Write};
 
 /// Bytes that are read or written at once.
-const BLOCK: usize = 65536;
+pub(crate) const BLOCK: usize = 65536;
 
 /// Answers each line of the input, over a store that acknowledged nothing yet, and tells the status
 /// to end with: 0 where all lines are answered, 1 after a fault of input, output or memory. With

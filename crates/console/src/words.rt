@@ -1,13 +1,16 @@
 //! The words of the command line.
 
 use clap::error::ErrorKind;
-use clap::{Arg, ArgAction, Command, Error};
+use clap::{Arg, ArgAction, ArgMatches, Command, Error};
+use ident::MAX_FEEDS;
 use std::alloc::Global;
 
 /// What the words ask for.
 pub(crate) enum Asked<'a> {
     /// `recall run`.
     Run(RunWords<'a>),
+    /// `recall feeds`.
+    Feeds(FeedsWords<'a>),
     /// Help was printed, or the words were bad: the status to end with.
     Ended(u8),
 }
@@ -21,11 +24,23 @@ pub(crate) struct RunWords<'a> {
     pub log: Option<&'a str>,
 }
 
+/// What `recall feeds` is to do.
+#[derive(Debug, Drop)]
+pub(crate) struct FeedsWords<'a> {
+    /// Audit the tenants after the last reply.
+    pub audit: bool,
+    /// The files of the feeds, in order.
+    pub files: Vec<&'a str>,
+}
+
 /// The flag that asks for audit lines.
 const AUDIT: &str = "audit";
 
 /// The option that names the log's file.
 const LOG: &str = "log";
+
+/// The files of the feeds.
+const FILE: &str = "FILE";
 
 const EXAMPLE: &str =
     "Example:\n  printf '%s\\n' '{\"do\":\"open\",\"tenant\":\"a\",\"units\":[\"echo\"]}' | recall run";
@@ -35,9 +50,8 @@ pub(crate) fn read_words<'a, R: Print + Eprint + AllocGlobal>(
     rt: &R,
     words: &'a [String],
 ) -> Asked<'a> {
-    match read_run(rt, words) {
-        Ok(Some(run)) => Asked::Run(run),
-        Ok(None) => Asked::Ended(2),
+    match read_command(rt, words) {
+        Ok(asked) => asked,
         Err(error) => {
             let status = status_of(&error);
             let _ = error.print(rt);
@@ -54,6 +68,16 @@ fn status_of(error: &Error) -> u8 {
     }
 }
 
+/// The flag that asks for audit lines.
+fn audit_flag<'a>(alloc: Global) -> Arg<'a> {
+    Arg::new(alloc, AUDIT)
+        .long(AUDIT)
+        .action(ArgAction::SetTrue)
+        .help(
+            "After the last reply, writes a line for each open tenant that tells whether a run without failures puts out what was released",
+        )
+}
+
 /// The command `run`.
 fn run_command<'a>(alloc: Global) -> Result<Command<'a>, Error> {
     let run = Command::new(alloc, "run")
@@ -64,22 +88,37 @@ fn run_command<'a>(alloc: Global) -> Result<Command<'a>, Error> {
                 "Makes FILE anew, and writes a line to it for each record that is logged",
             ),
         )?
-        .arg(
-            Arg::new(alloc, AUDIT)
-                .long(AUDIT)
-                .action(ArgAction::SetTrue)
-                .help(
-                    "After the last reply, writes a line for each open tenant that tells whether a run without failures puts out what was released",
-                ),
-        )?;
+        .arg(audit_flag(alloc))?;
     Ok(run)
 }
 
-/// What `run` is to do, where the words ask for it.
-fn read_run<'a, R: AllocGlobal>(
-    rt: &R,
-    words: &'a [String],
-) -> Result<Option<RunWords<'a>>, Error> {
+/// The command `feeds`.
+fn feeds_command<'a>(alloc: Global) -> Result<Command<'a>, Error> {
+    let feeds = Command::new(alloc, "feeds")
+        .about(
+            "Runs the step lines of 1 to 64 files as feeds, all at once, and then writes the reply lines, file by file",
+        )
+        .arg(
+            Arg::new(alloc, FILE)
+                .required(true)
+                .num_args(1..=MAX_FEEDS)
+                .help("The step lines of a feed"),
+        )?
+        .arg(audit_flag(alloc))?;
+    Ok(feeds)
+}
+
+/// The files that the words name.
+fn files_of<'a>(alloc: Global, feeds: &ArgMatches<'a>) -> Result<Vec<&'a str>, Error> {
+    let mut files = Vec::new(alloc);
+    for file in feeds.get_strs(FILE).unwrap_or(&[]) {
+        files.push(*file)?;
+    }
+    Ok(files)
+}
+
+/// What the words ask for.
+fn read_command<'a, R: AllocGlobal>(rt: &R, words: &'a [String]) -> Result<Asked<'a>, Error> {
     let alloc = rt.alloc();
     // The words' first is the name of the file that runs, which need not be `recall`.
     let words = words.get(1..).unwrap_or(&[]);
@@ -89,13 +128,20 @@ fn read_run<'a, R: AllocGlobal>(
         .about("A multi-tenant optimistic recovery runtime")
         .after_help(EXAMPLE)
         .subcommand_required(true)
-        .subcommand(run_command(alloc)?)?;
+        .subcommand(run_command(alloc)?)?
+        .subcommand(feeds_command(alloc)?)?;
     let matches = recall.try_get_matches_from(words)?;
-    match matches.subcommand_matches("run") {
-        Some(run) => Ok(Some(RunWords {
+    if let Some(run) = matches.subcommand_matches("run") {
+        return Ok(Asked::Run(RunWords {
             audit: run.get_flag(AUDIT),
             log: run.get_str(LOG),
-        })),
-        None => Ok(None),
+        }));
     }
+    if let Some(feeds) = matches.subcommand_matches("feeds") {
+        return Ok(Asked::Feeds(FeedsWords {
+            audit: feeds.get_flag(AUDIT),
+            files: files_of(alloc, feeds)?,
+        }));
+    }
+    Ok(Asked::Ended(2))
 }

@@ -1,11 +1,11 @@
 -- What the calls on a dependency vector give, over the list of its marks.
-use Rattle.std.specs.Prelude.{ℕ, ◌-◌, List, [], ◌∷◌, ◌++◌, length, replicate, slice_get, unwrap_or}
+use Rattle.std.specs.Prelude.{ℕ, ◌-◌, List, [], ◌∷◌, ◌++◌, length, replicate, slice_index_or}
 use Rattle.model.specs.declared.names.Mark.{Mark}
 use Rattle.model.specs.World.{greater_mark, no_mark}
 
 -- the mark of a unit, that of its beginning where the vector has no entry for it
 abbrev pub mark_for : List Mark → ℕ → Mark
-mark_for vector unit = unwrap_or (slice_get vector unit) no_mark
+mark_for vector unit = slice_index_or vector unit no_mark
 
 -- each of n units at its beginning
 abbrev pub begun : ℕ → List Mark

@@ -1,6 +1,6 @@
 //! The trait of handlers, and its law.
 
-ghost use Rattle.std.specs.Prelude.{◌≡◌, IfOk};
+ghost use Rattle.std.specs.Prelude.{◌≡◌, IfOk, true};
 
 use crate::turn::Turn;
 use ident::{Kind, NoMemory, Seat, Source};
@@ -9,7 +9,8 @@ use std::alloc::Global;
 /// What handles the messages of units (deterministic within an interval, Strom and Yemini 1985).
 ///
 /// The law: each answer is the value of the type's `meaning` for the same arguments, one meaning
-/// for all values of the type, or there was no memory for it.
+/// for all values of the type, or there was no memory for it. A copy of a state equals it, and
+/// states that compare equal are equal.
 pub trait Handler: Drop {
     ghost use Rattle.model.specs.Handler.{Meaning};
 
@@ -40,4 +41,8 @@ pub trait Handler: Drop {
         text: &str,
     ) -> Result<Turn<Self::State>, NoMemory>
         ensures { IfOk result (λ t. t ≡ meaning.handle seat state.now source text.now) };
+
+    /// States that compare equal are equal. It stands last, since what stands behind it can't be
+    /// named in it.
+    ghost equality: { (a b : Self.State) → Self.State.eq a b ≡ true → a ≡ b };
 }

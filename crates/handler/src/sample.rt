@@ -2,6 +2,7 @@
 
 ghost use Rattle.std.specs.Prelude.{◌≡◌, ◌<◌, ◌+◌, ◌-◌, ◌*◌, ◌&&◌, nat_le, IfOk, MatchOption, List, ℕ, ◌∷◌, [], true, false, codes};
 ghost use Rattle.std.specs.List.{list_all};
+ghost use Rattle.handler.specs.States.{states_equal};
 ghost use Rattle.model.specs.Handler.{Turn as TurnOf};
 ghost use Rattle.model.specs.Sample.{State, sample, echo, relay, tee, count, tell, adder, greatest, is_number, value_of, number_in};
 
@@ -184,6 +185,8 @@ impl Handler for Sample {
     type State = Option<u64>;
 
     ghost meaning = { sample };
+
+    ghost equality = { states_equal };
 
     fn copy(&self, _alloc: Global, state: &Option<u64>) -> Result<Option<u64>, NoMemory> {
         Ok(*state)

@@ -1,11 +1,13 @@
 -- Laws of rows that are filed by unit.
-use Rattle.std.proofs.Common.{◌≡◌, ◌≢◌, inl, inr, refl, sym, ◌∙◌, ap, subst, ℕ, zero, suc, ◌+◌, ◌-◌, ◌<◌, ◌≤◌, Bool, true, false, cond, max, ◌||◌, ◌&&◌, List, [], ◌∷◌, ◌++◌, length, take, arith, length-append, zero-add}
+use Rattle.std.proofs.Common.{◌≡◌, inl, inr, refl, sym, ◌∙◌, ap, subst, ℕ, zero, suc, ◌+◌, ◌-◌, ◌<◌, ◌≤◌, Bool, true, false, cond, max, ◌||◌, ◌&&◌, List, [], ◌∷◌, ◌++◌, length, take, arith, length-append, zero-add}
 use Rattle.std.proofs.lemmas.List.{append-nil}
-use Rattle.std.specs.Prelude.{Option, Some, None, slice_get, slice_set, ◌==◌, nat_lt, nat_le, IsTrue, ◌↔◌, slice_index, map}
+use Rattle.std.proofs.lemmas.List.Elements.{filter-append}
+use Rattle.std.specs.Prelude.{Option, Some, None, slice_get, ◌==◌, nat_lt, nat_le, IsTrue, ◌↔◌, slice_index}
 use Rattle.model.specs.declared.names.Row.{Row}
 use Rattle.model.specs.declared.names.Mark.{Mark}
 use Rattle.model.specs.World.{incarnation_of}
-use Rattle.theory.proofs.ListLaws.{bool_cases, eq_true, true_eq, same_some, any_at, at_any, and_both, both_and, get_take, take_get, get_append, lt_true, true_lt, le_true, true_le, or_cases, or_left, or_right, get_below}
+use Rattle.theory.proofs.ListLaws.{bool_cases, eq_true, true_eq, same_some, any_at, at_any, and_both, both_and, get_take, take_get, get_append, lt_true, true_lt, le_true, true_le, or_cases, or_left, or_right, get_below, index_map}
+use Rattle.theory.proofs.VectorLaw.{same_bools}
 use Rattle.theory.specs.Laws.{mark_told, mark_lost}
 use Rattle.incarnation.specs.Rows.{rows_of}
 use Rattle.std.proofs.lemmas.Option.{slice_get_within}
@@ -20,12 +22,7 @@ if_of r unit x = cond (r.unit == unit) (x ∷ []) []
 -- ---- one more row
 
 pub rows_of-append : (rows : List Row) (r : Row) (unit : ℕ) → rows_of (rows ++ r ∷ []) unit ≡ rows_of rows unit ++ if_of r unit r
-rows_of-append [] r unit = refl
-rows_of-append (q ∷ rows) r unit = go _ _ _ (q.unit == unit) (rows_of-append rows r unit)
-  where
-    go : (xs ys zs : List Row) (b : Bool) → xs ≡ ys ++ zs → cond b (q ∷ xs) xs ≡ cond b (q ∷ ys) ys ++ zs
-    go xs ys zs true e = ap (λ t. q ∷ t) e
-    go xs ys zs false e = e
+rows_of-append rows r unit = filter-append (λ q. q.unit == unit) rows (r ∷ [])
 
 pub places_from-append : (k : ℕ) (rows : List Row) (r : Row) (unit : ℕ) → places_from k (rows ++ r ∷ []) unit ≡ places_from k rows unit ++ if_of r unit (k + length rows)
 places_from-append k [] r unit = ap (λ p. if_of r unit p) (let e : k ≡ k + 0 = omega arith in e)
@@ -107,11 +104,6 @@ places_long (q ∷ rows) k unit = go _ _ (q.unit == unit) (places_long rows (k +
 
 -- ---- the look-ups
 
-same_bool : (a b : Bool) → (a ≡ true → b ≡ true) → (b ≡ true → a ≡ true) → a ≡ b
-same_bool true b f g = sym (f refl)
-same_bool false true f g = g refl
-same_bool false false f g = refl
-
 below_some : (known : ℕ) (o : Option ℕ) → place_below known o ≡ true → (p : ℕ) × (o ≡ Some p) × (p < known)
 below_some known None e = cc
 below_some known (Some p) e = (p, refl, lt_true p known e)
@@ -122,7 +114,7 @@ not_zero (suc n) e = omega arith
 
 -- one look at the places tells whether a row is known
 pub tells_is : (rows : List Row) (f : Filed) (known unit : ℕ) (mark : Mark) → Ordered rows → f ≡ filed_of rows unit → is_told_by f known mark ≡ mark_told (take known rows) unit mark
-tells_is rows f known unit mark o is = rw is (same_bool (is_told_by (filed_of rows unit) known mark) (mark_told (take known rows) unit mark) there back)
+tells_is rows f known unit mark o is = rw is (same_bools (is_told_by (filed_of rows unit) known mark) (mark_told (take known rows) unit mark) there back)
   where
     incarnation : ℕ
     incarnation = mark.incarnation
@@ -164,7 +156,7 @@ tells_is rows f known unit mark o is = rw is (same_bool (is_told_by (filed_of ro
 
 -- the rows of later incarnations tell whether a mark is lost
 pub loses_is : (rows : List Row) (f : Filed) (known unit : ℕ) (mark : Mark) (b : Bool) → Ordered rows → f ≡ filed_of rows unit → (IsTrue b ↔ LosesAt f known mark) → b ≡ mark_lost (take known rows) unit mark
-loses_is rows f known unit mark b o same_f is = same_bool b (mark_lost (take known rows) unit mark) there back
+loses_is rows f known unit mark b o same_f is = same_bools b (mark_lost (take known rows) unit mark) there back
   where
     loses_by : Row → Bool
     loses_by r = (r.unit == unit) && (nat_lt mark.incarnation r.incarnation && nat_le r.start mark.index)
@@ -197,24 +189,6 @@ same_filed : {xs ys : List Row} {ps qs : List ℕ} → xs ≡ ys → ps ≡ qs �
 same_filed {xs} {ys} {ps} {qs} e d = ap (λ zs. let f : Filed = record { rows = zs; places = ps } in f) e ∙ ap (λ zs. let f : Filed = record { rows = ys; places = zs } in f) d
 
 -- ---- files are kept
-
-pub filed_at-set_same : (files : List Filed) (unit : ℕ) (x : Filed) → unit < length files → filed_at (slice_set files unit x) unit ≡ x
-filed_at-set_same [] unit x h = absurd (omega arith)
-filed_at-set_same (y ∷ files) zero x h = refl
-filed_at-set_same (y ∷ files) (suc unit) x h = filed_at-set_same files unit x (omega arith)
-
-pub filed_at-set_other : (files : List Filed) (unit other : ℕ) (x : Filed) → other ≢ unit → filed_at (slice_set files unit x) other ≡ filed_at files other
-filed_at-set_other [] unit other x h = refl
-filed_at-set_other (y ∷ files) zero zero x h = absurd (h refl)
-filed_at-set_other (y ∷ files) zero (suc other) x h = refl
-filed_at-set_other (y ∷ files) (suc unit) zero x h = refl
-filed_at-set_other (y ∷ files) (suc unit) (suc other) x h = filed_at-set_other files unit other x (λ e. h (ap suc e))
-
-pub filed_at-push : (files : List Filed) (unit : ℕ) → filed_at (files ++ nothing_filed ∷ []) unit ≡ filed_at files unit
-filed_at-push [] zero = refl
-filed_at-push [] (suc unit) = refl
-filed_at-push (y ∷ files) zero = refl
-filed_at-push (y ∷ files) (suc unit) = filed_at-push files unit
 
 pub files_none : Files [] []
 files_none = record { filed = λ u. refl; ordered = record { counted = λ u. refl; in_order = λ u j r e. cc } }
@@ -298,11 +272,6 @@ latest_none rows unit o none = let c = o.counted unit in let l = ap (λ (x : Fil
 
 -- ---- the first row that loses a mark
 
-start_at : (rows : List Row) (i : ℕ) (r : Row) → slice_get rows i ≡ Some r → slice_index (map (λ (q : Row). q.start) rows) i ≡ r.start
-start_at [] i r e = cc
-start_at (q ∷ rows) zero r e = ap (λ (x : Row). x.start) (same_some q r e)
-start_at (q ∷ rows) (suc i) r e = start_at rows i r e
-
 -- no rows are filed
 pub filed_none : IsFiled [] [] []
 filed_none = record { long = refl; same = refl; rising = λ i j p q h e f. cc }
@@ -346,12 +315,12 @@ first_loses f starts known mark at index b filed same_index first is = (there, b
         let all = length-map f.rows (λ (q : Row). q.start) in
         let same = ap length filed.same in
         let low = first.low (omega (arith, within, long, all, same)) in
-        let start = ap (λ z. slice_index z at) filed.same ∙ start_at f.rows at r.0 r.1 in
+        let start = ap (λ z. slice_index z at) filed.same ∙ index_map (λ (q : Row). q.start) f.rows at r.0 r.1 in
         record { at = at; row = r.0; place = p.0; later = first.after; has_row = r.1; has_place = p.1; is_known = p.2; starts = omega (arith, low, start, same_index) }
 
     back : LosesAt f known mark → IsTrue b
     back l =
-        let start = ap (λ z. slice_index z l.at) filed.same ∙ start_at f.rows l.at l.row l.has_row in
+        let start = ap (λ z. slice_index z l.at) filed.same ∙ index_map (λ (q : Row). q.start) f.rows l.at l.row l.has_row in
         let before : at ≤ l.at = elim (dec_lt l.at at) [
           | no q ↦ omega (arith, q)
           | yes q ↦ absurd (let t = first.high l.at l.later q in let k = l.starts in omega (arith, t, k, start, same_index))

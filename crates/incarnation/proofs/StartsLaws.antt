@@ -1,5 +1,6 @@
 -- Laws of lows.
-use Rattle.std.proofs.Common.{◌≡◌, refl, ℕ, zero, suc, ◌+◌, ◌-◌, ◌<◌, ◌≤◌, List, [], ◌∷◌, ◌++◌, length, min, arith, length-append}
+use Rattle.std.proofs.Common.{◌≡◌, refl, ℕ, ◌+◌, ◌-◌, ◌<◌, ◌≤◌, List, [], ◌∷◌, ◌++◌, length, min, arith, length-append}
+use Rattle.std.proofs.lemmas.List.{get_or_append_left, get_or_push}
 use Rattle.std.specs.Prelude.{slice_index}
 use native.Mathlib.Decide.{dec_lt}
 use Rattle.incarnation.specs.Starts.{AllHigh, IsFirstLow, AreLows, IsBelowLast, Keeps, KeepsAll}
@@ -42,15 +43,6 @@ below_all xs low span wanted le h r within last = h r within (omega arith)
 
 -- ---- a number that is pushed
 
-index_before : (xs : List ℕ) (x r : ℕ) → r < length xs → slice_index (xs ++ x ∷ []) r ≡ slice_index xs r
-index_before [] x r h = absurd (omega arith)
-index_before (y ∷ xs) x zero h = refl
-index_before (y ∷ xs) x (suc r) h = index_before xs x r (omega arith)
-
-index_last : (xs : List ℕ) (x : ℕ) → slice_index (xs ++ x ∷ []) (length xs) ≡ x
-index_last [] x = refl
-index_last (y ∷ xs) x = index_last xs x
-
 -- the numbers are their own lows
 pub own_lows : (xs : List ℕ) → AreLows xs xs 1
 own_lows xs e r h le lt = let is : r ≡ e = omega arith in rw is (omega arith)
@@ -59,11 +51,11 @@ pub own_last : (xs : List ℕ) (x : ℕ) → IsBelowLast (xs ++ x ∷ []) x 1
 own_last xs x r within last =
     let long = length-append xs (x ∷ []) in
     let is : r ≡ length xs = omega (arith, within, last, long) in
-    rw (is, index_last xs x) (omega arith)
+    rw (is, get_or_push xs x 0 (length xs) refl) (omega arith)
 
 -- lows of the numbers are lows of more numbers
 pub lows_older : (xs lows : List ℕ) (x size : ℕ) → Keeps xs lows size → AreLows (xs ++ x ∷ []) lows size
-lows_older xs lows x size k e r h le lt = let long = k.long in rw (index_before xs x r (omega (arith, long, h, le))) (k.are e r h le lt)
+lows_older xs lows x size k e r h le lt = let long = k.long in rw (get_or_append_left xs (x ∷ []) 0 r (omega (arith, long, h, le))) (k.are e r h le lt)
 
 pub keeps_more : (xs lows : List ℕ) (x low size : ℕ) → Keeps xs lows size → IsBelowLast (xs ++ x ∷ []) low size → Keeps (xs ++ x ∷ []) (lows ++ low ∷ []) size
 keeps_more xs lows x low size k below = record { long = lengths; are = lows_are }
@@ -79,11 +71,11 @@ keeps_more xs lows x low size k below = record { long = lengths; are = lows_are 
 
     lows_are : AreLows (xs ++ x ∷ []) (lows ++ low ∷ []) size
     lows_are e r h le lt = elim (dec_lt e (length lows)) [
-      | yes q ↦ rw (index_before lows low e q) (lows_older xs lows x size k e r q le lt)
+      | yes q ↦ rw (get_or_append_left lows (low ∷ []) 0 e q) (lows_older xs lows x size k e r q le lt)
       | no q ↦
           let is : e ≡ length lows = omega (arith, h, long_lows) in
           let t = k.long in
-          rw (is, index_last lows low) (below r (omega (arith, le, is, t, long_xs)) (omega (arith, lt, is, t, long_xs)))
+          rw (is, get_or_push lows low 0 (length lows) refl) (below r (omega (arith, le, is, t, long_xs)) (omega (arith, lt, is, t, long_xs)))
     ]
 
 -- how a low is found
@@ -108,4 +100,4 @@ keeps_push xs of_16 of_256 of_4096 now now_16 now_256 now_4096 x a b c e f g h k
     })
   where
     own_older : (xs : List ℕ) (x : ℕ) → AreLows (xs ++ x ∷ []) xs 1
-    own_older xs x e r h le lt = let is : r ≡ e = omega arith in rw (is, index_before xs x e h) (omega arith)
+    own_older xs x e r h le lt = let is : r ≡ e = omega arith in rw (is, get_or_append_left xs (x ∷ []) 0 e h) (omega arith)

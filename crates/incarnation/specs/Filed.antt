@@ -1,5 +1,5 @@
 -- How a table files its rows by unit.
-use Rattle.std.specs.Prelude.{◌≡◌, ℕ, ◌+◌, ◌-◌, ◌<◌, ◌≤◌, Bool, false, cond, ◌||◌, ◌==◌, nat_lt, List, [], ◌∷◌, ◌++◌, length, Option, Some, None, slice_get, unwrap_or, map}
+use Rattle.std.specs.Prelude.{◌≡◌, ℕ, ◌+◌, ◌-◌, ◌<◌, ◌≤◌, Bool, false, cond, ◌||◌, ◌==◌, nat_lt, List, [], ◌∷◌, ◌++◌, length, Option, Some, None, slice_get, slice_index_or, map}
 use Rattle.model.specs.declared.names.Mark.{Mark}
 use Rattle.model.specs.declared.names.Row.{Row}
 use Rattle.model.specs.World.{incarnation_of}
@@ -24,7 +24,7 @@ filed_of rows unit = record { rows = rows_of rows unit; places = places_from 0 r
 
 -- what is filed for a unit; nothing past the end
 abbrev pub filed_at : List Filed → ℕ → Filed
-filed_at files unit = unwrap_or (slice_get files unit) nothing_filed
+filed_at files unit = slice_index_or files unit nothing_filed
 
 -- what is filed for a unit once this row with this place is filed
 abbrev pub with_row : Row → ℕ → ℕ → Filed → Filed

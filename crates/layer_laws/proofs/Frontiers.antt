@@ -1,13 +1,13 @@
 -- A unit's frontier tells which nodes of its path are firm, and so which held outputs can go.
-use Rattle.std.proofs.Common.{◌≡◌, refl, sym, ◌∙◌, ap, ℕ, zero, suc, ◌+◌, true, List, [], ◌∷◌, length, map}
-use Rattle.std.specs.Prelude.{Some, slice_get, slice_index, nat_lt}
+use Rattle.std.proofs.Common.{◌≡◌, refl, sym, ◌∙◌, ap, ℕ, ◌+◌, true, List, [], ◌∷◌, length, map}
+use Rattle.std.specs.Prelude.{Some, slice_get, nat_lt}
 use Rattle.std.specs.List.{take_while}
 use Rattle.std.proofs.lemmas.Option.{slice_get_within}
 use Rattle.model.specs.Handler.{Meaning}
 use Rattle.model.specs.Lists.{from_end}
 use Rattle.model.specs.Nodes.{node_at, begun}
 use Rattle.model.specs.World.{World, Member, executed, is_firm, mark_of, held, path_outputs}
-use Rattle.theory.proofs.ListLaws.{same_some, get_below, get_take_while, kept_if_all_pass, take_while_passes, lt_true, true_lt}
+use Rattle.theory.proofs.ListLaws.{same_some, get_below, get_drop, get_take_while, index_map, kept_if_all_pass, take_while_passes, lt_true, true_lt}
 use Rattle.theory.proofs.Invariants.{Sound}
 use Rattle.theory.proofs.Firm.{path_depends}
 use Rattle.theory.proofs.Fronts.{firm_past}
@@ -16,7 +16,7 @@ use Rattle.theory.proofs.Certificate.{reachable_invariant}
 use Rattle.output_commit.specs.declared.held.Held.{Held}
 use Rattle.output_commit.specs.Holds.{first_is_firm}
 use Rattle.layer_laws.specs.Laws.{frontier, is_first_firm, FrontiersTell}
-use Rattle.layer_laws.proofs.Fronts.{same_front, get_drop, pair_on_path}
+use Rattle.layer_laws.proofs.Fronts.{same_front, pair_on_path}
 
 -- a node of the path is firm just where it is before the frontier
 frontier_tells : (w : World) → Sound w → (u i x : ℕ) (m : Member) → slice_get w.members u ≡ Some m → slice_get m.path i ≡ Some x → nat_lt i (frontier w m) ≡ is_firm w x
@@ -33,11 +33,6 @@ frontier_tells w s u i x m found e = same_bools (nat_lt i (frontier w m)) (is_fi
         let o = s.units u m found in
         let kept = kept_if_all_pass (is_firm w) m.path i x e (λ j y le f. firm_past w x y s.placed (o.made i x e) firm (path_depends o i j x y e f le)) in
         true_lt i (frontier w m) (slice_get_within (take_while (is_firm w) m.path) i x kept)
-
-index_map : {X : Type 0} (f : X → ℕ) (xs : List X) (i : ℕ) (x : X) → slice_get xs i ≡ Some x → slice_index (map f xs) i ≡ f x
-index_map f [] i x e = cc
-index_map f (y ∷ xs) zero x e = ap f (same_some y x e)
-index_map f (y ∷ xs) (suc i) x e = index_map f xs i x e
 
 -- an output with the mark of its node
 abbrev marked : World → (ℕ × List ℕ) → Held

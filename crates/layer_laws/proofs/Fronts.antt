@@ -1,7 +1,8 @@
 -- Fronts of lists, under a map.
-use Rattle.std.proofs.Common.{◌≡◌, inl, inr, refl, sym, ◌∙◌, ap, ℕ, zero, suc, ◌+◌, Bool, cond, List, [], ◌∷◌, take, drop, arith, map}
+use Rattle.std.proofs.Common.{◌≡◌, inl, inr, refl, sym, ◌∙◌, ap, ℕ, suc, ◌+◌, Bool, cond, List, [], ◌∷◌, take, map}
 use Rattle.std.specs.Prelude.{Some, slice_get}
 use Rattle.std.specs.List.{prefix_len, take_while}
+use Rattle.std.proofs.lemmas.List.{take-map}
 use Rattle.theory.proofs.ListLaws.{get_append_any, map_at}
 use Rattle.theory.proofs.Released.{pairs_of}
 
@@ -10,19 +11,9 @@ pub same_prefix : {X Y : Type 0} (p : X → Bool) (q : Y → Bool) (f : X → Y)
 same_prefix p q f [] h = refl
 same_prefix p q f (x ∷ xs) h = rw (h 0 x refl) (ap (λ n. cond (p x) (1 + n) 0) (same_prefix p q f xs (λ i y e. h (suc i) y e)))
 
-pub take_map : {X Y : Type 0} (f : X → Y) (n : ℕ) (xs : List X) → take n (map f xs) ≡ map f (take n xs)
-take_map f zero xs = refl
-take_map f (suc n) [] = refl
-take_map f (suc n) (x ∷ xs) = ap (λ r. f x ∷ r) (take_map f n xs)
-
 -- and the same fronts
 pub same_front : {X Y : Type 0} (p : X → Bool) (q : Y → Bool) (f : X → Y) (xs : List X) → ((i : ℕ) (x : X) → slice_get xs i ≡ Some x → q (f x) ≡ p x) → take_while q (map f xs) ≡ map f (take_while p xs)
-same_front p q f xs h = ap (λ n. take n (map f xs)) (same_prefix p q f xs h) ∙ take_map f (prefix_len p xs) xs
-
-pub get_drop : {X : Type 0} (xs : List X) (n i : ℕ) (x : X) → slice_get (drop n xs) i ≡ Some x → slice_get xs (n + i) ≡ Some x
-get_drop xs zero i x e = let k : 0 + i ≡ i = omega arith in rw k e
-get_drop [] (suc n) i x e = cc
-get_drop (y ∷ xs) (suc n) i x e = let k : suc n + i ≡ suc (n + i) = omega arith in rw k (get_drop xs n i x e)
+same_front p q f xs h = ap (λ n. take n (map f xs)) (same_prefix p q f xs h) ∙ take-map f (prefix_len p xs) xs
 
 -- the place of each pair is on the path
 pub pair_on_path : {Y : Type 0} (f : ℕ → List Y) (path : List ℕ) (i : ℕ) (o : ℕ × Y) → slice_get (pairs_of f path) i ≡ Some o → (j : ℕ) × (slice_get path j ≡ Some o.0)

@@ -1,5 +1,6 @@
 pub mod Fronts
 pub mod Marks
+pub mod Numbers
 pub mod Made
 pub mod Sessions
 pub mod SessionSteps

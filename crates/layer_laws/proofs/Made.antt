@@ -2,7 +2,7 @@
 use Rattle.std.proofs.Common.{◌≡◌, inl, inr, refl, sym, ◌∙◌, ap, ℕ, suc, ◌+◌, ◌-◌, ◌<◌, ◌≤◌, true, cond, List, length, set, arith, length-set, length-append}
 use Rattle.std.specs.Prelude.{Option, Some, None, ◌==◌, nat_le}
 use Rattle.std.proofs.lemmas.Bool.Decides.{nat_tests}
-use Rattle.std.proofs.lemmas.List.{length-map, length-replicate}
+use Rattle.std.proofs.lemmas.List.{ext_get_or, get_or_past, get_or-set_same, get_or-set_other, length-map, length-replicate}
 use native.Mathlib.Decide.{dec_lt, ℕ_discrete}
 use Rattle.model.specs.declared.names.Mark.{Mark}
 use Rattle.model.specs.Handler.{Meaning}
@@ -12,7 +12,7 @@ use Rattle.model.specs.Nodes.DependsOn.{itself}
 use Rattle.model.specs.World.{World, mark_of, greater_mark, greatest_mark, no_mark, past_nodes}
 use Rattle.model.specs.Records.{vector_of}
 use Rattle.theory.specs.Laws.{entry_before, entry_of_cause}
-use Rattle.theory.proofs.ListLaws.{bool_cases, eq_same, eq_other, at_has, map_at, has_before, has_sender}
+use Rattle.theory.proofs.ListLaws.{bool_cases, eq_same, eq_other, at_has, map_at, has_before, has_sender, get_or_padded}
 use Rattle.theory.proofs.Pasts.{past_depends}
 use Rattle.theory.proofs.Vectors.{greatest_attained}
 use Rattle.theory.proofs.Counts.{is_began, units_at, units_above, units_step_le}
@@ -22,7 +22,8 @@ use Rattle.theory.proofs.VectorJoin.{vectors_join}
 use Rattle.depvector.specs.Vectors.{mark_for, joined, widened, begun}
 use Rattle.depvector.proofs.Joins.{length-joined}
 use Rattle.layer_laws.specs.Laws.{IsMade, VectorsAreMade, vector_before, vector_received}
-use Rattle.layer_laws.proofs.Marks.{mark_for-joined, mark_for-widened, mark_for-set_same, mark_for-set_other, same_marks, mark_for-units, mark_for-past, length-numbers}
+use Rattle.layer_laws.proofs.Marks.{mark_for-joined}
+use Rattle.layer_laws.proofs.Numbers.{length-numbers, get_or-numbers}
 
 pub length-vector_of : (nodes : List Node) (x : ℕ) → length (vector_of nodes x) ≡ (node_at nodes x).units
 length-vector_of nodes x = length-map (numbers_from 0 (node_at nodes x).units) (greatest_mark (past_nodes nodes x)) ∙ length-numbers 0 (node_at nodes x).units
@@ -46,8 +47,8 @@ module _ {S : Type 0} (M : Meaning S) (w : World) (g : Invariant M w) where
   -- the vector has the greatest mark of every unit
   pub vector_marks : (x u : ℕ) → x < length w.nodes → mark_for (vector_of w.nodes x) u ≡ greatest_mark (past_nodes w.nodes x) u
   vector_marks x u h = elim (dec_lt u (node_at w.nodes x).units) [
-    | yes q ↦ mark_for-units (greatest_mark (past_nodes w.nodes x)) 0 (node_at w.nodes x).units u q ∙ ap (greatest_mark (past_nodes w.nodes x)) (let t : 0 + u ≡ u = omega arith in t)
-    | no q ↦ mark_for-past (greatest_mark (past_nodes w.nodes x)) 0 (node_at w.nodes x).units u (omega arith) ∙ sym (none_past x u h (omega arith))
+    | yes q ↦ get_or-numbers (greatest_mark (past_nodes w.nodes x)) no_mark 0 (node_at w.nodes x).units u q ∙ ap (greatest_mark (past_nodes w.nodes x)) (let t : 0 + u ≡ u = omega arith in t)
+    | no q ↦ get_or_past (vector_of w.nodes x) u no_mark (let long = length-vector_of w.nodes x in omega (arith, long, q)) ∙ sym (none_past x u h (omega arith))
   ]
 
   marks_before : (o : Option ℕ) (u : ℕ) → ((b : ℕ) → o ≡ Some b → b < length w.nodes) → mark_for (vector_before w.nodes o) u ≡ entry_before w.nodes u o
@@ -94,7 +95,7 @@ module _ {S : Type 0} (M : Meaning S) (w : World) (g : Invariant M w) where
   length_received (letter l s) n h = let t = h l s refl in let k = length-vector_of w.nodes s in omega (arith, t, k)
 
   made : (x : ℕ) → x < length w.nodes → ((u : ℕ) → greatest_mark (past_nodes w.nodes x) u ≡ cond ((node_at w.nodes x).unit == u) (mark_of (node_at w.nodes x)) (greater_mark (entry_before w.nodes u (node_at w.nodes x).before) (entry_of_cause w.nodes u (node_at w.nodes x).cause))) → IsMade w.nodes x
-  made x h law = record { vector = same_marks (vector_of w.nodes x) (set both n.unit (mark_of n)) lengths marks; before = before; received = received; own = own }
+  made x h law = record { vector = ext_get_or no_mark (vector_of w.nodes x) (set both n.unit (mark_of n)) lengths (λ u _. marks u); before = before; received = received; own = own }
     where
       n : Node
       n = node_at w.nodes x
@@ -132,14 +133,14 @@ module _ {S : Type 0} (M : Meaning S) (w : World) (g : Invariant M w) where
       entries : (u : ℕ) → mark_for both u ≡ greater_mark (entry_before w.nodes u n.before) (entry_of_cause w.nodes u n.cause)
       entries u =
           mark_for-joined wide (vector_received w.nodes n.cause) u (omega (arith, received, long))
-          ∙ ap (λ a. greater_mark a (mark_for (vector_received w.nodes n.cause) u)) (mark_for-widened (vector_before w.nodes n.before) n.units u
+          ∙ ap (λ a. greater_mark a (mark_for (vector_received w.nodes n.cause) u)) (get_or_padded (vector_before w.nodes n.before) no_mark (n.units - length (vector_before w.nodes n.before)) u
           ∙ marks_before n.before u (λ b e. let t = g.chain.sound.placed x b (from_before b e) in omega (arith, t, h)))
           ∙ ap (greater_mark (entry_before w.nodes u n.before)) (marks_received n.cause u (λ l s e. let t = g.chain.sound.placed x s (from_sender l s e) in omega (arith, t, h)))
 
       marks : (u : ℕ) → mark_for (vector_of w.nodes x) u ≡ mark_for (set both n.unit (mark_of n)) u
       marks u = vector_marks x u h ∙ law u ∙ elim (ℕ_discrete u n.unit) [
-        | yes e ↦ rw (e, eq_same n.unit) (sym (mark_for-set_same both n.unit (mark_of n) (omega (arith, own, both_long))))
-        | no q ↦ rw (eq_other n.unit u (λ e. q (sym e))) (sym (mark_for-set_other both n.unit u (mark_of n) q ∙ entries u))
+        | yes e ↦ rw (e, eq_same n.unit) (sym (get_or-set_same both n.unit (mark_of n) no_mark (omega (arith, own, both_long))))
+        | no q ↦ rw (eq_other n.unit u (λ e. q (sym e))) (sym (get_or-set_other both n.unit u (mark_of n) no_mark q ∙ entries u))
       ]
 
 module _ {S : Type 0} (M : Meaning S) where

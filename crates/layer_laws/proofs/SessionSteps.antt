@@ -1,8 +1,8 @@
 -- The sessions along a path are made by the calls that count receipts and sends.
-use Rattle.std.proofs.Common.{◌≡◌, ◌≢◌, inl, inr, refl, sym, ◌∙◌, ap, ℕ, zero, suc, ◌+◌, ◌<◌, Bool, true, false, cond, List, [], ◌∷◌, ◌++◌, length, take, arith, map, replicate, add-zero, length-set}
-use Rattle.std.specs.Prelude.{Option, Some, None, slice_get, slice_set, unwrap_or, ◌==◌, nat_lt}
+use Rattle.std.proofs.Common.{◌≡◌, ◌≢◌, inl, inr, refl, sym, ◌∙◌, ap, ℕ, zero, suc, ◌+◌, ◌<◌, false, cond, List, [], ◌∷◌, ◌++◌, length, take, arith, map, replicate, add-zero, length-set}
+use Rattle.std.specs.Prelude.{Option, Some, None, slice_get, ◌==◌, nat_lt}
 use Rattle.std.specs.List.{filter}
-use Rattle.std.proofs.lemmas.List.{length-map}
+use Rattle.std.proofs.lemmas.List.{ext_get_or, get_or-set_same, get_or-set_other, length-map}
 use Rattle.std.proofs.lemmas.List.Sums.{sum_by-cons, sum_by_push}
 use Rattle.model.specs.declared.names.Source.{Source}
 use Rattle.model.specs.declared.names.Source.TheVariants.{Outside, Unit as FromUnit}
@@ -10,37 +10,17 @@ use Rattle.model.specs.Handler.{Meaning}
 use Rattle.model.specs.Lists.{from_end, numbers_from}
 use Rattle.model.specs.Nodes.{Node, Cause, began, outside, letter, node_at, execution, begun, count_to, count_along, place_before}
 use Rattle.model.specs.World.{World, executed, source_of, is_from, taken}
-use Rattle.theory.proofs.ListLaws.{bool_cases, eq_true, lt_true, has_sender}
+use Rattle.theory.proofs.ListLaws.{bool_cases, eq_true, lt_true, has_sender, filtered_at}
+use Rattle.theory.proofs.FirmVector.{units_within}
 use Rattle.theory.proofs.LettersExact.{sends_are}
 use Rattle.theory.proofs.Certificate.{Invariant, reachable_invariant}
 use Rattle.session.specs.declared.exchange.Exchange.{Exchange}
 use Rattle.session.specs.Counts.{Counts, nothing, exchanged, sent_one}
 use Rattle.layer_laws.specs.Laws.{sessions_along, taken_one, sent_all, IsCountedOne, SessionsGoOn}
-use Rattle.layer_laws.proofs.Marks.{length-numbers}
+use Rattle.layer_laws.proofs.Numbers.{length-numbers}
 use Rattle.layer_laws.proofs.Sessions.{exchange_along, entry_along}
-use Rattle.layer_laws.proofs.Unstable.{units_within}
 
--- ---- entries
-
-entry_same : (xs : List Exchange) (u : ℕ) (x : Exchange) → u < length xs → unwrap_or (slice_get (slice_set xs u x) u) nothing ≡ x
-entry_same [] u x h = absurd (omega arith)
-entry_same (y ∷ xs) zero x h = refl
-entry_same (y ∷ xs) (suc u) x h = entry_same xs u x (omega arith)
-
-entry_other : (xs : List Exchange) (u v : ℕ) (x : Exchange) → u ≢ v → unwrap_or (slice_get (slice_set xs u x) v) nothing ≡ unwrap_or (slice_get xs v) nothing
-entry_other [] u v x h = refl
-entry_other (y ∷ xs) zero zero x h = absurd (h refl)
-entry_other (y ∷ xs) zero (suc v) x h = refl
-entry_other (y ∷ xs) (suc u) zero x h = refl
-entry_other (y ∷ xs) (suc u) (suc v) x h = entry_other xs u v x (λ e. h (ap suc e))
-
-same_entries : (a b : List Exchange) → length a ≡ length b → ((u : ℕ) → u < length a → unwrap_or (slice_get a u) nothing ≡ unwrap_or (slice_get b u) nothing) → a ≡ b
-same_entries [] [] h f = refl
-same_entries [] (y ∷ b) h f = absurd (omega arith)
-same_entries (x ∷ a) [] h f = absurd (omega arith)
-same_entries (x ∷ a) (y ∷ b) h f = ap (λ (e : Exchange). e ∷ a) (f 0 (omega arith)) ∙ ap (λ r. y ∷ r) (same_entries a b (omega arith) (λ u k. f (suc u) (omega arith)))
-
-different : (a b : ℕ) → (a == b) ≡ false → a ≢ b
+different : (a b : ℕ) → (a == b) ≡ false → b ≢ a
 different a b e is = grind arith
 
 -- ---- one receipt
@@ -49,16 +29,16 @@ taken-taken_one : (c : Counts) (o : Option Source) (u : ℕ) → IsCountedOne c 
 taken-taken_one c None u h = sym (add-zero _)
 taken-taken_one c (Some Outside) u h = sym (add-zero _)
 taken-taken_one c (Some (FromUnit v)) u h = elim (bool_cases (v == u)) [
-  | inl e ↦ let is : v ≡ u = eq_true v u e in rw (e, ← is) (ap (λ (x : Exchange). x.taken) (entry_same c.units v _ h))
-  | inr e ↦ rw e (ap (λ (x : Exchange). x.taken) (entry_other c.units v u _ (different v u e)) ∙ sym (add-zero _))
+  | inl e ↦ let is : v ≡ u = eq_true v u e in rw (e, ← is) (ap (λ (x : Exchange). x.taken) (get_or-set_same c.units v _ nothing h))
+  | inr e ↦ rw e (ap (λ (x : Exchange). x.taken) (get_or-set_other c.units v u _ nothing (different v u e)) ∙ sym (add-zero _))
 ]
 
 sent-taken_one : (c : Counts) (o : Option Source) (u : ℕ) → IsCountedOne c o → (exchanged (taken_one c o) u).sent ≡ (exchanged c u).sent
 sent-taken_one c None u h = refl
 sent-taken_one c (Some Outside) u h = refl
 sent-taken_one c (Some (FromUnit v)) u h = elim (bool_cases (v == u)) [
-  | inl e ↦ let is : v ≡ u = eq_true v u e in rw (← is) (ap (λ (x : Exchange). x.sent) (entry_same c.units v _ h))
-  | inr e ↦ ap (λ (x : Exchange). x.sent) (entry_other c.units v u _ (different v u e))
+  | inl e ↦ let is : v ≡ u = eq_true v u e in rw (← is) (ap (λ (x : Exchange). x.sent) (get_or-set_same c.units v _ nothing h))
+  | inr e ↦ ap (λ (x : Exchange). x.sent) (get_or-set_other c.units v u _ nothing (different v u e))
 ]
 
 outside-taken_one : (c : Counts) (o : Option Source) → (taken_one c o).outside ≡ c.outside + cond (is_from Outside o) 1 0
@@ -81,14 +61,14 @@ taken-sent_all [] c u h = refl
 taken-sent_all (s ∷ sends) c u h =
     taken-sent_all sends (sent_one c s.0) u (λ j t e. rw (length-set c.units s.0 _) (h (suc j) t e))
     ∙ elim (bool_cases (s.0 == u)) [
-      | inl e ↦ let is : s.0 ≡ u = eq_true s.0 u e in rw (← is) (ap (λ (x : Exchange). x.taken) (entry_same c.units s.0 _ (h 0 s refl)))
-      | inr e ↦ ap (λ (x : Exchange). x.taken) (entry_other c.units s.0 u _ (different s.0 u e))
+      | inl e ↦ let is : s.0 ≡ u = eq_true s.0 u e in rw (← is) (ap (λ (x : Exchange). x.taken) (get_or-set_same c.units s.0 _ nothing (h 0 s refl)))
+      | inr e ↦ ap (λ (x : Exchange). x.taken) (get_or-set_other c.units s.0 u _ nothing (different s.0 u e))
     ]
 
 sent-sent_one : (c : Counts) (v u : ℕ) → v < length c.units → (exchanged (sent_one c v) u).sent ≡ (exchanged c u).sent + cond (v == u) 1 0
 sent-sent_one c v u h = elim (bool_cases (v == u)) [
-  | inl e ↦ let is : v ≡ u = eq_true v u e in rw (e, ← is) (ap (λ (x : Exchange). x.sent) (entry_same c.units v _ h))
-  | inr e ↦ rw e (ap (λ (x : Exchange). x.sent) (entry_other c.units v u _ (different v u e)) ∙ sym (add-zero _))
+  | inl e ↦ let is : v ≡ u = eq_true v u e in rw (e, ← is) (ap (λ (x : Exchange). x.sent) (get_or-set_same c.units v _ nothing h))
+  | inr e ↦ rw e (ap (λ (x : Exchange). x.sent) (get_or-set_other c.units v u _ nothing (different v u e)) ∙ sym (add-zero _))
 ]
 
 sent-sent_all : (sends : List (ℕ × List ℕ)) (c : Counts) (u : ℕ) → Within sends (length c.units) → (exchanged (sent_all c sends) u).sent ≡ (exchanged c u).sent + count_to u sends
@@ -109,14 +89,7 @@ length-sent_all (s ∷ sends) c = length-sent_all sends (sent_one c s.0) ∙ len
 
 -- a send that passes a test is within
 within_filter : (n : ℕ) (sends : List (ℕ × List ℕ)) → Within (filter (λ s. nat_lt s.0 n) sends) n
-within_filter n [] j s e = cc
-within_filter n (t ∷ sends) j s e = go (nat_lt t.0 n) refl j (λ k f. within_filter n sends k s f) e
-  where
-    go : (b : Bool) → nat_lt t.0 n ≡ b → (k : ℕ) → ((k : ℕ) → slice_get (filter (λ s. nat_lt s.0 n) sends) k ≡ Some s → s.0 < n)
-        → slice_get (cond b (t ∷ filter (λ s. nat_lt s.0 n) sends) (filter (λ s. nat_lt s.0 n) sends)) k ≡ Some s → s.0 < n
-    go true q zero rest f = let is : t ≡ s = cc in let below = lt_true t.0 n q in let same = ap (λ (z : ℕ × List ℕ). z.0) is in omega (arith, below, same)
-    go true q (suc k) rest f = rest k f
-    go false q k rest f = rest k f
+within_filter n sends j s e = lt_true s.0 n (filtered_at (λ s. nat_lt s.0 n) sends j s e).1
 
 none_exchanged : (k n : ℕ) → map (λ (u : ℕ). nothing) (numbers_from k n) ≡ replicate n nothing
 none_exchanged k zero = refl
@@ -166,7 +139,7 @@ module _ {S : Type 0} (M : Meaning S) where
           ∙ sym (sent-sent_all sends d u fits)
 
       units : (sessions_along M nodes n (path ++ x ∷ [])).units ≡ (sent_all d sends).units
-      units = same_entries _ _ (length-along nodes n (path ++ x ∷ []) ∙ sym (length-sent_all sends d ∙ long))
+      units = ext_get_or nothing _ _ (length-along nodes n (path ++ x ∷ []) ∙ sym (length-sent_all sends d ∙ long))
           (λ u h.
           let k : u < n = let t = length-along nodes n (path ++ x ∷ []) in omega (arith, h, t) in
           entry_along M nodes n (path ++ x ∷ []) u k ∙ (λ i. record { taken = takens u k i; sent = sents u k i }))

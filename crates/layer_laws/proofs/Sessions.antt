@@ -1,6 +1,6 @@
 -- The sessions along a path answer as the definitions' counts do.
-use Rattle.std.proofs.Common.{◌≡◌, inl, inr, refl, sym, ◌∙◌, ap, ℕ, zero, suc, ◌+◌, ◌<◌, true, false, cond, List, [], ◌∷◌, length, arith, map}
-use Rattle.std.specs.Prelude.{Some, None, slice_get, unwrap_or, ◌==◌, nat_lt}
+use Rattle.std.proofs.Common.{◌≡◌, inl, inr, refl, sym, ◌∙◌, ap, ℕ, ◌+◌, ◌<◌, true, false, cond, List, [], ◌∷◌, length, arith}
+use Rattle.std.specs.Prelude.{Some, None, ◌==◌, nat_lt}
 use Rattle.std.proofs.lemmas.List.{length-map}
 use Rattle.std.proofs.lemmas.Bool.Decides.{nat_tests}
 use Rattle.model.specs.declared.names.Source.{Source}
@@ -17,13 +17,7 @@ use Rattle.session.specs.declared.exchange.Exchange.{Exchange}
 use Rattle.session.specs.Arrivals.{arrival_of}
 use Rattle.session.specs.Counts.{nothing, exchanged, taken_from, IsCounted}
 use Rattle.layer_laws.specs.Laws.{SessionsTell, sessions_along, refusal_of}
-use Rattle.layer_laws.proofs.Marks.{length-numbers}
-
--- the entry of a unit, where the entries are of the units from k on
-entry_of : (f : ℕ → Exchange) (k n v : ℕ) → v < n → unwrap_or (slice_get (map f (numbers_from k n)) v) nothing ≡ f (k + v)
-entry_of f k zero v h = absurd (omega arith)
-entry_of f k (suc n) zero h = ap f (let t : k ≡ k + 0 = omega arith in t)
-entry_of f k (suc n) (suc v) h = entry_of f (suc k) n v (omega arith) ∙ ap f (let t : suc k + v ≡ k + suc v = omega arith in t)
+use Rattle.layer_laws.proofs.Numbers.{length-numbers, get_or-numbers}
 
 -- the tests of a number against a count
 tests_of : (count number : ℕ) → cond (nat_lt number count) (Some RepeatRefusal) (cond (nat_lt count number) (Some GapRefusal) None) ≡ refusal_of (arrival_of count number)
@@ -50,7 +44,7 @@ module _ {S : Type 0} (M : Meaning S) where
 
   -- is its entry
   pub entry_along : (nodes : List Node) (n : ℕ) (path : List ℕ) (v : ℕ) → v < n → exchanged (sessions_along M nodes n path) v ≡ exchange_along nodes path v
-  entry_along nodes n path v h = entry_of (exchange_along nodes path) 0 n v h ∙ ap (exchange_along nodes path) (let t : 0 + v ≡ v = omega arith in t)
+  entry_along nodes n path v h = get_or-numbers (exchange_along nodes path) nothing 0 n v h ∙ ap (exchange_along nodes path) (let t : 0 + v ≡ v = omega arith in t)
 
   taken_along : (nodes : List Node) (n : ℕ) (path : List ℕ) (source : Source) → IsCounted (sessions_along M nodes n path) source → taken_from (sessions_along M nodes n path) source ≡ taken nodes path source
   taken_along nodes n path Outside h = refl

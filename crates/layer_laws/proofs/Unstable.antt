@@ -3,19 +3,17 @@ use Rattle.std.proofs.Common.{◌≡◌, inl, inr, refl, sym, ◌∙◌, ap, ℕ
 use Rattle.std.specs.Prelude.{Some, slice_get, slice_index, nat_lt, ◌==◌}
 use Rattle.std.specs.List.{list_any, filter}
 use Rattle.std.proofs.lemmas.List.{length-map}
-use native.Mathlib.Decide.{dec_lt}
 use Rattle.model.specs.declared.names.Mark.{Mark}
 use Rattle.model.specs.Handler.{Meaning}
 use Rattle.model.specs.Lists.{numbers_from}
 use Rattle.model.specs.Nodes.{node_at, past}
 use Rattle.model.specs.World.{World, Member, is_stable, greatest_mark, past_nodes}
 use Rattle.theory.specs.Laws.{mark_lost, stable_of}
-use Rattle.theory.proofs.ListLaws.{bool_cases, any_at, at_has, eq_true}
+use Rattle.theory.proofs.ListLaws.{bool_cases, any_at, at_has, eq_true, filtered_at}
 use Rattle.theory.proofs.Pasts.{past_depends}
 use Rattle.theory.proofs.CertificateRun.{past_unit}
-use Rattle.theory.proofs.Counts.{is_began, units_step_le}
 use Rattle.theory.proofs.Certificate.{Invariant, reachable_invariant}
-use Rattle.theory.proofs.FirmVector.{unstable_by_vector}
+use Rattle.theory.proofs.FirmVector.{units_within, unstable_by_vector}
 use Rattle.orphan.specs.Tests.{count_marks, is_stable_by}
 use Rattle.layer_laws.specs.Laws.{UnstableAreCounted, stable_lengths}
 use Rattle.layer_laws.proofs.Made.{length-vector_of}
@@ -36,16 +34,6 @@ count_same {X} P p f k (suc n) (x ∷ xs) h same none =
     go true e rest = rw (← e) (let t : 1 + count_marks p (suc k) (map f (numbers_from (suc k) n)) ≡ suc (length (filter P xs)) = omega (arith, rest) in t)
     go false e rest = rw (← e) (let t : 0 + count_marks p (suc k) (map f (numbers_from (suc k) n)) ≡ length (filter P xs) = omega (arith, rest) in t)
 
--- an element that was filtered is there
-filtered : {X : Type 0} (p : X → Bool) (xs : List X) (i : ℕ) (y : X) → slice_get (filter p xs) i ≡ Some y → (j : ℕ) × (slice_get xs j ≡ Some y)
-filtered p [] i y e = cc
-filtered {X} p (x ∷ xs) i y e = go (p x) i (λ k f. filtered p xs k y f) e
-  where
-    go : (b : Bool) (k : ℕ) → ((k : ℕ) → slice_get (filter p xs) k ≡ Some y → (j : ℕ) × (slice_get xs j ≡ Some y)) → slice_get (cond b (x ∷ filter p xs) (filter p xs)) k ≡ Some y → (j : ℕ) × (slice_get (x ∷ xs) j ≡ Some y)
-    go true zero rest f = (0, f)
-    go true (suc k) rest f = let t = rest k f in (suc t.0, t.1)
-    go false k rest f = let t = rest k f in (suc t.0, t.1)
-
 -- the stable length of a unit
 stable_length : (members : List Member) (u : ℕ) → slice_index (map (λ m. m.stable) members) u ≡ stable_of (slice_get members u)
 stable_length [] u = refl
@@ -59,24 +47,12 @@ module _ {S : Type 0} (M : Meaning S) (w : World) (g : Invariant M w) (x : ℕ) 
     | inr e ↦ e
     | inl e ↦ absurd (
         let a = any_at (λ y. (node_at w.nodes y).unit == u) (filter (λ y. not (is_stable w.members y)) (past w.nodes x)) e in
-        let f = filtered (λ y. not (is_stable w.members y)) (past w.nodes x) a.0 a.1.0 a.1.1 in
+        let f = (filtered_at (λ y. not (is_stable w.members y)) (past w.nodes x) a.0 a.1.0 a.1.1).0 in
         let d = past_depends w.nodes x a.1.0 (at_has (past w.nodes x) f.0 a.1.0 f.1) in
         let p = past_unit M w g.chain g.opening g.counted g.numbered x a.1.0 h d in
         let own = eq_true (node_at w.nodes a.1.0).unit u a.1.2 in
         omega (arith, p, own))
   ]
-
-  -- a node had no more units than there are
-  pub units_within : (node_at w.nodes x).units ≤ length w.members
-  units_within =
-      let k = g.counted in
-      elim (bool_cases (is_began (node_at w.nodes x).cause)) [
-        | inr b ↦ let t = k.others x h b in let z = k.total in let le = units_step_le g.opening w.nodes x (length w.nodes) (omega arith) in omega (arith, t, z, le)
-        | inl b ↦ elim (dec_lt x g.opening) [
-          | yes low ↦ let t = k.first_units x low in let z = k.within in omega (arith, t, z)
-          | no high ↦ let t = k.joined_units x h (omega arith) b in let z = g.chain.owned x h in omega (arith, t, z)
-        ]
-      ]
 
 module _ {S : Type 0} (M : Meaning S) where
   pub unstable_are_counted : UnstableAreCounted M

@@ -1,5 +1,5 @@
 -- What the layers compute, on the graph of state intervals.
-use Rattle.std.specs.Prelude.{◌≡◌, ℕ, ◌-◌, ◌<◌, ◌≤◌, Bool, false, nat_lt, take, drop, List, [], ◌∷◌, ◌++◌, length, Option, Some, None, MatchOption, slice_get, slice_set, slice_index, map}
+use Rattle.std.specs.Prelude.{◌≡◌, ℕ, ◌-◌, ◌<◌, ◌≤◌, Bool, false, take, drop, List, [], ◌∷◌, ◌++◌, length, Option, Some, None, MatchOption, slice_get, slice_set, slice_index, map}
 use Rattle.std.specs.List.{take_while, position}
 use Rattle.model.specs.declared.names.Mark.{Mark}
 use Rattle.model.specs.declared.names.Source.{Source}
@@ -20,7 +20,7 @@ use Rattle.session.specs.Arrivals.{arrival_of}
 use Rattle.session.specs.Counts.{Counts, advanced, no_counts, sent_one, taken_from, sent_to, IsCounted}
 use Rattle.orphan.specs.Tests.{is_orphan_by, unstable_count}
 use Rattle.output_commit.specs.declared.held.Held.{Held}
-use Rattle.output_commit.specs.Holds.{first_is_firm}
+use Rattle.output_commit.specs.Holds.{first_is_firm, below as held_below}
 use Rattle.volatile_log.specs.Logs.{below}
 
 -- ---- dependency vectors
@@ -138,7 +138,7 @@ is_first_firm w (o ∷ outputs) = is_firm w o.0
 pub record TellsFirm {S : Type 0} (M : Meaning S) (w : World) (u : ℕ) (m : Member) : Type 0 where
   pub lent : slice_index (frontiers w) u ≡ frontier w m
   pub front : first_is_firm (frontier w m) (held_outputs M w m) ≡ is_first_firm w (held M w m)
-  pub all : map (λ h. h.text) (take_while (λ h. nat_lt h.mark.index (frontier w m)) (held_outputs M w m)) ≡ map (λ o. o.1) (releasable M w m)
+  pub all : map (λ h. h.text) (held_below (held_outputs M w m) (frontier w m)) ≡ map (λ o. o.1) (releasable M w m)
 
 abbrev pub FrontiersTell : {S : Type 0} → Meaning S → Type 0
 FrontiersTell M = (w : World) → Reachable M w → (u : ℕ) (m : Member) → slice_get w.members u ≡ Some m → TellsFirm M w u m

@@ -10,6 +10,8 @@ use Rattle.model.specs.declared.replies.Who.{Who}
 use Rattle.model.specs.declared.replies.Who.TheVariants.{Caller}
 use Rattle.model.specs.declared.steps.Step.{Step}
 use Rattle.book.specs.Entries.{Ledger, IsEntered}
+use Rattle.forms.specs.declared.fault.LineFault.{LineFault}
+use Rattle.forms.specs.declared.fault.LineFault.TheVariants.{Bad, NoMemory}
 use Rattle.forms.specs.Reading.{step_of_line}
 use Rattle.forms.specs.Writing.{reply_text}
 use Rattle.lines.specs.Lines.{lines_of, LinesRead}
@@ -20,6 +22,11 @@ use Rattle.written.specs.Beginnings.{AppendsBeginning}
 -- the step of a line, or none: a line that is too long is no step
 unfoldable pub line_step : List ℕ → Option Step
 line_step line = if nat_le (length line) MAX_LINE_BYTES then step_of_line line else None
+
+-- the reply to a line that gave no step
+abbrev pub reply_upon : LineFault → Reply
+reply_upon Bad = Refused BadLine
+reply_upon NoMemory = Refused Memory
 
 -- there was no memory to read the line, and nothing changed
 abbrev pub IsUnread : Ledger → Reply → Ledger → Type 0

@@ -1,7 +1,7 @@
 //! Serving: lines in, lines out.
 //!
 //! - `serve`: answers each line of a reader, in order, by the book, and writes each reply as a line.
-//! - `read_feed`: the steps of all lines of a reader.
+//! - `read_feed`: the steps of all lines of a reader; `put_reply` and `fault_reply` answer them.
 //! - `Counted`: a reader or a writer with a count of its failures, by which the contracts tell
 //!   which end failed. What raises the count is private to the module `counted`.
 //! - `part` and `input`: a line is read a part at a time, in one buffer whatever its length.
@@ -22,7 +22,7 @@ pub use counted::Counted;
 pub use fault::ServeFault;
 pub use feed::read_feed;
 pub use forms::{LineFault, read_step, write_reply};
-pub use serving::{memory_aside, serve};
+pub use serving::{fault_reply, memory_aside, put_reply, serve};
 
 #[cfg(test)]
 mod tests;

@@ -6,7 +6,7 @@ ghost use Rattle.model.specs.Failures.{HasRisen};
 ghost use Rattle.model.specs.declared.replies.Reply.{Reply as ReplyOf};
 ghost use Rattle.book.specs.Entries.{Ledger};
 ghost use Rattle.written.specs.Beginnings.{AppendsBeginning};
-ghost use Rattle.lines.specs.Serving.{AnsweredLine, Serves, EntersEach, IsRemembered, reply_line, ServedAll, ServedSome, Took, Broken};
+ghost use Rattle.lines.specs.Serving.{AnsweredLine, Serves, EntersEach, IsRemembered, reply_line, reply_upon, ServedAll, ServedSome, Took, Broken};
 
 use crate::counted::Counted;
 use crate::fault::ServeFault;
@@ -102,8 +102,9 @@ fn serve_line<R: BufRead, W: Write, H: Handler, S: Store>(
     }
 }
 
-// Writes the line that answers.
-fn put_reply<W: Write>(
+/// Writes a reply's line, with its line feed. `NoMemory` comes where there is none for the text, and
+/// `Write` only where the writer failed; a beginning of the line may be written then.
+pub fn put_reply<W: Write>(
     alloc: Global,
     writer: &mut Counted<W>,
     reply: &Reply,
@@ -136,10 +137,19 @@ fn answer_line<H: Handler, S: Store>(alloc: Global, book: &mut Book<H, S>, line:
 {
     match read_step(alloc, line) {
         Ok(step) => book.step(step),
-        Err(LineFault::Bad) => Reply::Refused {
+        Err(fault) => fault_reply(fault),
+    }
+}
+
+/// The reply to a line that gave no step: `bad-line`, or `memory`.
+pub fn fault_reply(fault: LineFault) -> Reply
+    ensures { result ≡ reply_upon fault }
+{
+    match fault {
+        LineFault::Bad => Reply::Refused {
             refusal: Refusal::BadLine,
         },
-        Err(LineFault::NoMemory) => Reply::Refused {
+        LineFault::NoMemory => Reply::Refused {
             refusal: Refusal::Memory,
         },
     }

@@ -1,5 +1,5 @@
 -- What holds, tickets and outlets give.
-use Rattle.std.specs.Prelude.{ℕ, Bool, false, nat_lt, List, [], ◌∷◌, map, slice_get, slice_index, unwrap_or}
+use Rattle.std.specs.Prelude.{ℕ, Bool, false, nat_lt, List, [], ◌∷◌, map, slice_index, slice_index_or}
 use Rattle.std.specs.List.{take_while}
 use Rattle.model.specs.declared.names.Mark.{Mark}
 use Rattle.output_commit.specs.declared.held.Held.{Held}
@@ -39,9 +39,13 @@ below outputs index = take_while (λ o. nat_lt o.mark.index index) outputs
 abbrev pub no_line : Line
 no_line = record { texts = []; room = 0 }
 
+-- the list of a unit
+abbrev pub line_of : List Line → ℕ → Line
+line_of lines unit = slice_index_or lines unit no_line
+
 -- what a unit released; nothing where it has no list
 abbrev pub texts_of : List Line → ℕ → List (List ℕ)
-texts_of lines unit = (unwrap_or (slice_get lines unit) no_line).texts
+texts_of lines unit = (line_of lines unit).texts
 
 abbrev pub room_of : List Line → ℕ → ℕ
-room_of lines unit = (unwrap_or (slice_get lines unit) no_line).room
+room_of lines unit = (line_of lines unit).room

@@ -2,20 +2,28 @@
 //!
 //! For each name on standard input, the step lines of `NAME.steps` go to a new book, and the reply
 //! lines must be those of `NAME.replies`, which were written down from the rules, not taken from
-//! the program. They must be the same where a busy tenant does its steps before each of the lines.
+//! the program. They must be the same where a busy tenant does its steps before each of the lines,
+//! and where the store fails any one append and the flush that it stopped is given again.
+//!
+//! For a name that begins with `turns-` the lines also tell which turns are worked beside the book.
 #![tactic(auto)]
 
+mod answers;
 mod beside;
+mod failing;
 #[cfg(test)]
 mod tests;
+mod turned;
 
 use beside::{every, with_noise};
 use book::Book;
+use failing::survives_each;
 use handler::Sample;
 use lines::{Counted, serve};
 use stable_log::MemoryStore;
 use std::alloc::Global;
 use std::fs;
+use turned::turned;
 
 fn main(rt: HostRuntime) -> anyhow::Result<()> {
     for name in rt.lines(rt.alloc()) {
@@ -31,6 +39,13 @@ fn verdict(rt: &HostRuntime, name: &str) -> anyhow::Result<&'static str> {
     let alloc = rt.alloc();
     let steps = fs::read_to_string(rt, format!(in alloc; "{name}.steps")?)?;
     let replies = fs::read_to_string(rt, format!(in alloc; "{name}.replies")?)?;
+    if name.starts_with("turns-") {
+        return Ok(if turned(alloc, steps.as_str())?.as_str() == replies.as_str() {
+            "the replies are as they must be, by turns that were worked beside the book"
+        } else {
+            "the replies by turns that were worked beside the book differ"
+        });
+    }
     let alone = served(alloc, steps.as_bytes())?;
     if alone.as_slice() != replies.as_bytes() {
         return Ok("the replies differ from those that they must be");
@@ -40,7 +55,10 @@ fn verdict(rt: &HostRuntime, name: &str) -> anyhow::Result<&'static str> {
     if own.as_slice() != replies.as_bytes() {
         return Ok("the replies differ beside a busy tenant");
     }
-    Ok("the replies are as they must be, alone and beside a busy tenant")
+    if !survives_each(alloc, steps.as_str(), replies.as_str())? {
+        return Ok("the replies differ where an append fails");
+    }
+    Ok("the replies are as they must be, alone, beside a busy tenant and where any append fails")
 }
 
 /// The reply lines of a new book to these step lines.

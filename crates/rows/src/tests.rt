@@ -34,7 +34,7 @@ fn a_tenant_steps_and_tells_what_it_released(rt: HostRuntime) -> Result<(), Fail
     let alloc = rt.alloc();
     let name = name(alloc, "a")?;
     let unit = Unit::new(0);
-    let mut log = SharedLog::new(MemoryStore::new(alloc));
+    let mut log = SharedLog::new(alloc, MemoryStore::new(alloc));
     let (answer, opened) = Tenant::open(alloc, &Sample, &echo_alone(alloc)?, QUOTA, 16)?;
     assert!(rt; matches!(&answer.reply, Reply::Opened { units: 1 }));
     let mut tenant = opened.ok_or("not opened")?;

@@ -1,5 +1,5 @@
 -- What a unit took from each source and sent to each unit.
-use Rattle.std.specs.Prelude.{ℕ, ◌+◌, ◌-◌, ◌<◌, List, ◌++◌, length, replicate, slice_get, slice_set, unwrap_or}
+use Rattle.std.specs.Prelude.{ℕ, ◌+◌, ◌-◌, ◌<◌, List, ◌++◌, length, replicate, slice_index_or, slice_set}
 use Rattle.model.specs.declared.names.Source.{Source}
 use Rattle.model.specs.declared.names.Source.TheVariants.{Outside, Unit as FromUnit}
 use Rattle.session.specs.declared.exchange.Exchange.{Exchange}
@@ -18,7 +18,7 @@ no_counts n = record { outside = 0; units = replicate n nothing }
 
 -- what was exchanged with a unit; nothing where it has no entry
 abbrev pub exchanged : Counts → ℕ → Exchange
-exchanged c unit = unwrap_or (slice_get c.units unit) nothing
+exchanged c unit = slice_index_or c.units unit nothing
 
 -- how many receipts were from the source
 abbrev pub taken_from : Counts → Source → ℕ
@@ -47,6 +47,10 @@ sent_one c unit =
     let x = exchanged c unit in
     record c { units = slice_set c.units unit (record x { sent = x.sent + 1 }) }
 
+-- these entries, and up to n those of units with which nothing was exchanged
+abbrev pub padded : List Exchange → ℕ → List Exchange
+padded units n = units ++ replicate (n - length units) nothing
+
 -- the counts of a tenant that has n units now
 abbrev pub widened : Counts → ℕ → Counts
-widened c n = record c { units = c.units ++ replicate (n - length c.units) nothing }
+widened c n = record c { units = padded c.units n }

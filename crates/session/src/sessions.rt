@@ -1,8 +1,8 @@
 //! The counts and their calls.
 
-ghost use Rattle.std.specs.Prelude.{◌≡◌, ◌+◌, ◌<◌, ◌≤◌, ◌^◌, ◌++◌, IfOk, OnErr, length, replicate, slice_get, unwrap_or, ◌-◌};
+ghost use Rattle.std.specs.Prelude.{◌≡◌, ◌+◌, ◌<◌, ◌≤◌, ◌^◌, IfOk, OnErr, length, slice_index_or};
 ghost use Rattle.session.specs.Arrivals.{arrival_of};
-ghost use Rattle.session.specs.Counts.{advanced, no_counts, nothing, sent_one, sent_to, taken_from, widened, IsCounted};
+ghost use Rattle.session.specs.Counts.{advanced, no_counts, nothing, padded, sent_one, sent_to, taken_from, widened, IsCounted};
 
 use crate::arrival::Arrival;
 use crate::exchange::Exchange;
@@ -149,7 +149,7 @@ impl Sessions {
 
 /// What was exchanged with a unit; nothing where it has no entry.
 fn entry(units: &[Exchange], unit: usize) -> Exchange
-    ensures { result ≡ unwrap_or (slice_get units.now unit) nothing }
+    ensures { result ≡ slice_index_or units.now unit nothing }
 {
     match units.get(unit) {
         Some(exchange) => *exchange,
@@ -160,7 +160,7 @@ fn entry(units: &[Exchange], unit: usize) -> Exchange
 /// Cuts the entries back to these; behind them nothing is left.
 fn cut_all(units: &mut [Exchange], earlier: &[Exchange])
     requires { length earlier.now ≤ length units.old }
-    ensures { units.new ≡ earlier.now ++ replicate (length units.old - length earlier.now) nothing }
+    ensures { units.new ≡ padded earlier.now (length units.old) }
 {
     for unit in 0..units.len() {
         units[unit] = entry(earlier, unit);

@@ -69,6 +69,9 @@ unless_front w xs ys o r e = unless_refused w (xs ++ ys) o r (sym (front_refused
 pub unless_all : (w : World) (xs ys : List (Bool × Refusal)) (o : Outcome) → None ≡ first_refusal xs → None ≡ first_refusal ys → unless w (xs ++ ys) o ≡ o
 unless_all w xs ys o e f = unless_passed w (xs ++ ys) o (sym (front_passed xs ys None e f))
 
+pub unless_rest : (w : World) (xs ys : List (Bool × Refusal)) (o : Outcome) → None ≡ first_refusal xs → unless w (xs ++ ys) o ≡ unless w ys o
+unless_rest w xs ys o e = ap (outcome_or w o) (sym (front_passed xs ys (first_refusal ys) e refl))
+
 pub unless_back : (w : World) (xs ys : List (Bool × Refusal)) (o : Outcome) (r : Refusal) → None ≡ first_refusal xs → Some r ≡ first_refusal ys → unless w (xs ++ ys) o ≡ refused w r
 unless_back w xs ys o r e f = unless_refused w (xs ++ ys) o r (sym (front_passed xs ys (Some r) e f))
 
@@ -114,6 +117,12 @@ pub six_passed : (w : World) (m : Member) (text : List ℕ) (a b c d : Bool × R
 six_passed w m text a b c d xs e =
     let f = e ∙ six_tests a b c d xs (room_tests w m text) in
     room_passed w m text (none_back (first_refusal xs) _ (none_back (first_refusal (d ∷ [])) _ (none_back (first_refusal (c ∷ [])) _ (none_back (first_refusal (b ∷ [])) _ (none_back (first_refusal (a ∷ [])) _ f)))))
+
+-- three lists of tests, where the first is of one
+pub two_passed : (w : World) (m : Member) (text : List ℕ) (a : Bool × Refusal) (xs : List (Bool × Refusal)) → None ≡ first_refusal (a ∷ (xs ++ room_tests w m text)) → length m.path < 2 ^ 32
+two_passed w m text a xs e =
+    let f = e ∙ first_append (a ∷ []) (xs ++ room_tests w m text) ∙ ap (or_else (first_refusal (a ∷ []))) (first_append xs (room_tests w m text)) in
+    room_passed w m text (none_back (first_refusal xs) _ (none_back (first_refusal (a ∷ [])) _ f))
 
 -- ---- failures
 

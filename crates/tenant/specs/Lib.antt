@@ -2,5 +2,6 @@ pub mod Outcomes
 pub mod Keeps
 pub mod Accepts
 pub mod Receipts
+pub mod Needs
 pub mod Joins
 pub mod Stands

@@ -2,21 +2,21 @@
 
 ghost use Rattle.std.specs.Prelude.{◌≡◌, ◌<◌, ◌≤◌, ◌^◌, ◌∷◌, [], ◌++◌, ◌==◌, IfOk, IfNone, OnErr, MatchOption, length, nat_lt, slice_get, Some, None, take, not, List, ℕ};
 ghost use Rattle.std.specs.List.{list_any, list_all, filter};
-ghost use Rattle.model.specs.Nodes.{letter as letter_of, past as past_of, node_at as node_of};
-ghost use Rattle.model.specs.Steps.{deliver as deliver_of, turn_upon_receipt, is_down, number_tests, room_tests};
+ghost use Rattle.model.specs.Nodes.{node_at as node_of};
+ghost use Rattle.model.specs.Steps.{deliver as deliver_of};
 ghost use Rattle.model.specs.World.{executed, is_blind as is_blind_of, is_orphan as is_orphan_of, unstable_units as unstable_units_of, is_stable as is_stable_of, Member as MemberOf};
 ghost use Rattle.model.specs.declared.refusals.Refusal.TheVariants.{Wait, Orphan, Pending};
 ghost use Rattle.model.specs.declared.names.Source.TheVariants.{Unit as FromUnit};
 ghost use Rattle.model.specs.Steps.{first_refusal};
+ghost use Rattle.tenant.specs.Needs.{IsAsked, deliver_needs};
 ghost use Rattle.tenant.specs.Outcomes.{IsPlain, done, or_else};
 ghost use Rattle.tenant.specs.Receipts.{deliver_front};
 
-use crate::accepts::Plan;
 use crate::answer::Answer;
 use crate::receipt_tests::{down_refusal, number_refusal};
 use crate::tenant::Tenant;
 use graph::{Cause, Member, Message, Node, pasts, reads};
-use handler::{Handler, Turn};
+use handler::{Ask, Done, Handler};
 use model::{Letter, NoMemory, Refusal, Row, Source, Unit};
 use std::alloc::Global;
 use std::collections::VecDeque;
@@ -151,35 +151,44 @@ impl<H: Handler> Tenant<H> {
         self.optimism as usize
     }
 
-    /// The turn that a delivery would have.
-    fn turn_upon_letter(
+    /// The turn that a delivery needs, or why it needs none.
+    pub(crate) fn ask_letter(
         &self,
         alloc: Global,
         handler: &H,
         letter: Letter,
-        message: &Message,
-        member: &Member,
-    ) -> Result<Turn<H::State>, NoMemory>
-        requires { slice_get (executed H.meaning self.now).letters letter ≡ Some message.now }
-        ensures { IfOk result (λ t. t ≡ turn_upon_receipt H.meaning self.now message.now.receiver member.now (letter_of letter message.now.sender)) }
+    ) -> Result<Result<Ask<H>, Refusal>, NoMemory>
+        ensures { IfOk result (IsAsked (deliver_needs H.meaning self.now letter) (deliver_of H.meaning self.now letter) self.now) }
     {
-        let state = self.state_before(alloc, handler, member)?;
-        handler.handle(
-            alloc,
-            member.seat(),
-            &state,
-            Source::Unit(message.source()),
-            message.text().as_str(),
-        )
+        let message = match self.letter(letter) {
+            Some(message) => message,
+            None => {
+                return Ok(Err(Refusal::NoLetter));
+            }
+        };
+        let member = match self.member(message.receiver()) {
+            Some(member) => member,
+            None => {
+                return Ok(Err(Refusal::NoUnit));
+            }
+        };
+        match self.deliver_refusal(alloc, message, member)? {
+            Some(refusal) => return Ok(Err(refusal)),
+            None => {}
+        }
+        let source = Source::Unit(message.source());
+        let ask = self.ask_upon(alloc, handler, member, source, message.text())?;
+        Ok(Ok(ask))
     }
 
-    /// A unit receives a letter.
-    pub fn deliver(
+    /// A unit receives a letter, by the turn that this needs.
+    pub(crate) fn take_letter(
         &mut self,
         alloc: Global,
-        handler: &H,
         letter: Letter,
+        worked: Done<H>,
     ) -> Result<Answer, NoMemory>
+        requires { deliver_needs H.meaning self.old letter ≡ Some worked.input }
         ensures done { IfOk result (λ a. deliver_of H.meaning self.old letter ≡ done a.reply self.new) }
         ensures plain { IfOk result IsPlain }
         ensures err { OnErr result (self.new ≡ self.old) }
@@ -191,26 +200,28 @@ impl<H: Handler> Tenant<H> {
             }
         };
         let unit = message.receiver();
-        let member = match self.member(unit) {
-            Some(member) => member,
-            None => {
-                return Ok(Answer::refused(Refusal::NoUnit));
-            }
-        };
-        match self.deliver_refusal(alloc, message, member)? {
-            Some(refusal) => return Ok(Answer::refused(refusal)),
-            None => {}
-        }
-        let turn = self.turn_upon_letter(alloc, handler, letter, message, member)?;
-        match self.turn_refusal(alloc, member, &turn)? {
-            Some(refusal) => return Ok(Answer::refused(refusal)),
-            None => {}
-        }
         let cause = Cause::Letter(letter.number(), message.sender());
-        let plan = self.plan(alloc, unit, member, cause, &turn)?;
-        let Plan { node, made, answer } = plan;
-        self.enter(usize::from(unit.number()), node, made, turn)?;
-        Ok(answer)
+        self.receive(alloc, unit, cause, worked.into_turn())
+    }
+
+    /// A unit receives a letter.
+    pub(crate) fn deliver(
+        &mut self,
+        alloc: Global,
+        handler: &H,
+        letter: Letter,
+    ) -> Result<Answer, NoMemory>
+        ensures done { IfOk result (λ a. deliver_of H.meaning self.old letter ≡ done a.reply self.new) }
+        ensures plain { IfOk result IsPlain }
+        ensures err { OnErr result (self.new ≡ self.old) }
+    {
+        match self.ask_letter(alloc, handler, letter)? {
+            Err(refusal) => Ok(Answer::refused(refusal)),
+            Ok(ask) => {
+                let worked = ask.work(alloc, handler)?;
+                self.take_letter(alloc, letter, worked)
+            }
+        }
     }
 }
 

@@ -9,7 +9,9 @@
 //! - `tenant`: the struct, what it keeps, and what is read off it;
 //! - `step`: one step of an open tenant; `opens`, `joins`, `posts`, `delivers`, `flushes`, `kills`,
 //!   `backs`, `releases`: the steps;
-//! - `receipt_tests`, `accepts`: the tests of a receipt, and what one that is taken adds.
+//! - `receipt_tests`, `receives`, `accepts`: the tests of a receipt, the turn that it needs, and what
+//!   one that is taken adds;
+//! - `prepares`: a step whose turn is worked elsewhere.
 #![tactic(auto)]
 
 mod accepts;
@@ -23,7 +25,9 @@ mod kills;
 pub mod laws;
 mod opens;
 mod posts;
+mod prepares;
 mod receipt_tests;
+mod receives;
 mod released;
 mod releases;
 mod step;

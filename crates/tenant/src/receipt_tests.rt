@@ -6,10 +6,10 @@ ghost use Rattle.std.specs.List.{filter, list_any};
 ghost use Rattle.model.specs.Handler.{Turn as TurnOf};
 ghost use Rattle.model.specs.Nodes.{sends_within, execution};
 ghost use Rattle.model.specs.World.{held as held_of, executed};
-ghost use Rattle.model.specs.Steps.{is_long as is_long_text, is_large as is_large_turn, is_down, number_tests, room_tests, turn_tests};
+ghost use Rattle.model.specs.Steps.{is_long as is_long_text, is_large as is_large_turn, room_tests, turn_tests};
 ghost use Rattle.model.specs.Steps.{first_refusal};
 ghost use Rattle.model.specs.declared.refusals.Refusal.TheVariants.{Repeat, Gap, Down};
-ghost use Rattle.model.specs.declared.names.Source.TheVariants.{Outside};
+ghost use Rattle.tenant.specs.Receipts.{post_front};
 
 use crate::tenant::Tenant;
 use graph::Member;
@@ -142,7 +142,7 @@ pub fn down_refusal(up: bool) -> Option<Refusal>
 impl<H: Handler> Tenant<H> {
     /// Why a post is refused before its turn is worked.
     pub fn post_refusal(&self, member: &Member, number: u32, text: &Text) -> Option<Refusal>
-        ensures refusal { result ≡ first_refusal (is_down member.now ∷ (number_tests self.now member.now Outside number ++ room_tests self.now member.now text.now)) }
+        ensures refusal { result ≡ first_refusal (post_front self.now member.now number text.now) }
         ensures room { IfNone result (length member.now.path < 2 ^ 32) }
     {
         match down_refusal(member.is_up()) {

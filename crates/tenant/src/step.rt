@@ -16,7 +16,7 @@ use std::alloc::Global;
 
 impl<H: Handler> Tenant<H> {
     /// The step, by the definitions of the world that the tenant is seen as.
-    fn work<S: Store>(
+    pub(crate) fn work<S: Store>(
         &mut self,
         alloc: Global,
         handler: &H,

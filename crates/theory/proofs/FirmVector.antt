@@ -1,5 +1,5 @@
 -- The greatest marks of a past tell whether it is stable.
-use Rattle.std.proofs.Common.{◌≡◌, inl, inr, refl, sym, ◌∙◌, ap, subst, ℕ, zero, suc, ◌+◌, ◌<◌, ◌≤◌, Bool, true, false, cond, not, List, [], ◌∷◌, length, arith, map}
+use Rattle.std.proofs.Common.{◌≡◌, inl, inr, refl, sym, ◌∙◌, ap, subst, ℕ, zero, suc, ◌+◌, ◌<◌, ◌≤◌, Bool, true, false, not, List, [], ◌∷◌, length, arith, map}
 use Rattle.std.specs.Prelude.{Some, slice_get, ◌==◌, nat_lt}
 use Rattle.std.specs.List.{list_any, filter}
 use native.Mathlib.Decide.{dec_lt}
@@ -9,7 +9,7 @@ use Rattle.model.specs.Lists.{numbers_from}
 use Rattle.model.specs.Nodes.{node_at, past, DependsOn}
 use Rattle.model.specs.World.{World, Member, is_firm, is_stable, mark_of, greatest_mark, past_nodes, no_mark}
 use Rattle.theory.specs.Laws.{mark_lost, any_mark, stable_of, mark_stable, FirmByVector, UnstableByVector}
-use Rattle.theory.proofs.ListLaws.{same_some, bool_cases, or_cases, any_at, has_at, at_has, map_at, and_both, both_and, true_lt, lt_true, true_eq, eq_true, get_below, has_all, all_has, not_true}
+use Rattle.theory.proofs.ListLaws.{same_some, bool_cases, or_cases, any_at, has_at, at_has, map_at, and_both, both_and, true_lt, lt_true, true_eq, eq_true, get_below, has_all, all_has, not_true, filtered_at}
 use Rattle.theory.proofs.Pasts.{depends_le, depends_past, past_depends}
 use Rattle.theory.proofs.Firm.{stable_stands, stands_stable}
 use Rattle.theory.proofs.RowLaws.{Loses, loses_absurd}
@@ -116,18 +116,9 @@ from_any_below p f (suc n) u e = elim (or_cases (p u (f u)) (any_mark p (suc u) 
   | inr h ↦ let t = from_any_below p f n (suc u) h in (t.0, omega (arith, t.1), t.2)
 ]
 
-filtered_at : {X : Type 0} (p : X → Bool) (xs : List X) (i : ℕ) (y : X) → slice_get (filter p xs) i ≡ Some y → ((j : ℕ) × (slice_get xs j ≡ Some y)) × (p y ≡ true)
-filtered_at p [] i y e = cc
-filtered_at {X} p (x ∷ xs) i y e = go (p x) refl i (λ k f. filtered_at p xs k y f) e
-  where
-    go : (b : Bool) → p x ≡ b → (k : ℕ) → ((k : ℕ) → slice_get (filter p xs) k ≡ Some y → ((j : ℕ) × (slice_get xs j ≡ Some y)) × (p y ≡ true))
-        → slice_get (cond b (x ∷ filter p xs) (filter p xs)) k ≡ Some y → ((j : ℕ) × (slice_get (x ∷ xs) j ≡ Some y)) × (p y ≡ true)
-    go true q zero rest f = let is : x ≡ y = same_some x y f in ((0, f), ap p (sym is) ∙ q)
-    go true q (suc k) rest f = let t = rest k f in ((suc t.0.0, t.0.1), t.1)
-    go false q k rest f = let t = rest k f in ((suc t.0.0, t.0.1), t.1)
-
 module _ {S : Type 0} (M : Meaning S) where
-  units_within : (w : World) → (g : Invariant M w) → (x : ℕ) → x < length w.nodes → (node_at w.nodes x).units ≤ length w.members
+  -- a node had no more units than there are
+  pub units_within : (w : World) (g : Invariant M w) (x : ℕ) → x < length w.nodes → (node_at w.nodes x).units ≤ length w.members
   units_within w g x h =
       let k = g.counted in
       elim (bool_cases (is_began (node_at w.nodes x).cause)) [

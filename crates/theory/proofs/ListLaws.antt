@@ -1,10 +1,10 @@
 -- Laws of lists that are looked up by place, and of tests on them.
-use Rattle.std.proofs.Common.{◌≡◌, ◌≢◌, ◌⊎◌, inl, inr, refl, ap, ℕ, zero, suc, pred, ◌<◌, ◌≤◌, Bool, true, false, cond, ◌||◌, ◌&&◌, List, [], ◌∷◌, ◌++◌, length, take, arith, length-take, sym, not, ◌-◌}
-use Rattle.std.specs.Prelude.{Some, slice_get, slice_set, ◌==◌, map, nat_lt, nat_le, Option}
+use Rattle.std.proofs.Common.{◌≡◌, ◌≢◌, ◌⊎◌, inl, inr, refl, ◌∙◌, ap, ℕ, zero, suc, pred, ◌+◌, ◌<◌, ◌≤◌, Bool, true, false, cond, ◌||◌, ◌&&◌, List, [], ◌∷◌, ◌++◌, length, take, drop, get_or, replicate, arith, length-take, sym, not, ◌-◌}
+use Rattle.std.specs.Prelude.{Some, slice_get, slice_index, slice_set, ◌==◌, map, nat_lt, nat_le, Option}
 use Rattle.std.proofs.lemmas.Bool.Decides.{nat_tests}
-use Rattle.std.specs.List.{list_any, list_all, take_while, prefix_len}
+use Rattle.std.specs.List.{filter, list_any, list_all, take_while, prefix_len}
 use Rattle.std.proofs.lemmas.List.Sums.{take_while-cons}
-use Rattle.std.proofs.lemmas.Option.{slice_get_within}
+use Rattle.std.proofs.lemmas.Option.{slice_get_within, get_or_from_slice_get}
 use Rattle.std.proofs.Math.Nat.{sub-zero}
 use Rattle.model.specs.Lists.{has}
 use Rattle.model.specs.Nodes.{Cause, letter, place_before, sender_of}
@@ -275,3 +275,32 @@ get_append_any (z ∷ xs) ys (suc i) x e = elim (get_append_any xs ys i x e) [ i
 pub single : {X : Type 0} (z : X) (i : ℕ) (x : X) → slice_get (z ∷ []) i ≡ Some x → (i ≡ 0) × (x ≡ z)
 single z zero x e = (refl, cc)
 single z (suc i) x e = cc
+
+-- an element behind a front is one of the list
+pub get_drop : {X : Type 0} (xs : List X) (n i : ℕ) (x : X) → slice_get (drop n xs) i ≡ Some x → slice_get xs (n + i) ≡ Some x
+get_drop xs zero i x e = let k : 0 + i ≡ i = omega arith in rw k e
+get_drop [] (suc n) i x e = cc
+get_drop (y ∷ xs) (suc n) i x e = let k : suc n + i ≡ suc (n + i) = omega arith in rw k (get_drop xs n i x e)
+
+-- an element that a filter keeps is one of the list, and passes
+pub filtered_at : {X : Type 0} (p : X → Bool) (xs : List X) (i : ℕ) (y : X) → slice_get (filter p xs) i ≡ Some y → ((j : ℕ) × (slice_get xs j ≡ Some y)) × (p y ≡ true)
+filtered_at p [] i y e = cc
+filtered_at {X} p (x ∷ xs) i y e = go (p x) refl i (λ k f. filtered_at p xs k y f) e
+  where
+    go : (b : Bool) → p x ≡ b → (k : ℕ) → ((k : ℕ) → slice_get (filter p xs) k ≡ Some y → ((j : ℕ) × (slice_get xs j ≡ Some y)) × (p y ≡ true))
+        → slice_get (cond b (x ∷ filter p xs) (filter p xs)) k ≡ Some y → ((j : ℕ) × (slice_get (x ∷ xs) j ≡ Some y)) × (p y ≡ true)
+    go true q zero rest f = let is : x ≡ y = same_some x y f in ((0, f), ap p (sym is) ∙ q)
+    go true q (suc k) rest f = let t = rest k f in ((suc t.0.0, t.0.1), t.1)
+    go false q k rest f = let t = rest k f in ((suc t.0.0, t.0.1), t.1)
+
+-- the number that a map gives an element
+pub index_map : {X : Type 0} (f : X → ℕ) (xs : List X) (i : ℕ) (x : X) → slice_get xs i ≡ Some x → slice_index (map f xs) i ≡ f x
+index_map f xs i x e = get_or_from_slice_get (map f xs) i (f x) 0 (at_map f xs i x e)
+
+-- more of the default at the end changes no look-up
+pub get_or_padded : {X : Type 0} (xs : List X) (d : X) (n i : ℕ) → get_or (xs ++ replicate n d) i d ≡ get_or xs i d
+get_or_padded [] d zero i = refl
+get_or_padded [] d (suc n) zero = refl
+get_or_padded [] d (suc n) (suc i) = get_or_padded [] d n i
+get_or_padded (x ∷ xs) d n zero = refl
+get_or_padded (x ∷ xs) d n (suc i) = get_or_padded xs d n i

@@ -39,7 +39,7 @@ impl VolatileLog {
         }
     }
 
-    //// How many records there are.
+    /// How many records there are.
     pub fn len(&self) -> usize
         ensures { result ≡ length self.now.records }
     {

@@ -1,7 +1,8 @@
 //! Writes until all is out.
 
-ghost use Rattle.std.specs.Prelude.{◌≤◌, IfOk, OnOk, OnErr, length, take};
+ghost use Rattle.std.specs.Prelude.{◌≡◌, ◌≤◌, ◌↔◌, IfOk, IsTrue, OnOk, OnErr, length, take};
 ghost use Rattle.std.specs.Io.KnownBytes.{Appends, Keeps};
+ghost use Rattle.std.specs.IoError.{error_kind};
 ghost use Rattle.written.specs.Beginnings.{AppendsBeginning};
 
 use std::io;
@@ -15,7 +16,9 @@ use thiserror::Error;
 pub struct Failed;
 
 /// Whether a call was interrupted: it did nothing, and may be made again.
-pub fn is_interrupted(error: &io::Error) -> bool {
+pub fn is_interrupted(error: &io::Error) -> bool
+    ensures { IsTrue result ↔ (error_kind error.now ≡ ErrorKind.Interrupted) }
+{
     error.kind() == ErrorKind::Interrupted
 }
 

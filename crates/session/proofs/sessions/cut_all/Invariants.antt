@@ -1,5 +1,5 @@
 use Rattle.std.proofs.Common.{◌≡◌, ◌++◌, take, drop, length}
-use Rattle.session.proofs.Cuts.{padded}
+use Rattle.session.specs.Counts.{padded}
 use Rattle.session.proofs.sessions.cut_all.Given as goal
 
 -- the entries before this one are cut back

@@ -7,7 +7,7 @@ invariant_of-self-in-Ok g c =
     let now = c.self.inside in
     let next = c.answer-done.new in
     let a = c.in-Ok.answer in
-    rw (c.push_reserved.ensures.items, c.reserve.ensures.items, c.in-Ok.ensures.kept) (
+    rw (c.enter.ensures.entered, c.reserve_place.ensures.same, c.in-Ok.ensures.kept) (
     entered g.H.Handler.meaning (holding now.tenants now.log) (holding next.tenants next.log) now.history.items
     (record { who = c.args.who; step = c.args.step; said = a.said; reply = a.reply })
     c.self.invariant c.in-Ok.ensures.answered)

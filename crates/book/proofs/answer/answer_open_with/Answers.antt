@@ -1,0 +1,20 @@
+use Rattle.book.proofs.Answers.{if_ok, if_some, logs_open, steps_open, unopened}
+use Rattle.book.proofs.answer.answer_open_with.Goals as goal
+
+pub returns-clause-steps : goal.returns-clause-steps
+returns-clause-steps g c =
+    if_ok c.step_with.result
+    (λ o. if_some o (λ a. steps_open g.H.Handler.meaning c.args.name.now c.args.tenant.now c.step_with.new.self c.args.step a.said a.reply c.args.log.now c.step_with.new.log))
+    c.step_with.ensures.did
+
+pub returns-clause-logs : goal.returns-clause-logs
+returns-clause-logs g c =
+    if_ok c.step_with.result
+    (λ o. if_some o (λ a. logs_open g.H.Handler.meaning c.args.name.now c.args.tenant.now c.step_with.new.self c.args.step a.said a.reply c.args.log.now c.step_with.new.log))
+    c.step_with.ensures.did
+
+pub returns-clause-unopened : goal.returns-clause-unopened
+returns-clause-unopened g c =
+    if_ok c.step_with.result
+    (λ o. if_some o (λ a. unopened g.H.Handler.meaning c.args.name.now c.args.tenant.now c.step_with.new.self c.args.step a.said a.reply c.args.log.now c.step_with.new.log))
+    c.step_with.ensures.did

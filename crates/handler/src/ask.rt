@@ -1,0 +1,109 @@
+//! A turn that is asked for, and one that was worked.
+
+ghost use Rattle.std.specs.Prelude.{◌≡◌, ◌↔◌, IfOk, IsTrue};
+ghost use Rattle.handler.specs.Inputs.{Worked, turn_of};
+
+use crate::law::Handler;
+use crate::turn::Turn;
+use ident::{NoMemory, Seat, Source, Text};
+use std::alloc::Global;
+use std::marker::Model;
+
+/// The whole input of a turn: seat, state, source and text. Who has it can work the turn wherever
+/// it likes, and needs nothing else for it.
+#[derive(Drop)]
+pub struct Ask<H: Handler> {
+    seat: Seat,
+    state: H::State,
+    source: Source,
+    text: Text,
+}
+
+impl<H: Handler> Model for Ask<H> {
+    ghost use Rattle.handler.specs.Inputs.{Input};
+
+    ghost Value = { Input H.State };
+
+    ghost view = { λ a. record { seat = a.seat; state = a.state; source = a.source; text = a.text } };
+}
+
+/// A turn that was worked, with the input that it was worked from. It is always what the handlers
+/// of the type mean by that input.
+#[derive(Drop)]
+pub struct Done<H: Handler> {
+    input: Ask<H>,
+    turn: Turn<H::State>,
+}
+
+impl<H: Handler> Model for Done<H> {
+    ghost use Rattle.std.specs.Prelude.{◌≡◌};
+    ghost use Rattle.handler.specs.Inputs.{Worked, turn_of};
+
+    ghost Value = { Worked H.State };
+
+    ghost view = { λ d. record { input = d.input; turn = d.turn } };
+
+    ghost invariant = { λ d. d.turn ≡ turn_of H.meaning d.input };
+}
+
+impl<H: Handler> Ask<H> {
+    /// Asks for the turn of this input.
+    pub fn new(seat: Seat, state: H::State, source: Source, text: Text) -> Ask<H>
+        ensures { result ≡ record { seat = seat; state = state; source = source; text = text } }
+    {
+        Ask {
+            seat,
+            state,
+            source,
+            text,
+        }
+    }
+
+    /// Whose turn it is. It takes no memory.
+    pub fn seat(&self) -> Seat
+        ensures { result ≡ self.now.seat }
+    {
+        self.seat
+    }
+
+    /// Whether the two are of the same whole input. It takes no memory.
+    pub fn is_same(&self, other: &Ask<H>) -> bool
+        ensures { IsTrue result ↔ (self.now ≡ other.now) }
+    {
+        self.seat == other.seat
+            && self.state == other.state
+            && self.source == other.source
+            && self.text == other.text
+    }
+
+    /// Works the turn. `NoMemory` comes where the handler found none.
+    pub fn work(self, alloc: Global, handler: &H) -> Result<Done<H>, NoMemory>
+        ensures { IfOk result (λ d. d.input ≡ self) }
+    {
+        let turn = handler.handle(
+            alloc,
+            self.seat,
+            &self.state,
+            self.source,
+            self.text.as_str(),
+        )?;
+        Ok(Done { input: self, turn })
+    }
+}
+
+impl<H: Handler> Done<H> {
+    /// The input.
+    pub fn input(&self) -> &Ask<H>
+        ensures { result.now ≡ self.now.input }
+    {
+        &self.input
+    }
+
+    /// The turn, which is what the input means.
+    pub fn into_turn(self) -> Turn<H::State>
+        ensures { result ≡ turn_of H.meaning self.input }
+    {
+        let Done { input, turn } = self;
+        turn
+    }
+}
