@@ -1,5 +1,5 @@
 use crate::served;
-use audit::{Verdict, check};
+use audit::check;
 use auditor::can_check;
 use book::Book;
 use handler::Sample;
@@ -168,17 +168,15 @@ fn certificates_hold_what_is_firm(rt: HostRuntime) -> Result<(), Fail> {
     Ok(())
 }
 
-/// The audit, where there is a list for each unit.
-fn audited(
+/// Whether the audit, where there is a list for each unit, tells this flaw, or none.
+fn tells(
     alloc: Global,
     seats: &[Seat],
     moves: &[Move],
     released: &[Texts],
-) -> Result<Result<Verdict, Flaw>, Fail> {
-    if !can_check(seats, moves, released) {
-        return Err(Fail::from("no list for each unit"));
-    }
-    Ok(check(alloc, &Sample, seats, moves, released))
+    want: Option<Flaw>,
+) -> bool {
+    can_check(seats, moves, released) && check(alloc, &Sample, seats, moves, released).err() == want
 }
 
 /// No output of unit 0, and one of unit 1.
@@ -191,33 +189,49 @@ fn one_output(alloc: Global, text: &str) -> Result<Vec<Texts>, NoMemory> {
     Ok(lists)
 }
 
-#[test]
-fn tampering_is_found(rt: HostRuntime) -> Result<(), Fail> {
-    let alloc = rt.alloc();
+/// The seats and the certificate of tenant `a` after these steps.
+fn certified(alloc: Global, steps: &str) -> Result<(Vec<Seat>, Vec<Move>), Fail> {
     let name = name(alloc, "a")?;
-    let mut reader = Counted::new(AFTER_A_KILL.as_bytes());
+    let mut reader = Counted::new(steps.as_bytes());
     let mut writer = Counted::new(Vec::new(alloc));
     let mut book = Book::new(alloc, Sample, MemoryStore::new(alloc));
     serve(alloc, &mut reader, &mut writer, &mut book)?;
     let seats = book.seats(alloc, &name)?;
     let moves = book.certificate(alloc, &name)?;
+    Ok((seats, moves))
+}
+
+fn outputs_differ() -> Option<Flaw> {
+    Some(Flaw::OutputsDiffer(Unit::new(1)))
+}
+
+fn nothing_to_receive() -> Option<Flaw> {
+    Some(Flaw::NothingToReceive(Unit::new(1)))
+}
+
+#[test]
+fn tampering_is_found(rt: HostRuntime) -> Result<(), Fail> {
+    let alloc = rt.alloc();
+    let (seats, moves) = certified(alloc, AFTER_A_KILL)?;
     let (seats, moves) = (seats.as_slice(), moves.as_slice());
-    let lists = one_output(alloc, "y")?;
-    let released = lists.as_slice();
-    assert_eq!(rt;
-        audited(alloc, seats, moves, released)?,
-        Ok(Verdict { moves: 2 })
-    );
+    let released = one_output(alloc, "y")?;
     let lost = one_output(alloc, "x")?;
-    let told = audited(alloc, seats, moves, lost.as_slice())?;
-    assert_eq!(rt; told, Err(Flaw::OutputsDiffer(Unit::new(1))));
-    let first = moves.get(..1).ok_or("no moves")?;
-    let told = audited(alloc, seats, first, released)?;
-    assert_eq!(rt; told, Err(Flaw::OutputsDiffer(Unit::new(1))));
-    let rest = moves.get(1..).ok_or("no moves")?;
-    let told = audited(alloc, seats, rest, released)?;
-    assert_eq!(rt; told, Err(Flaw::NothingToReceive(Unit::new(1))));
-    let one_seat = seats.get(..1).ok_or("no seats")?;
-    assert!(rt; !can_check(one_seat, moves, released));
+    let first = moves.get(..1).unwrap_or(&[]);
+    let rest = moves.get(1..).unwrap_or(&[]);
+    let one_seat = seats.get(..1).unwrap_or(&[]);
+    assert!(rt; tells(alloc, seats, moves, released.as_slice(), None));
+    assert!(rt; tells(alloc, seats, moves, lost.as_slice(), outputs_differ()));
+    assert!(rt; tells(alloc, seats, first, released.as_slice(), outputs_differ()));
+    assert!(rt;
+        tells(
+            alloc,
+            seats,
+            rest,
+            released.as_slice(),
+            nothing_to_receive()
+        )
+    );
+    assert!(rt; !can_check(one_seat, moves, released.as_slice()));
+    assert_eq!(rt; rest.len(), 1);
     Ok(())
 }
