@@ -4,13 +4,12 @@ use Rattle.std.specs.Prelude.{IsTrue, ◌↔◌}
 use Rattle.std.specs.Cmp.Lexicographic.{pointwise}
 use Rattle.std.specs.Str.{bytes_eq}
 use Rattle.std.proofs.lemmas.Slice.Eq.{starts_is, bytes_eq-Decides}
-use Rattle.std.proofs.lemmas.List.{drop_all}
+use Rattle.std.proofs.lemmas.List.{drop_all, drop_more}
 use Rattle.std.proofs.lemmas.Option.{slice_get_read}
 use mathlib.Core.List.{IsPrefix}
 use Rattle.model.specs.FailureFree.{Worker, BeginWith}
 use Rattle.audit.specs.Working.{AreInOrder}
 use Rattle.audit.specs.Released.{DiffersFirst}
-use Rattle.audit.proofs.Queues.{drop_get}
 use Rattle.audit.proofs.Making.{unit_at}
 
 pub begins_is : (outputs list : List (List ℕ)) (r : Bool) → r ≡ pointwise bytes_eq list (take (length list) outputs) → IsTrue r ↔ IsPrefix list outputs
@@ -32,18 +31,18 @@ module _ {S : Type 0} (workers : List (Worker S)) (released : List (List (List �
       (is_a : a ≡ get_or workers i a) (is_r : r ≡ get_or released i r) where
     at_next : IsPrefix r a.outputs → (u : ℕ) → DiffersFirst (drop (i + 1) workers) (drop (i + 1) released) u → DiffersFirst (drop i workers) (drop i released) (suc u)
     at_next p u h = let k : i < length released = omega arith in
-        rw (drop_get workers i a within, drop_get released i r k, ← is_a, ← is_r) (p, h)
+        rw (drop_more workers i a within, drop_more released i r k, ← is_a, ← is_r) (p, h)
 
     pub begins_here : IsPrefix r a.outputs → IsSoFar workers released i → IsSoFar workers released (i + 1)
     begins_here p was = (
-      λ h. was.0 (let k : i < length released = omega arith in rw (drop_get workers i a within, drop_get released i r k, ← is_a, ← is_r) (p, h)),
+      λ h. was.0 (let k : i < length released = omega arith in rw (drop_more workers i a within, drop_more released i r k, ← is_a, ← is_r) (p, h)),
       λ u h. let e : i + 1 + u ≡ i + suc u = omega arith in rw e (was.1 (suc u) (at_next p u h)),
     )
 
     pub differs_here : AreInOrder workers → ¬ (IsPrefix r a.outputs) → IsSoFar workers released i → DiffersFirst workers released a.seat.unit
     differs_here order p was =
         let k : i < length released = omega arith in
-        let here : DiffersFirst (drop i workers) (drop i released) 0 = rw (drop_get workers i a within, drop_get released i r k, ← is_a, ← is_r) p in
+        let here : DiffersFirst (drop i workers) (drop i released) 0 = rw (drop_more workers i a within, drop_more released i r k, ← is_a, ← is_r) p in
         let found = slice_get_read workers (length workers) i a refl within is_a in
         let e : a.seat.unit ≡ i + 0 = unit_at workers i a order found ∙ omega arith in
         rw e (was.1 0 here)

@@ -1,5 +1,6 @@
 -- Moves as the code makes them.
 use Rattle.std.proofs.Common.{◌≡◌, refl, sym, ◌∙◌, ap, subst, ℕ, suc, ◌+◌, ◌<◌, true, false, cond, List, [], ◌∷◌, ◌++◌, length, map, get_or, drop, arith, zero-add}
+use Rattle.std.proofs.lemmas.List.{drop_more, length-map}
 use Rattle.std.specs.Prelude.{Option, Some, None, Result, Ok, Err, slice_get, slice_set, nat_lt, nat_le, Bool}
 use Rattle.model.specs.declared.names.Seat.{Seat}
 use Rattle.model.specs.declared.names.Source.{Source}
@@ -14,7 +15,6 @@ use Rattle.model.specs.FailureFree.{Worker, Packet, Network, works_on, new_worke
 use Rattle.audit.specs.Working.{AreInOrder, after_turn, packets_from, Makes}
 use Rattle.audit.specs.Audits.{joins, AreNumbered}
 use Rattle.audit.proofs.Orders.{numbered_at, numbered_set, numbered_more, length_set, length_more}
-use Rattle.audit.proofs.Queues.{drop_get}
 
 pub unit_at : {S : Type 0} (workers : List (Worker S)) (u : ℕ) (a : Worker S) → AreInOrder workers → slice_get workers u ≡ Some a → a.seat.unit ≡ u
 unit_at workers u a order found = numbered_at (λ b. b.seat.unit) 0 workers u a order found ∙ zero-add u
@@ -97,7 +97,7 @@ pub move_made : {S : Type 0} (M : Meaning S) (net next : Network S) (all : Resul
     → AreInOrder net.workers × (run_from M net (drop i moves) ≡ all) → i < length moves → m ≡ get_or moves i m → moved M net m ≡ Ok next
     → AreInOrder next.workers × (run_from M next (drop (i + 1) moves) ≡ all)
 move_made M net next all moves i m was h e made =
-    ((move_kept M net next was.0 m made).0, rw (drop_get moves i m h, ← e, made) at was.1)
+    ((move_kept M net next was.0 m made).0, rw (drop_more moves i m h, ← e, made) at was.1)
 
 flaw_stays : {X : Type 0} (f : Flaw) (one all : Result X Flaw) → Makes {X = X} (Err f) one → (one ≡ Err f → all ≡ Err f) → Makes {X = X} (Err f) all
 flaw_stays (NoUnit u) one all e k = k e
@@ -109,7 +109,7 @@ pub move_fails : {S : Type 0} (M : Meaning S) (net : Network S) (all : Result (N
     → AreInOrder net.workers × (run_from M net (drop i moves) ≡ all) → i < length moves → m ≡ get_or moves i m → Makes {X = Network S} (Err f) (moved M net m)
     → Makes {X = Network S} (Err f) all
 move_fails M net all moves i m f was h e fails =
-    flaw_stays f (moved M net m) all fails (λ q. sym was.1 ∙ rw (drop_get moves i m h, ← e, q) refl)
+    flaw_stays f (moved M net m) all fails (λ q. sym was.1 ∙ rw (drop_more moves i m h, ← e, q) refl)
 
 joins_more : (m : Move) (moves : List Move) → joins (m ∷ moves) ≡ joins (m ∷ []) + joins moves
 joins_more (Takes u text) moves = omega arith
@@ -145,14 +145,10 @@ workers_order M k (s ∷ seats) e =
 pub workers_in_order : {S : Type 0} (M : Meaning S) (seats : List Seat) (workers : List (Worker S)) → AreNumbered seats → workers ≡ map (new_worker M) seats → AreInOrder workers
 workers_in_order M seats workers order e = rw e (workers_order M 0 seats order)
 
-length_all : {X Y : Type 0} (f : X → Y) (xs : List X) → length (map f xs) ≡ length xs
-length_all f [] = refl
-length_all f (x ∷ xs) = ap suc (length_all f xs)
-
 pub run_kept : {S : Type 0} (M : Meaning S) (seats : List Seat) (moves : List Move) (workers : List (Worker S)) (packets : List Packet) (last : Network S)
     → AreNumbered seats → workers ≡ map (new_worker M) seats → run_from M (record { workers = workers; packets = packets }) moves ≡ Ok last
     → AreInOrder last.workers × (length last.workers ≡ length seats + joins moves)
 run_kept {S} M seats moves workers packets last order e run =
     let kept = all_kept M (record { workers = workers; packets = packets }) moves last (workers_in_order M seats workers order e) run in
-    let len : length workers ≡ length seats = ap length e ∙ length_all (new_worker M) seats in
+    let len : length workers ≡ length seats = ap length e ∙ length-map seats (new_worker M) in
     (kept.0, omega (arith, kept.1, len))

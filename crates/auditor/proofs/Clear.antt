@@ -1,5 +1,6 @@
 -- The audit of a book's tenant finds no flaw.
 use Rattle.std.proofs.Common.{◌≡◌, refl, sym, ◌∙◌, ap, subst, ℕ, zero, suc, ◌+◌, ◌<◌, ◌≤◌, List, [], ◌∷◌, ◌++◌, length, map, take, arith}
+use Rattle.std.proofs.lemmas.List.{length-map}
 use Rattle.std.specs.Prelude.{Option, Some, None, Result, Ok, Err, slice_get, option_map}
 use mathlib.Core.List.{IsPrefix}
 use Rattle.model.specs.Alone.{Event, alone}
@@ -64,10 +65,6 @@ list_missing w u lists found so_far = let e : u + 1 ≡ suc u = omega arith in r
 
 -- ---- seats in order, and no more units than there may be
 
-length_map : {X Y : Type 0} (f : X → Y) (xs : List X) → length (map f xs) ≡ length xs
-length_map f [] = refl
-length_map f (x ∷ xs) = ap suc (length_map f xs)
-
 numbered_seats : (members : List Member) (o k : ℕ) → ((u : ℕ) (m : Member) → slice_get members u ≡ Some m → m.seat.unit ≡ k + u)
     → map (λ s. s.unit) (take o (map (λ m. m.seat) members)) ≡ numbers_from k (length (take o (map (λ m. m.seat) members)))
 numbered_seats members zero k h = refl
@@ -89,7 +86,7 @@ module _ {S : Type 0} (M : Meaning S) where
   world_few events (Some w) e =
       let g = reachable_invariant M (courses_reach M events w e) in
       let few = g.counted.few in
-      let len = length_map (λ m. m.released) w.members in
+      let len = length-map w.members (λ m. m.released) in
       omega (arith, few, len)
 
   pub all_lists : (tenant : List ℕ) (history : List Entry) → take 16 (lists_at (world_of M tenant history)) ≡ lists_at (world_of M tenant history)

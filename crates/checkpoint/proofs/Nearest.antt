@@ -1,9 +1,10 @@
 -- The last snapshot that is not above an index is the nearest one.
 use Rattle.std.proofs.Common.{◌≡◌, ◌⊎◌, inl, inr, refl, sym, ◌∙◌, ℕ, zero, suc, ◌<◌, ◌≤◌, Bool, true, false, cond, List, [], ◌∷◌, arith}
+use Rattle.std.proofs.lemmas.Option.{same_Some}
 use Rattle.std.specs.Prelude.{Option, Some, None, slice_get, nat_le, option_and_then, MatchOption}
 use Rattle.std.specs.List.{fold}
 use native.Mathlib.Decide.{dec_le}
-use Rattle.theory.proofs.ListLaws.{same_some, le_true, true_le}
+use Rattle.theory.proofs.ListLaws.{le_true, true_le}
 use Rattle.checkpoint.specs.declared.snapshot.Snapshot.{Snapshot}
 use Rattle.checkpoint.specs.Shelves.{Shelved, Rises, IsShelved, IsNearest, AllAbove, later_of, nearest_of}
 
@@ -30,7 +31,7 @@ found_there {S} index b (z ∷ xs) x e = elim (found_there index (later_of index
 ]
   where
     go : (q : Bool) → nat_le z.index index ≡ q → cond q (Some z) b ≡ Some x → (b ≡ Some x) ⊎ (((i : ℕ) × (slice_get (z ∷ xs) i ≡ Some x)) × (x.index ≤ index))
-    go true p f = let is : z ≡ x = same_some z x f in inr ((0, f), (let k = le_true z.index index p in rw (← is) k))
+    go true p f = let is : z ≡ x = same_Some z x f in inr ((0, f), (let k = le_true z.index index p in rw (← is) k))
     go false p f = inl f
 
 -- what is passed over is not greater
@@ -49,7 +50,7 @@ found_later : {S : Type 0} (index : ℕ) (b : Option (Snapshot S)) (xs : List (S
     → (x : Snapshot S) × (fold (later_of index) b xs ≡ Some x) × (y.index ≤ x.index)
 found_later index b [] i y r e le = cc
 found_later {S} index b (z ∷ xs) zero y r e le =
-    let is : z ≡ y = same_some z y e in
+    let is : z ≡ y = same_Some z y e in
     let t : nat_le z.index index ≡ true = rw is (true_le y.index index le) in
     rw (t, is) (found_above index y xs (λ i x f. r 0 (suc i) y x (omega arith) e f) (rest_rises z xs r))
 found_later index b (z ∷ xs) (suc i) y r e le = found_later index (later_of index b z) xs i y (rest_rises z xs r) e le
@@ -59,7 +60,7 @@ base_found index None x e = cc
 base_found {S} index (Some z) x e = go (nat_le z.index index) refl e
   where
     go : (q : Bool) → nat_le z.index index ≡ q → cond q (Some z) None ≡ Some x → (Some z ≡ Some x) × (x.index ≤ index)
-    go true p f = let is : z ≡ x = same_some z x f in (f, (let k = le_true z.index index p in rw (← is) k))
+    go true p f = let is : z ≡ x = same_Some z x f in (f, (let k = le_true z.index index p in rw (← is) k))
     go false p f = cc
 
 base_kept : {S : Type 0} (index : ℕ) (y : Snapshot S) → y.index ≤ index → option_and_then (later_of index None) (Some y) ≡ Some y
@@ -76,7 +77,7 @@ module _ {S : Type 0} (s : Shelved S) (r : Rises s.base s.others) (index : ℕ) 
   nearest_some x e = record {
     there = elim (found_there index (option_and_then (later_of index None) s.base) s.others x e) [ inl h ↦ inl (base_found index s.base x h).0 | inr h ↦ inr h.0 ];
     not_above = elim (found_there index (option_and_then (later_of index None) s.base) s.others x e) [ inl h ↦ (base_found index s.base x h).1 | inr h ↦ h.1 ];
-    greatest = λ y there le. let t = shelved_found y there le in let is : t.0 ≡ x = same_some t.0 x (sym t.1 ∙ e) in let k = t.2 in rw (← is) k;
+    greatest = λ y there le. let t = shelved_found y there le in let is : t.0 ≡ x = same_Some t.0 x (sym t.1 ∙ e) in let k = t.2 in rw (← is) k;
   }
 
   -- where none is found all are above

@@ -3,8 +3,8 @@ use Rattle.std.proofs.Common.{◌≡◌, ◌≢◌, inl, inr, refl, ◌∙◌, a
 use Rattle.std.specs.Prelude.{Option, Some, None, slice_get, nat_lt}
 use Rattle.std.specs.List.{list_any, remove}
 use Rattle.std.specs.Option.{option_map_or}
-use Rattle.std.proofs.lemmas.Option.{slice_get_within}
-use Rattle.theory.proofs.ListLaws.{get_append, get_drop, get_take, at_any, same_some, true_eq}
+use Rattle.std.proofs.lemmas.Option.{slice_get_within, same_Some}
+use Rattle.theory.proofs.ListLaws.{get_append, get_drop, get_take, at_any, true_eq}
 use Rattle.checkpoint.specs.declared.snapshot.Snapshot.{Snapshot}
 use Rattle.checkpoint.specs.Shelves.{Shelved, Rises, IsShelved, IsTop, is_at, has_index, with_room}
 
@@ -22,7 +22,7 @@ rises_take base others n r = record {
 -- what is behind one of the others, with that one as the base
 pub rises_based : {S : Type 0} (base : Option (Snapshot S)) (others : List (Snapshot S)) (at : ℕ) (b : Snapshot S) → slice_get others at ≡ Some b → Rises base others → Rises (Some b) (drop (at + 1) others)
 rises_based base others at b found r = record {
-  above = λ c i x e f. let is : b ≡ c = same_some b c e in r.rising at ((at + 1) + i) c x (omega arith) (found ∙ ap Some is) (get_drop others (at + 1) i x f);
+  above = λ c i x e f. let is : b ≡ c = same_Some b c e in r.rising at ((at + 1) + i) c x (omega arith) (found ∙ ap Some is) (get_drop others (at + 1) i x f);
   rising = λ i j x y h e f. r.rising ((at + 1) + i) ((at + 1) + j) x y (omega arith) (get_drop others (at + 1) i x e) (get_drop others (at + 1) j y f);
 }
 

@@ -1,6 +1,7 @@
 -- What the calls on a dependency vector give, over the list of its marks.
-use Rattle.std.specs.Prelude.{ℕ, ◌-◌, List, [], ◌∷◌, ◌++◌, length, replicate, slice_index_or}
+use Rattle.std.specs.Prelude.{ℕ, List, [], ◌∷◌, replicate, slice_index_or}
 use Rattle.model.specs.declared.names.Mark.{Mark}
+use Rattle.model.specs.Lists.{padded}
 use Rattle.model.specs.World.{greater_mark, no_mark}
 
 -- the mark of a unit, that of its beginning where the vector has no entry for it
@@ -19,4 +20,4 @@ joined (x ∷ own) (y ∷ other) = greater_mark x y ∷ joined own other
 
 -- the vector of a tenant that has n units now
 abbrev pub widened : List Mark → ℕ → List Mark
-widened vector n = vector ++ begun (n - length vector)
+widened vector n = padded no_mark vector n

@@ -3,7 +3,7 @@
 ghost use Rattle.std.specs.Prelude.{◌≡◌, ◌<◌, ◌==◌, cond, map, IfOk, ℕ};
 ghost use Rattle.model.specs.Nodes.{node_at as node_of};
 ghost use Rattle.model.specs.Records.{vector_of};
-ghost use Rattle.model.specs.World.{mark_of, mark_le, greater_mark as greater_of, greatest_mark as greatest_of};
+ghost use Rattle.model.specs.World.{mark_of, greater_mark, greatest_mark as greatest_of};
 
 use crate::node::Node;
 use crate::pasts::past;
@@ -12,26 +12,12 @@ use model::{Mark, Marks, NoMemory};
 use std::alloc::Global;
 use std::collections::VecDeque;
 
-fn is_no_later(one: Mark, other: Mark) -> bool
-    ensures { result ≡ mark_le one other }
-{
-    one.incarnation < other.incarnation
-        || (one.incarnation == other.incarnation && one.index <= other.index)
-}
-
-/// The later of two marks.
-fn greater_mark(one: Mark, other: Mark) -> Mark
-    ensures { result ≡ greater_of one other }
-{
-    if is_no_later(one, other) { other } else { one }
-}
-
 /// The later of a mark and that of the node at a place, if that node is the unit's.
 fn with_node(best: Mark, nodes: &VecDeque<Node>, place: usize, unit: usize) -> Mark
-    ensures { result ≡ cond ((node_of nodes.now.items place).unit == unit) (greater_of best (mark_of (node_of nodes.now.items place))) best }
+    ensures { result ≡ cond ((node_of nodes.now.items place).unit == unit) (greater_mark best (mark_of (node_of nodes.now.items place))) best }
 {
     if usize::from(unit_at(nodes, place).number()) == unit {
-        greater_mark(best, mark_at(nodes, place))
+        best.later(mark_at(nodes, place))
     } else {
         best
     }

@@ -30,7 +30,7 @@ fn before_of(nodes: &VecDeque<Node>, i: usize) -> Option<usize>
     node.before
 }
 
-#[tactic(auto, using(crate::proofs::Places::line_none, crate::proofs::Places::line_found, crate::proofs::Places::line_other))]
+#[tactic(auto, using(model::proofs::Places::line_none, crate::proofs::Places::line_found, crate::proofs::Places::line_other))]
 fn line_step(
     found: &mut Vec<usize>,
     nodes: &VecDeque<Node>,

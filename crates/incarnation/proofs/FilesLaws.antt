@@ -5,12 +5,12 @@ use Rattle.std.proofs.lemmas.List.Elements.{filter-append}
 use Rattle.std.specs.Prelude.{Option, Some, None, slice_get, ◌==◌, nat_lt, nat_le, IsTrue, ◌↔◌, slice_index}
 use Rattle.model.specs.declared.names.Row.{Row}
 use Rattle.model.specs.declared.names.Mark.{Mark}
-use Rattle.model.specs.World.{incarnation_of}
-use Rattle.theory.proofs.ListLaws.{bool_cases, eq_true, true_eq, same_some, any_at, at_any, and_both, both_and, get_take, take_get, get_append, lt_true, true_lt, le_true, true_le, or_cases, or_left, or_right, get_below, index_map}
+use Rattle.model.specs.World.{incarnation_of, mark_told, mark_lost}
+use Rattle.model.proofs.Places.{get_below}
+use Rattle.theory.proofs.ListLaws.{bool_cases, eq_true, true_eq, any_at, at_any, and_both, both_and, get_take, take_get, get_append, lt_true, true_lt, le_true, true_le, or_cases, or_left, or_right, index_map}
 use Rattle.theory.proofs.VectorLaw.{same_bools}
-use Rattle.theory.specs.Laws.{mark_told, mark_lost}
 use Rattle.incarnation.specs.Rows.{rows_of}
-use Rattle.std.proofs.lemmas.Option.{slice_get_within}
+use Rattle.std.proofs.lemmas.Option.{slice_get_within, same_Some}
 use native.Mathlib.Decide.{dec_lt}
 use Rattle.incarnation.specs.Starts.{IsFirstLow}
 use Rattle.std.proofs.lemmas.List.{length-map, map-append}
@@ -57,7 +57,7 @@ pub record Found (rows : List Row) (k unit i : ℕ) (r : Row) : Type 0 where
 pub row_filed : (rows : List Row) (k unit i : ℕ) (r : Row) → slice_get rows i ≡ Some r → r.unit ≡ unit → Found rows k unit i r
 row_filed [] k unit i r e own = cc
 row_filed (q ∷ rows) k unit zero r e own =
-    let is : q ≡ r = same_some q r e in
+    let is : q ≡ r = same_Some q r e in
     let b : (q.unit == unit) ≡ true = true_eq _ _ (ap (λ (x : Row). x.unit) is ∙ own) in
     record { at = 0; has_row = rw b e; has_place = rw b (ap Some (let s : k ≡ k + 0 = omega arith in s)) }
 row_filed (q ∷ rows) k unit (suc i) r e own =
@@ -84,7 +84,7 @@ placed_later q at b e t same = let a = t.is in record { i = suc t.i; row = t.row
 
 placed_here : (q : Row) (rows : List Row) (k unit p : ℕ) → (q.unit == unit) ≡ true → ((j : ℕ) → slice_get (places_from (k + 1) rows unit) j ≡ Some p → Placed rows (k + 1) unit j p)
     → (j : ℕ) → slice_get (k ∷ places_from (k + 1) rows unit) j ≡ Some p → Placed (q ∷ rows) k unit j p
-placed_here q rows k unit p b further zero e = let h : k ≡ p = same_some k p e in record { i = 0; row = q; is = omega arith; found = refl; own = eq_true _ _ b; has_row = rw b refl }
+placed_here q rows k unit p b further zero e = let h : k ≡ p = same_Some k p e in record { i = 0; row = q; is = omega arith; found = refl; own = eq_true _ _ b; has_row = rw b refl }
 placed_here q rows k unit p b further (suc j) e = placed_later q (suc j) true b (further j e) refl
 
 pub filed_row : (rows : List Row) (k unit j p : ℕ) → slice_get (places_from k rows unit) j ≡ Some p → Placed rows k unit j p
@@ -165,7 +165,7 @@ loses_is rows f known unit mark b o same_f is = same_bools b (mark_lost (take kn
     there e =
         let l : LosesAt (filed_of rows unit) known mark = rw same_f at (is.0 e) in
         let t = filed_row rows 0 unit l.at l.place l.has_place in
-        let same : t.row ≡ l.row = same_some _ _ (sym t.has_row ∙ l.has_row) in
+        let same : t.row ≡ l.row = same_Some _ _ (sym t.has_row ∙ l.has_row) in
         let n = o.in_order unit l.at l.row l.has_row in
         let k = t.is in let known_row = l.is_known in let late = l.later in
         at_any loses_by (take known rows) t.i l.row (take_get rows known t.i l.row (omega arith) (t.found ∙ ap Some same))

@@ -2,7 +2,7 @@
 //! of Strom and Yemini 1985).
 //!
 //! - `StartTable`: the rows of a tenant. Contracts see it as their list, and its look-ups by
-//!   `theory`'s words for rows and marks: `mark_told`, `mark_lost`.
+//!   `model`'s words for rows and marks: `mark_told`, `mark_lost`.
 //! - `filed`: the rows of one unit; `starts`: a search among their starts.
 #![tactic(auto)]
 

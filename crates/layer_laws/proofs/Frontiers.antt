@@ -2,12 +2,13 @@
 use Rattle.std.proofs.Common.{◌≡◌, refl, sym, ◌∙◌, ap, ℕ, ◌+◌, true, List, [], ◌∷◌, length, map}
 use Rattle.std.specs.Prelude.{Some, slice_get, nat_lt}
 use Rattle.std.specs.List.{take_while}
-use Rattle.std.proofs.lemmas.Option.{slice_get_within}
+use Rattle.std.proofs.lemmas.Option.{slice_get_within, same_Some}
 use Rattle.model.specs.Handler.{Meaning}
 use Rattle.model.specs.Lists.{from_end}
 use Rattle.model.specs.Nodes.{node_at, begun}
 use Rattle.model.specs.World.{World, Member, executed, is_firm, mark_of, held, path_outputs}
-use Rattle.theory.proofs.ListLaws.{same_some, get_below, get_drop, get_take_while, index_map, kept_if_all_pass, take_while_passes, lt_true, true_lt}
+use Rattle.model.proofs.Places.{get_below}
+use Rattle.theory.proofs.ListLaws.{get_drop, get_take_while, index_map, kept_if_all_pass, take_while_passes, lt_true, true_lt}
 use Rattle.theory.proofs.Invariants.{Sound}
 use Rattle.theory.proofs.Firm.{path_depends}
 use Rattle.theory.proofs.Fronts.{firm_past}
@@ -25,7 +26,7 @@ frontier_tells w s u i x m found e = same_bools (nat_lt i (frontier w m)) (is_fi
     there : nat_lt i (frontier w m) ≡ true → is_firm w x ≡ true
     there h =
         let g = get_below (take_while (is_firm w) m.path) i (lt_true i (frontier w m) h) in
-        let is : g.0 ≡ x = same_some g.0 x (sym (get_take_while (is_firm w) m.path i g.0 g.1).0 ∙ e) in
+        let is : g.0 ≡ x = same_Some g.0 x (sym (get_take_while (is_firm w) m.path i g.0 g.1).0 ∙ e) in
         ap (is_firm w) (sym is) ∙ take_while_passes (is_firm w) m.path i g.0 g.1
 
     back : is_firm w x ≡ true → nat_lt i (frontier w m) ≡ true

@@ -1,5 +1,5 @@
 -- A node's vector is what the calls on vectors make of those of its parents.
-use Rattle.std.proofs.Common.{◌≡◌, inl, inr, refl, sym, ◌∙◌, ap, ℕ, suc, ◌+◌, ◌-◌, ◌<◌, ◌≤◌, true, cond, List, length, set, arith, length-set, length-append}
+use Rattle.std.proofs.Common.{◌≡◌, inl, inr, refl, sym, ◌∙◌, ap, ℕ, suc, ◌+◌, ◌-◌, ◌<◌, ◌≤◌, true, cond, List, length, set, arith, length-set, length-append, ne_eqb}
 use Rattle.std.specs.Prelude.{Option, Some, None, ◌==◌, nat_le}
 use Rattle.std.proofs.lemmas.Bool.Decides.{nat_tests}
 use Rattle.std.proofs.lemmas.List.{ext_get_or, get_or_past, get_or-set_same, get_or-set_other, length-map, length-replicate}
@@ -12,7 +12,7 @@ use Rattle.model.specs.Nodes.DependsOn.{itself}
 use Rattle.model.specs.World.{World, mark_of, greater_mark, greatest_mark, no_mark, past_nodes}
 use Rattle.model.specs.Records.{vector_of}
 use Rattle.theory.specs.Laws.{entry_before, entry_of_cause}
-use Rattle.theory.proofs.ListLaws.{bool_cases, eq_same, eq_other, at_has, map_at, has_before, has_sender, get_or_padded}
+use Rattle.theory.proofs.ListLaws.{bool_cases, eq_same, at_has, map_at, has_before, has_sender, get_or_padded}
 use Rattle.theory.proofs.Pasts.{past_depends}
 use Rattle.theory.proofs.Vectors.{greatest_attained}
 use Rattle.theory.proofs.Counts.{is_began, units_at, units_above, units_step_le}
@@ -140,7 +140,7 @@ module _ {S : Type 0} (M : Meaning S) (w : World) (g : Invariant M w) where
       marks : (u : ℕ) → mark_for (vector_of w.nodes x) u ≡ mark_for (set both n.unit (mark_of n)) u
       marks u = vector_marks x u h ∙ law u ∙ elim (ℕ_discrete u n.unit) [
         | yes e ↦ rw (e, eq_same n.unit) (sym (get_or-set_same both n.unit (mark_of n) no_mark (omega (arith, own, both_long))))
-        | no q ↦ rw (eq_other n.unit u (λ e. q (sym e))) (sym (get_or-set_other both n.unit u (mark_of n) no_mark q ∙ entries u))
+        | no q ↦ rw (ne_eqb n.unit u (λ e. q (sym e))) (sym (get_or-set_other both n.unit u (mark_of n) no_mark q ∙ entries u))
       ]
 
 module _ {S : Type 0} (M : Meaning S) where

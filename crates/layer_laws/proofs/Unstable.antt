@@ -7,8 +7,8 @@ use Rattle.model.specs.declared.names.Mark.{Mark}
 use Rattle.model.specs.Handler.{Meaning}
 use Rattle.model.specs.Lists.{numbers_from}
 use Rattle.model.specs.Nodes.{node_at, past}
-use Rattle.model.specs.World.{World, Member, is_stable, greatest_mark, past_nodes}
-use Rattle.theory.specs.Laws.{mark_lost, stable_of}
+use Rattle.model.specs.World.{World, Member, is_stable, mark_lost, greatest_mark, past_nodes}
+use Rattle.theory.specs.Laws.{stable_of}
 use Rattle.theory.proofs.ListLaws.{bool_cases, any_at, at_has, eq_true, filtered_at}
 use Rattle.theory.proofs.Pasts.{past_depends}
 use Rattle.theory.proofs.CertificateRun.{past_unit}

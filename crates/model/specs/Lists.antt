@@ -1,5 +1,5 @@
 -- Words on lists.
-use Rattle.std.specs.Prelude.{ℕ, Bool, cond, ◌==◌, List, [], ◌∷◌, length}
+use Rattle.std.specs.Prelude.{ℕ, ◌-◌, Bool, cond, ◌==◌, List, [], ◌∷◌, ◌++◌, length, replicate}
 use Rattle.std.specs.List.{list_any}
 
 -- whether the number is in the list
@@ -15,3 +15,7 @@ from_end (x ∷ xs) k d = cond (k == length xs) x (from_end xs k d)
 abbrev pub numbers_from : ℕ → ℕ → List ℕ
 numbers_from k Prim.Native.Nat.zero = []
 numbers_from k (Prim.Native.Nat.suc n) = k ∷ numbers_from (Prim.Native.Nat.suc k) n
+
+-- the list, and up to n elements in all d for each that it lacks
+abbrev pub padded : {X : Type 0} → X → List X → ℕ → List X
+padded d xs n = xs ++ replicate (n - length xs) d

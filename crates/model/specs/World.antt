@@ -54,16 +54,27 @@ abbrev pub incarnation_of : List Row → ℕ → ℕ
 incarnation_of [] u = 0
 incarnation_of (r ∷ rows) u = cond (r.unit == u) (max r.incarnation (incarnation_of rows u)) (incarnation_of rows u)
 
--- the row of the node's unit begins a later incarnation at or before the node's index
+-- the row is the unit's, and begins a later incarnation at or before the mark's index
+abbrev pub mark_lost_by : ℕ → Mark → Row → Bool
+mark_lost_by u g r = (r.unit == u) && (nat_lt g.incarnation r.incarnation && nat_le r.start g.index)
+
+-- the rows lose what the unit did at this mark
+abbrev pub mark_lost : List Row → ℕ → Mark → Bool
+mark_lost rows u g = list_any (mark_lost_by u g) rows
+
+-- the rows tell of the incarnation of this mark of the unit: it is the first, or has a row
+abbrev pub mark_told : List Row → ℕ → Mark → Bool
+mark_told rows u g = (g.incarnation == 0) || list_any (λ r. (r.unit == u) && (r.incarnation == g.incarnation)) rows
+
+-- the same of a node, by its mark
 abbrev pub is_lost_by : Node → Row → Bool
-is_lost_by n r = (r.unit == n.unit) && (nat_lt n.incarnation r.incarnation && nat_le r.start n.index)
+is_lost_by n r = mark_lost_by n.unit (mark_of n) r
 
 abbrev pub is_lost : List Row → Node → Bool
-is_lost rows n = list_any (is_lost_by n) rows
+is_lost rows n = mark_lost rows n.unit (mark_of n)
 
--- the node's incarnation is the first, or has a row
 abbrev pub is_told : List Row → Node → Bool
-is_told rows n = (n.incarnation == 0) || list_any (λ r. (r.unit == n.unit) && (r.incarnation == n.incarnation)) rows
+is_told rows n = mark_told rows n.unit (mark_of n)
 
 -- ---- letters and nodes with their pasts
 

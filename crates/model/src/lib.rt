@@ -5,7 +5,7 @@
 //! tenant (`World`), what each step answers and leaves (`Steps`), a tenant alone (`Alone`), runs
 //! without failures (`FailureFree`), histories of all tenants (`History`), the records that a store
 //! is given (`Records`) and the sample handler (`Sample`). The worked examples are computed in
-//! `proofs/Rows`.
+//! `proofs/Rows`. `proofs/Places` has small lemmas that the crates above share.
 #![tactic(auto)]
 
 mod fault;

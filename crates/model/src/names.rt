@@ -1,6 +1,7 @@
 //! Names of units, kinds, letters and intervals.
 
 ghost use Rattle.std.specs.Prelude.{◌≡◌};
+ghost use Rattle.model.specs.World.{greater_mark};
 
 use std::marker::Model;
 
@@ -114,6 +115,17 @@ pub enum Source {
 pub struct Mark {
     pub incarnation: u32,
     pub index: u32,
+}
+
+impl Mark {
+    /// The later of two marks: by incarnation, then by index.
+    pub fn later(self, other: Mark) -> Mark
+        ensures { result ≡ greater_mark self other }
+    {
+        let is_later = self.incarnation < other.incarnation
+            || (self.incarnation == other.incarnation && self.index <= other.index);
+        if is_later { other } else { self }
+    }
 }
 
 /// A unit began this incarnation at this index: its intervals of earlier incarnations from there on are lost.

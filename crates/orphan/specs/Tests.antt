@@ -2,7 +2,8 @@
 use Rattle.std.specs.Prelude.{ℕ, suc, ◌+◌, Bool, cond, not, ◌&&◌, nat_lt, List, [], ◌∷◌, slice_index}
 use Rattle.model.specs.declared.names.Mark.{Mark}
 use Rattle.model.specs.declared.names.Row.{Row}
-use Rattle.theory.specs.Laws.{mark_told, mark_lost, any_mark}
+use Rattle.model.specs.World.{mark_told, mark_lost}
+use Rattle.theory.specs.Laws.{any_mark}
 
 -- the rows do not tell of some entry
 abbrev pub is_blind_by : List Row → List Mark → Bool

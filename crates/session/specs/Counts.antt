@@ -1,7 +1,8 @@
 -- What a unit took from each source and sent to each unit.
-use Rattle.std.specs.Prelude.{ℕ, ◌+◌, ◌-◌, ◌<◌, List, ◌++◌, length, replicate, slice_index_or, slice_set}
+use Rattle.std.specs.Prelude.{ℕ, ◌+◌, ◌<◌, List, length, replicate, slice_index_or, slice_set}
 use Rattle.model.specs.declared.names.Source.{Source}
 use Rattle.model.specs.declared.names.Source.TheVariants.{Outside, Unit as FromUnit}
+use Rattle.model.specs.Lists.{padded}
 use Rattle.session.specs.declared.exchange.Exchange.{Exchange}
 
 -- how many receipts were from outside, and what was exchanged with each unit, unit 0 first
@@ -47,10 +48,6 @@ sent_one c unit =
     let x = exchanged c unit in
     record c { units = slice_set c.units unit (record x { sent = x.sent + 1 }) }
 
--- these entries, and up to n those of units with which nothing was exchanged
-abbrev pub padded : List Exchange → ℕ → List Exchange
-padded units n = units ++ replicate (n - length units) nothing
-
 -- the counts of a tenant that has n units now
 abbrev pub widened : Counts → ℕ → Counts
-widened c n = record c { units = padded c.units n }
+widened c n = record c { units = padded nothing c.units n }

@@ -2,7 +2,8 @@
 
 ghost use Rattle.std.specs.Prelude.{◌≡◌, ◌+◌, ◌<◌, ◌≤◌, ◌^◌, IfOk, OnErr, length, slice_index_or};
 ghost use Rattle.session.specs.Arrivals.{arrival_of};
-ghost use Rattle.session.specs.Counts.{advanced, no_counts, nothing, padded, sent_one, sent_to, taken_from, widened, IsCounted};
+ghost use Rattle.model.specs.Lists.{padded};
+ghost use Rattle.session.specs.Counts.{advanced, no_counts, nothing, sent_one, sent_to, taken_from, widened, IsCounted};
 
 use crate::arrival::Arrival;
 use crate::exchange::Exchange;
@@ -160,7 +161,7 @@ fn entry(units: &[Exchange], unit: usize) -> Exchange
 /// Cuts the entries back to these; behind them nothing is left.
 fn cut_all(units: &mut [Exchange], earlier: &[Exchange])
     requires { length earlier.now ≤ length units.old }
-    ensures { units.new ≡ padded earlier.now (length units.old) }
+    ensures { units.new ≡ padded nothing earlier.now (length units.old) }
 {
     for unit in 0..units.len() {
         units[unit] = entry(earlier, unit);

@@ -6,8 +6,8 @@ use Rattle.model.specs.Nodes.{Node, Message}
 use Rattle.model.specs.World.{World, Member}
 use Rattle.tenant.specs.Keeps.{Keeps}
 use Rattle.model.specs.Steps.{with_place}
+use Rattle.model.proofs.Places.{get_below}
 use Rattle.tenant.specs.Accepts.{IsNext, letters_upon_node, with_node}
-use Rattle.graph.proofs.Places.{get_below}
 
 module _ {S : Type 0} (M : Meaning S) where
   pub keeps_next : (w : World) (turns : List (Turn S)) (letters : List Message) (i : ℕ) (m : Member) (node : Node) (turn : Turn S) (made : List Message)

@@ -1,12 +1,8 @@
 -- The moves of all places, one place after another.
-use Rattle.std.proofs.Common.{◌≡◌, refl, ℕ, zero, suc, ◌+◌, ◌-◌, ◌<◌, List, ◌∷◌, ◌++◌, arith, add-one, append_assoc}
+use Rattle.std.proofs.Common.{◌≡◌, ℕ, ◌+◌, ◌-◌, ◌<◌, List, ◌++◌, arith, append_assoc}
 use Rattle.std.specs.List.{flat_map}
 use Rattle.model.specs.Lists.{numbers_from}
-
--- the first of some numbers
-numbers_first : (k n : ℕ) → 0 < n → numbers_from k n ≡ k ∷ numbers_from (k + 1) (n - 1)
-numbers_first k zero h = absurd (omega arith)
-numbers_first k (suc n) h = let e : suc n - 1 ≡ n = omega arith in rw (e, add-one) refl
+use Rattle.model.proofs.Places.{numbers_first}
 
 -- a list that grows by what a function gives of each number in turn
 pub flat_numbers_step : {Y : Type 0} (f : ℕ → List Y) (k n : ℕ) (all more total : List Y) → k < n

@@ -19,15 +19,12 @@ use Rattle.model.specs.Steps.{status, last_node}
 use Rattle.model.specs.declared.names.Mark.{Mark}
 use Rattle.model.specs.declared.names.Source.TheVariants.{Outside}
 use Rattle.model.specs.declared.replies.Reply.TheVariants.{Status}
+use Rattle.model.proofs.Places.{at_unit_found}
 use Rattle.tenant.specs.Outcomes.{done}
 
 pub at_unit_none : (w : World) (u : ℕ) (f : Member → Outcome) → slice_get w.members u ≡ None → at_unit w u f ≡ refused w NoUnit
 unfolding at_unit
 at_unit_none w u f e = rw e refl
-
-pub at_unit_some : (w : World) (u : ℕ) (f : Member → Outcome) (m : Member) → slice_get w.members u ≡ Some m → at_unit w u f ≡ f m
-unfolding at_unit
-at_unit_some w u f m e = rw e refl
 
 pub unless_refused : (w : World) (tests : List (Bool × Refusal)) (o : Outcome) (r : Refusal) → first_refusal tests ≡ Some r → unless w tests o ≡ refused w r
 unless_refused w tests o r e = ap (outcome_or w o) e
@@ -44,7 +41,7 @@ pub status_is : {S : Type 0} (M : Meaning S) (w : World) (u : ℕ) (m : Member) 
     → stable ≡ m.stable - 1 → up ≡ m.up → volatile ≡ length m.path - m.stable
     → status M w u ≡ done (Status at held_is known outside released rows stable up volatile) w
 status_is M w u m at held_is known outside released rows stable up volatile found a b c d e f g h i =
-    at_unit_some w u _ m found ∙ (rw (a, b, c, d, e, f, g, h, i) refl)
+    at_unit_found w u _ m found ∙ (rw (a, b, c, d, e, f, g, h, i) refl)
 
 -- ---- tests in parts
 
@@ -83,11 +80,11 @@ at_up_none w u f e = at_unit_none w u (λ m. unless w (is_down m ∷ []) (f m)) 
 
 pub at_up_down : (w : World) (u : ℕ) (f : Member → Outcome) (m : Member) → slice_get w.members u ≡ Some m → m.up ≡ false → at_up w u f ≡ refused w Down
 unfolding at_up first_refusal
-at_up_down w u f m e d = at_unit_some w u (λ m. unless w (is_down m ∷ []) (f m)) m e ∙ (rw d refl)
+at_up_down w u f m e d = at_unit_found w u (λ m. unless w (is_down m ∷ []) (f m)) m e ∙ (rw d refl)
 
 pub at_up_some : (w : World) (u : ℕ) (f : Member → Outcome) (m : Member) → slice_get w.members u ≡ Some m → m.up ≡ true → at_up w u f ≡ f m
 unfolding at_up first_refusal
-at_up_some w u f m e d = at_unit_some w u (λ m. unless w (is_down m ∷ []) (f m)) m e ∙ (rw d refl)
+at_up_some w u f m e d = at_unit_found w u (λ m. unless w (is_down m ∷ []) (f m)) m e ∙ (rw d refl)
 
 pub six_tests : (a b c d : Bool × Refusal) (xs ys : List (Bool × Refusal)) → first_refusal (a ∷ b ∷ c ∷ d ∷ (xs ++ ys))
     ≡ or_else (first_refusal (a ∷ [])) (or_else (first_refusal (b ∷ [])) (or_else (first_refusal (c ∷ [])) (or_else (first_refusal (d ∷ [])) (or_else (first_refusal xs) (first_refusal ys)))))

@@ -12,11 +12,12 @@ use Rattle.model.specs.Lists.{numbers_from}
 use Rattle.model.specs.Nodes.{Node, Cause, outside, letter, Message, next_turn, sends_within, turn_at, turn_upon}
 use Rattle.model.specs.Steps.{is_down, number_tests, room_tests, turn_tests, accepted, post, post_to, deliver, deliver_to, if_letter, turn_upon_receipt, next_node, first_refusal, unless}
 use Rattle.model.specs.World.{World, Member, executed, held, mark_of, is_blind, is_orphan, unstable_units}
+use Rattle.model.proofs.Places.{at_unit_found}
 use Rattle.tenant.specs.Accepts.{IsNext, letters_upon_node, with_node, received, CanReceive}
 use Rattle.tenant.specs.Needs.{IsAsked, deliver_needs, deliver_to_needs, input_unless, input_upon, letter_needs, post_needs, post_to_needs}
 use Rattle.tenant.specs.Outcomes.{done}
 use Rattle.tenant.specs.Receipts.{deliver_front, post_front}
-use Rattle.tenant.proofs.Outcomes.{six_passed, two_passed, at_unit_none, at_unit_some, unless_front, unless_passed, unless_refused, unless_rest}
+use Rattle.tenant.proofs.Outcomes.{six_passed, two_passed, at_unit_none, unless_front, unless_passed, unless_refused, unless_rest}
 
 -- ---- taking a receipt
 
@@ -38,14 +39,14 @@ module _ {S : Type 0} (M : Meaning S) (w : World) (u : ℕ) (m : Member) (found 
   accepted_is cause node turn reply after e f g h = rw (g, h, f, e) refl
 
   pub received_too_much : (cause : Cause) (turn : Turn S) (r : Refusal) → Some r ≡ first_refusal (turn_tests M w m turn) → received M w u cause turn ≡ done (Refused r) w
-  received_too_much cause turn r e = at_unit_some w u (λ n. unless w (turn_tests M w n turn) (accepted M w u n cause)) m found
+  received_too_much cause turn r e = at_unit_found w u (λ n. unless w (turn_tests M w n turn) (accepted M w u n cause)) m found
       ∙ unless_refused w (turn_tests M w m turn) (accepted M w u m cause) r (sym e)
 
   pub received_accepted : (cause : Cause) (node : Node) (turn : Turn S) (reply : Reply) (after : World) → None ≡ first_refusal (turn_tests M w m turn)
       → turn ≡ turn_upon_receipt M w u m cause → node ≡ next_node w u m cause
       → reply ≡ Accepted (mark_of node) (length (held M w m) + length turn.outputs) (numbers_from (length (executed M w).letters) (length (sends_within (length w.members) turn)))
       → after ≡ with_node w u m node → received M w u cause turn ≡ done reply after
-  received_accepted cause node turn reply after e f g h i = at_unit_some w u (λ n. unless w (turn_tests M w n turn) (accepted M w u n cause)) m found
+  received_accepted cause node turn reply after e f g h i = at_unit_found w u (λ n. unless w (turn_tests M w n turn) (accepted M w u n cause)) m found
       ∙ unless_passed w (turn_tests M w m turn) (accepted M w u m cause) (sym e)
       ∙ accepted_is cause node turn reply after f g h i
 
@@ -69,7 +70,7 @@ module _ {S : Type 0} (M : Meaning S) (w : World) (u number : ℕ) (text : List 
   unfolding post_needs
   post_refused m found r e = (
     ap (post_to_needs M w number text) found ∙ ap (input_unless (input_upon M w m Outside text)) (sym e),
-    at_unit_some w u (post_to M w u number text) m found
+    at_unit_found w u (post_to M w u number text) m found
         ∙ unless_front w (post_front w m number text) (turn_tests M w m (turn_upon_receipt M w u m (outside number text))) (accepted M w u m (outside number text)) r e,
   )
 
@@ -97,10 +98,10 @@ module _ {S : Type 0} (M : Meaning S) (w : World) (u number : ℕ) (text : List 
             none_is_some e = cc
         by (Some m) h =
             let p = post_passed m h in
-            at_unit_some w u (post_to M w u number text) m h
+            at_unit_found w u (post_to M w u number text) m h
             ∙ unless_rest w (post_front w m number text) (turn_tests M w m (turn_upon_receipt M w u m (outside number text))) (accepted M w u m (outside number text)) p.0
             ∙ ap (λ j. unless w (turn_tests M w m (turn_of M j)) (accepted M w u m (outside number text))) p.1
-            ∙ sym (at_unit_some w u (λ n. unless w (turn_tests M w n (turn_of M i)) (accepted M w u n (outside number text))) m h)
+            ∙ sym (at_unit_found w u (λ n. unless w (turn_tests M w n (turn_of M i)) (accepted M w u n (outside number text))) m h)
 
 module _ {S : Type 0} (M : Meaning S) (w : World) (l : ℕ) where
   pub deliver_none : slice_get (executed M w).letters l ≡ None → IsAsked (deliver_needs M w l) (deliver M w l) w (Err NoLetter)
@@ -117,7 +118,7 @@ module _ {S : Type 0} (M : Meaning S) (w : World) (l : ℕ) where
     unfolding deliver_needs
     deliver_refused m found r e = (
       ap (letter_needs M w) sent ∙ ap (deliver_to_needs M w msg) found ∙ ap (input_unless (input_upon M w m (FromUnit msg.source) msg.text)) (sym e),
-      ap (if_letter M w l) sent ∙ at_unit_some w msg.receiver (deliver_to M w l msg) m found
+      ap (if_letter M w l) sent ∙ at_unit_found w msg.receiver (deliver_to M w l msg) m found
           ∙ unless_front w (deliver_front w msg m) (turn_tests M w m (turn_upon_receipt M w msg.receiver m (letter l msg.sender))) (accepted M w msg.receiver m (letter l msg.sender)) r e,
     )
 
@@ -155,7 +156,7 @@ module _ {S : Type 0} (M : Meaning S) (w : World) (l : ℕ) where
               none_is_some e = cc
           by (Some m) h =
               let p = deliver_passed m h in
-              ap (if_letter M w l) sent ∙ at_unit_some w msg.receiver (deliver_to M w l msg) m h
+              ap (if_letter M w l) sent ∙ at_unit_found w msg.receiver (deliver_to M w l msg) m h
               ∙ unless_rest w (deliver_front w msg m) (turn_tests M w m (turn_upon_receipt M w msg.receiver m (letter l msg.sender))) (accepted M w msg.receiver m (letter l msg.sender)) p.0
               ∙ ap (λ t. unless w (turn_tests M w m t) (accepted M w msg.receiver m (letter l msg.sender))) (sym (turn_is m p.1))
-              ∙ sym (at_unit_some w msg.receiver (λ n. unless w (turn_tests M w n (turn_of M i)) (accepted M w msg.receiver n (letter l msg.sender))) m h)
+              ∙ sym (at_unit_found w msg.receiver (λ n. unless w (turn_tests M w n (turn_of M i)) (accepted M w msg.receiver n (letter l msg.sender))) m h)

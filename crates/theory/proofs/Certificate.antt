@@ -5,7 +5,7 @@ use Rattle.std.specs.List.{flat_map, take_while}
 use Rattle.std.proofs.lemmas.List.Sums.{take_while-cons}
 use Rattle.std.proofs.lemmas.List.{length-map}
 use Rattle.std.proofs.lemmas.Bool.Decides.{nat_tests}
-use Rattle.std.proofs.lemmas.Option.{slice_get_within}
+use Rattle.std.proofs.lemmas.Option.{slice_get_within, same_Some}
 use mathlib.Core.List.{IsPrefix}
 use Rattle.model.specs.declared.names.Seat.{Seat}
 use Rattle.model.specs.declared.moves.Move.{Move}
@@ -18,8 +18,9 @@ use Rattle.model.specs.World.{World, Member, executed, is_firm, stable_path}
 use Rattle.model.specs.FailureFree.{Worker, Network, new_worker, moved, if_moved, run_from, move_at, opening_seats, certificate, failure_free, logged, FitsAll, BeginWith, CertificateHolds}
 use Rattle.model.specs.Alone.{step, step_unopened, Reachable}
 use Rattle.model.specs.Alone.Reachable.{opened, stepped}
+use Rattle.model.proofs.Places.{get_below}
 use Rattle.theory.specs.Laws.{CertificateLaw, ReleasedAreFirm, firm_outputs}
-use Rattle.theory.proofs.ListLaws.{same_some, get_below, take_get, at_map, get_take_while, take_while_passes, true_lt, has_before}
+use Rattle.theory.proofs.ListLaws.{take_get, at_map, get_take_while, take_while_passes, true_lt, has_before}
 use Rattle.theory.proofs.Changes.{Change, step_changes}
 use Rattle.theory.proofs.Chain.{Chain}
 use Rattle.theory.proofs.ChainKept.{chain_change, first_chain}
@@ -118,7 +119,7 @@ module _ {S : Type 0} (M : Meaning S) (w : World) (g : Invariant M w) where
   one_fits u m a found has_a =
       let within = slice_get_within w.members u m found in
       let is : worker M (receipts_in M w) u (done_in w (length w.nodes) u) ≡ a =
-      same_some _ a (sym (ran.2.work u (let t = g.counted.total in omega arith)) ∙ has_a) in
+      same_Some _ a (sym (ran.2.work u (let t = g.counted.total in omega arith)) ∙ has_a) in
       let done = done_all u m found in (
         subst (λ z. IsPrefix z.received (logged M w m)) is
             (subst (λ z. IsPrefix (flat_map (receipt M (receipts_in M w)) z) (logged M w m)) (sym done)

@@ -16,7 +16,8 @@ use Rattle.model.specs.Nodes.{no_node, node_at, Cause, began, outside, letter, p
 use Rattle.model.specs.Nodes.DependsOn.{itself}
 use Rattle.model.specs.World.{World, Member, executed, taken, source_of, text_of, is_from, is_firm}
 use Rattle.model.specs.FailureFree.{Network, moved, run_from, move_of, move_at, opening_units}
-use Rattle.theory.proofs.ListLaws.{get_below, bool_cases, has_sender}
+use Rattle.model.proofs.Places.{get_below}
+use Rattle.theory.proofs.ListLaws.{bool_cases, has_sender}
 use Rattle.theory.proofs.Pasts.{first_step, from_parent, depends_le}
 use Rattle.theory.proofs.Invariants.{Sound}
 use Rattle.theory.proofs.Firm.{Stands, firm_stands, stands_firm}

@@ -1,7 +1,7 @@
 -- Each change keeps what holds of all nodes and rows together.
 use Rattle.std.proofs.Common.{◌≡◌, ◌≢◌, ◌⊎◌, inl, inr, refl, sym, ◌∙◌, ap, subst, ℕ, zero, suc, ◌+◌, ◌-◌, ◌<◌, ◌≤◌, Bool, true, false, cond, List, [], ◌∷◌, ◌++◌, length, take, arith, map, length-append, length-take, length-set}
 use Rattle.std.specs.Prelude.{nat_le, Option, Some, None, slice_get, slice_set}
-use Rattle.std.proofs.lemmas.Option.{slice_get_within}
+use Rattle.std.proofs.lemmas.Option.{slice_get_within, same_Some}
 use Rattle.std.proofs.lemmas.List.{take-append-le}
 use Rattle.std.specs.List.{fold}
 use Rattle.std.proofs.Math.Seq.{take-length}
@@ -19,7 +19,8 @@ use Rattle.model.specs.declared.replies.Reply.TheVariants.{Refused}
 use Rattle.model.specs.declared.steps.TenantStep.{TenantStep}
 use Rattle.model.specs.declared.steps.TenantStep.TheVariants.{Open, Join, Post, Deliver, Flush, Checkpoint, Kill, Restart, Notice, Release, Status}
 use Rattle.model.specs.Alone.{step_unopened}
-use Rattle.theory.proofs.ListLaws.{get_set, get_append, get_take, get_take_while, take_while_le, set_get_same, append_get, append_get_last, take_get, get_below, same_some, has_append, has_before, not_true, single, take_while_passes}
+use Rattle.model.proofs.Places.{get_below}
+use Rattle.theory.proofs.ListLaws.{get_set, get_append, get_take, get_take_while, take_while_le, set_get_same, append_get, append_get_last, take_get, has_append, has_before, not_true, single, take_while_passes}
 use Rattle.theory.proofs.Pasts.{only, Placed, node_newest, node_older, node_past_end, depends_less, depends_le, first_step, node_earlier}
 use Rattle.theory.proofs.Changes.{Change, MayTake, new_seat}
 use Rattle.theory.proofs.Changes.Change.{unchanged, receives, flushes, dies, goes_back, learns, releases, joins}
@@ -54,7 +55,7 @@ line_depends {nodes} (back y z l e) = through (line_depends l) (has_before (node
 -- a node of a path has those before it on its line
 path_line : {nodes : List Node} {table : List Row} {u : ℕ} {m : Member} → SoundMember nodes table u m
     → (d i j y z : ℕ) → j + d ≡ i → slice_get m.path i ≡ Some y → slice_get m.path j ≡ Some z → OnLine nodes y z
-path_line s zero i j y z k e f = let is : j ≡ i = omega arith in let q : y ≡ z = same_some y z (sym e ∙ rw is at f) in rw q here
+path_line s zero i j y z k e f = let is : j ≡ i = omega arith in let q : y ≡ z = same_Some y z (sym e ∙ rw is at f) in rw q here
 path_line {m = m} s (suc d) i j y z k e f =
     let within = slice_get_within m.path i y e in
     let r = get_below m.path (suc j) (omega arith) in
@@ -74,7 +75,7 @@ line_on_path {nodes} {m = m} s i e (back y z l b) =
     step (suc j) le f =
         let within = slice_get_within m.path (suc j) y f in
         let r = get_below m.path j (omega arith) in
-        let is : r.0 ≡ z = same_some r.0 z (sym (s.chained j r.0 y r.1 f) ∙ b) in
+        let is : r.0 ≡ z = same_Some r.0 z (sym (s.chained j r.0 y r.1 f) ∙ b) in
         (j, omega arith, rw is at r.1)
 
 -- ---- one unit changes
@@ -310,7 +311,7 @@ chain_learn v c u m found whole s =
       safe = λ i x y e d. rw (take-length v.table) (
           let within = slice_get_within m.path i x e in
           let g = get_below (path_kept v m) i (omega arith) in
-          let is : g.0 ≡ x = same_some g.0 x (sym (get_take_while _ m.path i g.0 g.1).0 ∙ e) in
+          let is : g.0 ≡ x = same_Some g.0 x (sym (get_take_while _ m.path i g.0 g.1).0 ∙ e) in
           kept_safe v c u m found i x y (rw is at g.1) d);
       whereabouts = o.whereabouts;
     })
@@ -434,7 +435,7 @@ module _ {S : Type 0} (M : Meaning S) where
       own_where x h k (on_path e) = elim (dec_lt (node_at v.nodes x).index (length path)) [
         | yes l ↦
             let g = get_below path (node_at v.nodes x).index l in
-            let is : g.0 ≡ x = same_some g.0 x (sym (get_take_while _ m.path _ g.0 g.1).0 ∙ e) in
+            let is : g.0 ≡ x = same_Some g.0 x (sym (get_take_while _ m.path _ g.0 g.1).0 ∙ e) in
             on_path (rw is at g.1)
         | no l ↦ lost (row_loses v.table r (node_at v.nodes x) (sym k) (below_next x h k) (omega arith))
       ]
@@ -552,7 +553,7 @@ module _ {S : Type 0} (M : Meaning S) where
     where
       go : (b : Bool) → (cond b (opened_with M names quota optimism) (record { reply = Refused BadOpen; world = None })).world ≡ Some w → Chain w
       go false h = absurd (cc h)
-      go true h = subst Chain (same_some _ w h) (all_units_chain (length names) (λ n. kind_or_0 (M.kind n)) names _ (empty_chain quota optimism))
+      go true h = subst Chain (same_Some _ w h) (all_units_chain (length names) (λ n. kind_or_0 (M.kind n)) names _ (empty_chain quota optimism))
 
   -- it holds of a world just opened
   pub first_chain : (step : TenantStep) (w : World) → (step_unopened M step).world ≡ Some w → Chain w

@@ -2,6 +2,7 @@
 use Rattle.std.proofs.Common.{◌≡◌, ◌⊎◌, inl, inr, refl, sym, subst, ℕ, ◌+◌, ◌-◌, ◌≤◌, Bool, true, false, cond, not, min, List, [], ◌∷◌, length, take, arith, map}
 use Rattle.std.specs.Prelude.{Option, Some, None, slice_get, nat_lt, nat_le}
 use Rattle.std.proofs.lemmas.Bool.Decides.{nat_tests}
+use Rattle.std.proofs.lemmas.Option.{same_Some}
 use Rattle.model.specs.declared.refusals.Refusal.{Refusal}
 use Rattle.model.specs.declared.names.Source.TheVariants.{Outside, Unit as FromUnit}
 use Rattle.model.specs.declared.replies.Said.{Said}
@@ -13,7 +14,6 @@ use Rattle.model.specs.World.{World, Member, executed, incarnation_of, is_blind,
 use Rattle.model.specs.Steps.{Outcome, first_refusal, outcome_or, unless, if_unit, at_unit, at_up, if_letter, with_member, with_receipt, with_unit, gone_back, path_kept, post, deliver, flush, checkpoint, kill, restart, notice, notice_orphan, notice_rows, release, status, join_kind, flushed, killed, with_known, with_released}
 use Rattle.model.specs.Alone.{step_open}
 use Rattle.model.specs.declared.names.Seat.{Seat}
-use Rattle.theory.proofs.ListLaws.{same_some}
 
 -- Why a receipt may be taken: it is from outside, or its letter was made, its sender is neither blind
 -- nor an orphan by the rows that the unit knows, and few enough units have unstable nodes in its past.
@@ -63,11 +63,11 @@ unless_cases v w tests out e = go (first_refusal tests) refl e
   where
     go : (o : Option Refusal) → first_refusal tests ≡ o → (outcome_or v out o).world ≡ Some w → (v ≡ w) ⊎ (Passed tests × (out.world ≡ Some w))
     go None q h = inr (none_refuses tests q, h)
-    go (Some r) q h = inl (same_some v w h)
+    go (Some r) q h = inl (same_Some v w h)
 
 -- so does one behind the look-up of a unit, or the unit is found
 pub if_unit_cases : (v w : World) (f : Member → Outcome) (o : Option Member) → (if_unit v f o).world ≡ Some w → (v ≡ w) ⊎ ((m : Member) × (o ≡ Some m) × ((f m).world ≡ Some w))
-if_unit_cases v w f None e = inl (same_some v w e)
+if_unit_cases v w f None e = inl (same_Some v w e)
 if_unit_cases v w f (Some m) e = inr (m, refl, e)
 
 module _ {S : Type 0} (M : Meaning S) (v w : World) where
@@ -76,7 +76,7 @@ module _ {S : Type 0} (M : Meaning S) (v w : World) where
   stays e = subst (λ x. Change M v x) e unchanged
 
   changes_to : (x : World) → Change M v x → Some x ≡ Some w → Change M v w
-  changes_to x c e = subst (λ y. Change M v y) (same_some x w e) c
+  changes_to x c e = subst (λ y. Change M v y) (same_Some x w e) c
 
   unless_change : (tests : List (Bool × Refusal)) (out : Outcome) → (Passed tests → out.world ≡ Some w → Change M v w) → (unless v tests out).world ≡ Some w → Change M v w
   unless_change tests out f e = elim (unless_cases v w tests out e) [ inl h ↦ stays h | inr h ↦ f h.0 h.1 ]
@@ -106,7 +106,7 @@ module _ {S : Type 0} (M : Meaning S) (v w : World) where
   deliver_change l e = letter_change (slice_get (executed M v).letters l) refl e
     where
       letter_change : (o : Option Message) → slice_get (executed M v).letters l ≡ o → (if_letter M v l o).world ≡ Some w → Change M v w
-      letter_change None made q = stays (same_some v w q)
+      letter_change None made q = stays (same_Some v w q)
       letter_change (Some msg) made q = at_unit_change msg.receiver _ (λ m found. unless_change _ _ (λ passed k.
           let is : msg.number ≡ taken v.nodes m.path (FromUnit msg.source) = number_is msg.number _ passed.1.1.1.1.0 passed.1.1.1.1.1.0 in
           changes_to _ (receives msg.receiver m (letter l msg.sender) found (is_up m.up passed.0) (from_letter l msg made refl passed.1.0 passed.1.1.0 passed.1.1.1.0 is)) k)) q
@@ -134,15 +134,15 @@ module _ {S : Type 0} (M : Meaning S) (v w : World) where
   release_change u e = at_up_change u _ (λ m found up q. changes_to _ (releases u m found) q) e
 
   status_change : (u : ℕ) → (status M v u).world ≡ Some w → Change M v w
-  status_change u e = at_unit_change u _ (λ m found q. stays (same_some v w q)) e
+  status_change u e = at_unit_change u _ (λ m found q. stays (same_Some v w q)) e
 
   join_change : (o : Option ℕ) → (join_kind v o).world ≡ Some w → Change M v w
-  join_change None e = stays (same_some v w e)
+  join_change None e = stays (same_Some v w e)
   join_change (Some kind) e = unless_change _ _ (λ passed q. changes_to _ (joins kind passed.0) q) e
 
   -- what a step does is one of those
   pub step_changes : (step : TenantStep) (said : Said) → (step_open M v step said).world ≡ Some w → Change M v w
-  step_changes (Open kinds quota optimism) said e = stays (same_some v w e)
+  step_changes (Open kinds quota optimism) said e = stays (same_Some v w e)
   step_changes (Join kind) said e = join_change (M.kind kind) e
   step_changes (Post unit number text) said e = post_change unit number text e
   step_changes (Deliver l) said e = deliver_change l e

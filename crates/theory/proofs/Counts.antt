@@ -3,7 +3,7 @@ use Rattle.std.proofs.Common.{◌≡◌, inl, inr, refl, sym, ◌∙◌, ap, sub
 use Rattle.std.specs.Prelude.{Some, None, slice_get, slice_set, nat_le}
 use Rattle.std.specs.List.{fold}
 use Rattle.std.proofs.lemmas.Bool.Decides.{nat_tests}
-use Rattle.std.proofs.lemmas.Option.{slice_get_within}
+use Rattle.std.proofs.lemmas.Option.{slice_get_within, same_Some}
 use native.Mathlib.Decide.{ℕ_discrete}
 use Rattle.model.specs.declared.names.Quota.{Quota}
 use Rattle.model.specs.declared.names.Seat.{Seat}
@@ -17,7 +17,8 @@ use Rattle.model.specs.World.{World, Member}
 use Rattle.model.specs.Steps.{with_unit, path_kept, next_node, fresh, beginning, open_new, opened_with, can_open, kind_or_0, with_place, killed, back_at}
 use Rattle.model.specs.FailureFree.{opening_units}
 use Rattle.model.specs.Alone.{step_unopened}
-use Rattle.theory.proofs.ListLaws.{get_set, get_append, take_get, get_below, same_some, and_both, get_take_while, le_true, append_get}
+use Rattle.model.proofs.Places.{get_below}
+use Rattle.theory.proofs.ListLaws.{get_set, get_append, take_get, and_both, get_take_while, le_true, append_get}
 use Rattle.theory.proofs.Pasts.{node_newest, node_older}
 use Rattle.theory.proofs.Changes.{Change, MayTake, new_seat}
 use Rattle.theory.proofs.Changes.Change.{unchanged, receives, flushes, dies, goes_back, learns, releases, joins}
@@ -86,7 +87,7 @@ pub record Counted (o : ℕ) (nodes : List Node) (members : List Member) : Type 
 
 opening_set : (members : List Member) (u : ℕ) (m n : Member) → slice_get members u ≡ Some m → n.seat ≡ m.seat → opening_units (slice_set members u n) ≡ opening_units members
 opening_set [] u m n e h = refl
-opening_set (q ∷ members) zero m n e h = let is : q ≡ m = same_some q m e in ap (λ s. s.home) h ∙ ap (λ z. z.seat.home) (sym is)
+opening_set (q ∷ members) zero m n e h = let is : q ≡ m = same_Some q m e in ap (λ s. s.home) h ∙ ap (λ z. z.seat.home) (sym is)
 opening_set (q ∷ members) (suc u) m n e h = refl
 
 opening_more : (members more : List Member) → 1 ≤ length members → opening_units (members ++ more) ≡ opening_units members
@@ -156,7 +157,7 @@ counted_node o n nodes members p plain units owner seat c = record {
     | no q ↦ let k = rw (node_older n nodes x q) at b in let f = rw (node_older n nodes x q) at e in c.heads x m (omega arith) k f
   ];
   seated = λ x m h e. elim (ℕ_discrete x (length nodes)) [
-    | yes q ↦ let f = rw (node_newest n nodes x q) at e in rw (node_newest n nodes x q) (seat ∙ ap (λ z. z.seat) (same_some p m (sym owner ∙ f)))
+    | yes q ↦ let f = rw (node_newest n nodes x q) at e in rw (node_newest n nodes x q) (seat ∙ ap (λ z. z.seat) (same_Some p m (sym owner ∙ f)))
     | no q ↦ let f = rw (node_older n nodes x q) at e in rw (node_older n nodes x q) (c.seated x m (omega arith) f)
   ];
 }
@@ -368,7 +369,7 @@ module _ {S : Type 0} (M : Meaning S) where
           let most = le_true (length names) 16 t.1 in
           let count : length last.members ≡ length names = opening_count (length names) kind names empty ∙ (omega arith) in
           let p : Opening (length names) last = opening_units_all (length names) kind names empty nothing in
-          subst Begun (same_some _ w h) (record {
+          subst Begun (same_Some _ w h) (record {
             units = length names;
             counted = opening_counted (length names) last least most count p;
             all_began = p.all_began;

@@ -2,6 +2,7 @@
 use Rattle.std.proofs.Common.{◌≡◌, refl, sym, ◌∙◌, ap, subst, ℕ, ◌<◌, Bool, true, false, cond, List, [], ◌∷◌, ◌++◌, length}
 use Rattle.std.specs.Prelude.{Option, Some, None, slice_get, nat_lt}
 use Rattle.std.proofs.lemmas.List.{append-nil}
+use Rattle.std.proofs.lemmas.Option.{same_Some}
 use mathlib.Core.List.{IsPrefix}
 use Rattle.model.specs.declared.refusals.Refusal.{Refusal}
 use Rattle.model.specs.declared.replies.Said.{Said}
@@ -14,7 +15,6 @@ use Rattle.model.specs.Steps.{Outcome, first_refusal, outcome_or, unless, if_uni
 use Rattle.model.specs.Alone.{Event, step, step_open, course_from, Reachable}
 use Rattle.model.specs.Alone.Reachable.{opened, stepped}
 use Rattle.theory.specs.Laws.{CoursesReach, StaysOpen, ReleasedStay}
-use Rattle.theory.proofs.ListLaws.{same_some}
 use Rattle.theory.proofs.Changes.{step_changes}
 use Rattle.theory.proofs.Released.{prefix_trans, nodes_kept}
 use Rattle.theory.proofs.ReleasedGrow.{released_grow}
@@ -97,7 +97,7 @@ module _ {S : Type 0} (M : Meaning S) where
       × ((x : ℕ) → x < length v.nodes → (x < length w.nodes) × (is_firm v x ≡ true → is_firm w x ≡ true))
 
   later : (events : List Event) (v w : World) → Reachable M v → (course_from M (Some v) events).world ≡ Some w → Later v w
-  later [] v w r k = let is : v ≡ w = same_some v w k in subst (λ z. Later v z) is ((λ u m f. (m, f, ([], append-nil m.released))), (λ x h. (h, λ e. e)))
+  later [] v w r k = let is : v ≡ w = same_Some v w k in subst (λ z. Later v z) is ((λ u m f. (m, f, ([], append-nil m.released))), (λ x h. (h, λ e. e)))
   later (e ∷ events) v w r k =
       let o = stays_open v e in
       let rest = later events o.0 w (stepped e r o.1) (ap (λ z. (course_from M z events).world) (sym o.1) ∙ k) in (

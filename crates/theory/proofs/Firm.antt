@@ -1,7 +1,7 @@
 -- A firm node stays firm.
 use Rattle.std.proofs.Common.{◌≡◌, refl, sym, ◌∙◌, ℕ, zero, suc, ◌+◌, ◌<◌, ◌≤◌, true, false, List, [], ◌∷◌, length, arith, map}
 use Rattle.std.specs.Prelude.{Some, slice_get, slice_set}
-use Rattle.std.proofs.lemmas.Option.{slice_get_within}
+use Rattle.std.proofs.lemmas.Option.{slice_get_within, same_Some}
 use native.Mathlib.Decide.{ℕ_discrete}
 use Rattle.model.specs.declared.names.Row.{Row}
 use Rattle.model.specs.Handler.{Meaning}
@@ -10,7 +10,8 @@ use Rattle.model.specs.Nodes.{Node, node_at, past, DependsOn, sender_of}
 use Rattle.model.specs.World.{World, Member, is_orphan, is_stable, is_firm, stable_path, releasable}
 use Rattle.model.specs.Steps.{with_member, with_receipt, with_unit, gone_back, path_kept, next_node, flushed, killed, with_known, with_released}
 use Rattle.model.specs.Nodes.DependsOn.{itself}
-use Rattle.theory.proofs.ListLaws.{get_take, kept_if_all_pass, has_at, at_has, any_at, at_any, all_has, has_all, set_get_same, set_get_other, append_get, take_get, get_below, same_some, has_before}
+use Rattle.model.proofs.Places.{get_below}
+use Rattle.theory.proofs.ListLaws.{get_take, kept_if_all_pass, has_at, at_has, any_at, at_any, all_has, has_all, set_get_same, set_get_other, append_get, take_get, has_before}
 use Rattle.theory.proofs.Pasts.{Placed, depends_less, depends_trans, depends_le, past_depends, depends_past, from_parent}
 use Rattle.theory.proofs.Changes.{Change}
 use Rattle.theory.proofs.Changes.Change.{unchanged, receives, flushes, dies, goes_back, learns, releases, joins}
@@ -55,7 +56,7 @@ stands_set : (members : List Member) (y u : ℕ) (m n : Member) → slice_get me
     → ((i : ℕ) → slice_get m.path i ≡ Some y → i < m.stable → (slice_get n.path i ≡ Some y) × (i < n.stable)) → Stands members y → Stands (slice_set members u n) y
 stands_set members y u m n found goes s = elim (ℕ_discrete s.unit u) [
   | yes e ↦
-      let is : s.member ≡ m = same_some s.member m (sym s.found ∙ rw e found) in
+      let is : s.member ≡ m = same_Some s.member m (sym s.found ∙ rw e found) in
       let r = goes s.place (rw is at s.on_path) (rw is at s.logged) in
       record { unit = u; member = n; place = s.place; found = set_get_same members u n m found; on_path = r.0; logged = r.1 }
   | no e ↦ record { unit = s.unit; member = s.member; place = s.place; found = set_get_other members u s.unit n e ∙ s.found; on_path = s.on_path; logged = s.logged }
@@ -66,9 +67,9 @@ pub path_depends : {nodes : List Node} {table : List Row} {u : ℕ} {m : Member}
     → (i j y z : ℕ) → slice_get m.path i ≡ Some y → slice_get m.path j ≡ Some z → j ≤ i → DependsOn nodes y z
 path_depends s zero j y z e f le =
     let is : j ≡ 0 = omega arith in
-    let same : y ≡ z = same_some y z (sym e ∙ rw is at f) in rw same itself
+    let same : y ≡ z = same_Some y z (sym e ∙ rw is at f) in rw same itself
 path_depends {nodes} {m = m} s (suc i) j y z e f le = elim (ℕ_discrete j (suc i)) [
-  | yes q ↦ let same : y ≡ z = same_some y z (sym e ∙ rw q at f) in rw same itself
+  | yes q ↦ let same : y ≡ z = same_Some y z (sym e ∙ rw q at f) in rw same itself
   | no q ↦
       let within = slice_get_within m.path (suc i) y e in
       let r = get_below m.path i (omega arith) in

@@ -1,5 +1,6 @@
 -- The greatest marks of a past tell whether it is stable.
-use Rattle.std.proofs.Common.{◌≡◌, inl, inr, refl, sym, ◌∙◌, ap, subst, ℕ, zero, suc, ◌+◌, ◌<◌, ◌≤◌, Bool, true, false, not, List, [], ◌∷◌, length, arith, map}
+use Rattle.std.proofs.Common.{◌≡◌, inl, inr, refl, sym, ◌∙◌, ap, subst, ℕ, zero, suc, ◌+◌, ◌<◌, ◌≤◌, Bool, true, false, not, length, arith, map}
+use Rattle.std.proofs.lemmas.Option.{same_Some}
 use Rattle.std.specs.Prelude.{Some, slice_get, ◌==◌, nat_lt}
 use Rattle.std.specs.List.{list_any, filter}
 use native.Mathlib.Decide.{dec_lt}
@@ -7,9 +8,10 @@ use Rattle.model.specs.declared.names.Mark.{Mark}
 use Rattle.model.specs.Handler.{Meaning}
 use Rattle.model.specs.Lists.{numbers_from}
 use Rattle.model.specs.Nodes.{node_at, past, DependsOn}
-use Rattle.model.specs.World.{World, Member, is_firm, is_stable, mark_of, greatest_mark, past_nodes, no_mark}
-use Rattle.theory.specs.Laws.{mark_lost, any_mark, stable_of, mark_stable, FirmByVector, UnstableByVector}
-use Rattle.theory.proofs.ListLaws.{same_some, bool_cases, or_cases, any_at, has_at, at_has, map_at, and_both, both_and, true_lt, lt_true, true_eq, eq_true, get_below, has_all, all_has, not_true, filtered_at}
+use Rattle.model.specs.World.{World, Member, is_firm, is_stable, mark_of, mark_lost, greatest_mark, past_nodes, no_mark}
+use Rattle.model.proofs.Places.{get_below}
+use Rattle.theory.specs.Laws.{any_mark, stable_of, mark_stable, FirmByVector, UnstableByVector}
+use Rattle.theory.proofs.ListLaws.{bool_cases, or_cases, any_at, has_at, at_has, map_at, and_both, both_and, true_lt, lt_true, true_eq, eq_true, has_all, all_has, not_true, filtered_at}
 use Rattle.theory.proofs.Pasts.{depends_le, depends_past, past_depends}
 use Rattle.theory.proofs.Firm.{stable_stands, stands_stable}
 use Rattle.theory.proofs.RowLaws.{Loses, loses_absurd}
@@ -91,7 +93,7 @@ module _ (w : World) (c : Chain w) (linked : Linked w.nodes) where
         let st = stable_stands w.members y (all y d own) in
         let s = c.sound.units st.unit st.member st.found in
         let unit : st.unit ≡ u = sym (s.own st.place y st.on_path) ∙ own in
-        let member : st.member ≡ m = same_some st.member m (sym st.found ∙ ap (slice_get w.members) unit ∙ found) in
+        let member : st.member ≡ m = same_Some st.member m (sym st.found ∙ ap (slice_get w.members) unit ∙ found) in
         let index : (node_at w.nodes y).index ≡ st.place = s.indexed st.place y st.on_path in
         let low : st.place < m.stable = subst (λ z. st.place < z.stable) member st.logged in
         passes (node_at w.nodes y).incarnation (node_at w.nodes y).index (sym p) (sym q) (omega arith)

@@ -2,14 +2,15 @@
 use Rattle.std.proofs.Common.{◌≡◌, ◌⊎◌, inl, inr, refl, sym, ◌∙◌, ap, ℕ, zero, suc, ◌<◌, ◌≤◌, Bool, true, false, ◌&&◌, List, [], ◌∷◌, length, take, arith}
 use Rattle.std.specs.Prelude.{Some, slice_get, nat_lt}
 use Rattle.std.proofs.lemmas.Bool.Decides.{nat_tests}
-use Rattle.std.proofs.lemmas.Option.{slice_get_within}
+use Rattle.std.proofs.lemmas.Option.{slice_get_within, same_Some}
 use Rattle.std.specs.List.{take_while, prefix_len}
 use Rattle.std.proofs.lemmas.List.Sums.{take_while-cons}
 use native.Mathlib.Decide.{ℕ_discrete}
 use Rattle.model.specs.declared.names.Row.{Row}
 use Rattle.model.specs.Nodes.{Node, node_at, DependsOn, sender_of}
 use Rattle.model.specs.World.{World, Member, is_firm}
-use Rattle.theory.proofs.ListLaws.{kept_if_all_pass, get_below, same_some, has_before, true_lt, both_and}
+use Rattle.model.proofs.Places.{get_below}
+use Rattle.theory.proofs.ListLaws.{kept_if_all_pass, has_before, true_lt, both_and}
 use Rattle.theory.proofs.Pasts.{Placed, depends_trans}
 use Rattle.theory.proofs.Invariants.{Sound, SoundMember}
 use Rattle.theory.proofs.Firm.{firm_stands, stands_firm, path_depends}
@@ -30,7 +31,7 @@ path_rises {nodes} {m = m} placed s i (suc j) x y e f h =
     let b = s.chained j r.0 y r.1 f in
     let below : r.0 < y = placed y r.0 (has_before (node_at nodes y).before (sender_of (node_at nodes y).cause) r.0 b) in
     elim (ℕ_discrete i j) [
-      | yes q ↦ let is : x ≡ r.0 = same_some x r.0 (sym e ∙ ap (slice_get m.path) q ∙ r.1) in omega (arith, is)
+      | yes q ↦ let is : x ≡ r.0 = same_Some x r.0 (sym e ∙ ap (slice_get m.path) q ∙ r.1) in omega (arith, is)
       | no q ↦ omega (arith, path_rises placed s i j x r.0 e r.1 (omega arith))
     ]
 
@@ -42,7 +43,7 @@ front_at w s u i x m found e firm k h = kept_if_all_pass _ m.path i x e (λ j y 
     let within = o.made i x e in
     both_and _ _ (firm_past w x y s.placed within firm (path_depends o i j x y e f le))
     (true_lt y k (elim (ℕ_discrete j i) [
-      | yes q ↦ let is : y ≡ x = same_some y x (sym f ∙ rw q e) in omega (arith, is)
+      | yes q ↦ let is : y ≡ x = same_Some y x (sym f ∙ rw q e) in omega (arith, is)
       | no q ↦ omega (arith, path_rises s.placed o j i y x f e (omega arith))
     ])))
 
@@ -87,7 +88,7 @@ module _ (w : World) (s : Sound w) (u i x : ℕ) (m : Member) (found : slice_get
       let o = s.units u m found in
       front_take _ m.path i (front_length _ m.path i (let t = slice_get_within m.path i x on in omega arith)
       (λ j y l e. earlier_firm j y x (omega arith) e (λ h. path_rises s.placed o j i y x e on h) (λ h. absurd (omega arith)))
-      (λ y e. let is : y ≡ x = same_some y x (sym e ∙ on) in both_no (is_firm w y) (nat_lt y x) (grind (arith, nat_tests))))
+      (λ y e. let is : y ≡ x = same_Some y x (sym e ∙ on) in both_no (is_firm w y) (nat_lt y x) (grind (arith, nat_tests))))
 
   -- and after it the path with it
   pub front_after : front w (suc x) m.path ≡ take (suc i) m.path
@@ -96,7 +97,7 @@ module _ (w : World) (s : Sound w) (u i x : ℕ) (m : Member) (found : slice_get
       front_take _ m.path (suc i) (front_length _ m.path (suc i) (slice_get_within m.path i x on)
       (λ j y l e. earlier_firm j y (suc x) (omega arith) e
       (λ h. let t = path_rises s.placed o j i y x e on h in omega arith)
-      (λ h. let is : y ≡ x = same_some y x (sym e ∙ ap (slice_get m.path) h ∙ on) in omega (arith, is)))
+      (λ h. let is : y ≡ x = same_Some y x (sym e ∙ ap (slice_get m.path) h ∙ on) in omega (arith, is)))
       (λ y e. let t = path_rises s.placed o i (suc i) x y on e (omega arith) in both_no (is_firm w y) (nat_lt y (suc x)) (grind (arith, nat_tests))))
 
 -- a node that is not firm, or not of the path, leaves the front

@@ -1,9 +1,9 @@
 -- A node that is not firm can go by at most three recovery steps; and a release leaves just what is firm released.
-use Rattle.std.proofs.Common.{◌≡◌, ◌≢◌, inl, inr, refl, sym, ◌∙◌, ap, subst, ℕ, zero, suc, ◌+◌, ◌-◌, ◌<◌, ◌≤◌, Bool, true, false, cond, not, max, ◌||◌, List, [], ◌∷◌, ◌++◌, length, take, drop, arith, map, length-take}
+use Rattle.std.proofs.Common.{◌≡◌, ◌≢◌, inl, inr, refl, sym, ◌∙◌, ap, subst, ℕ, zero, suc, ◌+◌, ◌-◌, ◌<◌, ◌≤◌, Bool, true, false, cond, not, max, ◌||◌, List, [], ◌∷◌, ◌++◌, length, take, drop, arith, map, length-take, ne_eqb}
 use Rattle.std.specs.Prelude.{Some, None, slice_get, slice_set, ◌==◌, nat_lt, nat_le}
 use Rattle.std.specs.List.{take_while, list_all, list_any, flat_map}
 use Rattle.std.proofs.lemmas.List.Sums.{take_while-cons}
-use Rattle.std.proofs.lemmas.Option.{slice_get_within}
+use Rattle.std.proofs.lemmas.Option.{slice_get_within, same_Some}
 use Rattle.std.proofs.lemmas.Bool.Decides.{nat_tests}
 use Rattle.std.proofs.lemmas.List.{length-map}
 use native.Mathlib.Decide.{dec_lt, ℕ_discrete}
@@ -16,12 +16,13 @@ use Rattle.model.specs.Handler.{Meaning}
 use Rattle.model.specs.Lists.{has, from_end}
 use Rattle.model.specs.Nodes.{node_at, past, begun, DependsOn}
 use Rattle.model.specs.World.{World, Member, executed, is_orphan, is_stable, is_firm, incarnation_of, held, path_outputs, releasable}
-use Rattle.model.specs.Steps.{Outcome, first_refusal, outcome_or, unless, if_unit, at_unit, at_up, with_member, gone_back, path_kept, row_for, fresh, kill, restart, notice, notice_orphan, notice_rows, release, is_down, going_back_tests, with_place, flushed, killed, back_at, with_known, with_released}
+use Rattle.model.specs.Steps.{Outcome, first_refusal, outcome_or, unless, at_up, with_member, gone_back, path_kept, row_for, fresh, kill, restart, notice, notice_orphan, notice_rows, release, is_down, going_back_tests, with_place, flushed, killed, back_at, with_known, with_released}
 use Rattle.model.specs.Alone.{Event, step, step_open, course_from, Reachable}
 use Rattle.model.specs.Alone.Reachable.{opened, stepped}
+use Rattle.model.proofs.Places.{get_below, at_unit_found}
 use Rattle.theory.proofs.Counts.{first_counted}
 use Rattle.theory.specs.Laws.{firm_outputs, CanGo, HeldCanGo, LaxCanGo, ReleaseIsWhole}
-use Rattle.theory.proofs.ListLaws.{same_some, bool_cases, has_at, eq_same, eq_other, set_get_same, set_get_other, get_set, get_append, get_take, get_take_while, take_while_passes, append_get_last, map_at, or_left, or_right, true_lt, get_below, take_while_le, not_true, get_append_any}
+use Rattle.theory.proofs.ListLaws.{bool_cases, has_at, eq_same, set_get_same, set_get_other, get_set, get_append, get_take, get_take_while, take_while_passes, append_get_last, map_at, or_left, or_right, true_lt, take_while_le, not_true, get_append_any}
 use Rattle.theory.proofs.Pasts.{depends_le, past_depends}
 use Rattle.theory.proofs.Changes.{Change, Passed, step_changes, new_seat}
 use Rattle.theory.proofs.Changes.Change.{unchanged, receives, flushes, dies, goes_back, learns, releases, joins}
@@ -47,10 +48,6 @@ passed_none (t ∷ tests) h = rw h.0 (passed_none tests h.1)
 
 unless_pass : (w : World) (tests : List (Bool × Refusal)) (out : Outcome) → Passed tests → unless w tests out ≡ out
 unless_pass w tests out h = ap (outcome_or w out) (passed_none tests h)
-
-at_unit_found : (w : World) (u : ℕ) (f : Member → Outcome) (m : Member) → slice_get w.members u ≡ Some m → at_unit w u f ≡ f m
-unfolding at_unit
-at_unit_found w u f m e = ap (if_unit w f) e
 
 at_up_found : (w : World) (u : ℕ) (f : Member → Outcome) (m : Member) → slice_get w.members u ≡ Some m → m.up ≡ true → at_up w u f ≡ f m
 unfolding at_up
@@ -192,7 +189,7 @@ module _ {S : Type 0} (M : Meaning S) where
       chain_change' c = chain_back M w c v q found' room'
 
       other_row : (rows : List Row) (row : Row) (u : ℕ) → row.unit ≢ u → incarnation_of (rows ++ row ∷ []) u ≡ incarnation_of rows u
-      other_row [] row u h = rw (eq_other row.unit u h) refl
+      other_row [] row u h = rw (ne_eqb row.unit u h) refl
       other_row (r ∷ rows) row u h = rw (other_row rows row u h) refl
 
   abbrev Goes : World → ℕ → ℕ → List Event → Type 0
@@ -233,7 +230,7 @@ module _ {S : Type 0} (M : Meaning S) where
       let found' = (get_below w.members v vin).1 in
       let room = rooms u (slice_get_within w.members u m found) in
       let room' = rooms v vin in
-      let mine : u ≡ v → m ≡ q = λ e. same_some m q (sym found ∙ ap (slice_get w.members) e ∙ found') in
+      let mine : u ≡ v → m ≡ q = λ e. same_Some m q (sym found ∙ ap (slice_get w.members) e ∙ found') in
       elim ((c.units v q found').whereabouts y yin refl) [
         | lost l ↦ (record { step = Notice u; said = quiet } ∷ [], omega arith, (refl, refl, tt), notice_goes w s u m found up room i x y on d l)
         | cut_off dn high ↦ (
@@ -314,7 +311,7 @@ first_held {Y} p f path released o rest closed is e =
 
 any_set : {X : Type 0} (p : X → Bool) (xs : List X) (u : ℕ) (m n : X) → slice_get xs u ≡ Some m → p n ≡ p m → list_any p (slice_set xs u n) ≡ list_any p xs
 any_set p [] u m n e h = refl
-any_set p (x ∷ xs) zero m n e h = let q : x ≡ m = same_some x m e in ap (λ b. b || list_any p xs) (h ∙ ap p (sym q))
+any_set p (x ∷ xs) zero m n e h = let q : x ≡ m = same_Some x m e in ap (λ b. b || list_any p xs) (h ∙ ap p (sym q))
 any_set p (x ∷ xs) (suc u) m n e h = ap (λ b. p x || b) (any_set p xs u m n e h)
 
 all_same : (p q : ℕ → Bool) (xs : List ℕ) → ((x : ℕ) → p x ≡ q x) → list_all p xs ≡ list_all q xs
@@ -337,7 +334,7 @@ module _ {S : Type 0} (M : Meaning S) where
   release_does v u m found up = ap (λ o. o.world) (at_up_found v u _ m found up)
 
   step_is : (v w : World) (e : Event) (u : ℕ) (m : Member) → slice_get v.members u ≡ Some m → m.up ≡ true → e.step ≡ Release u → (step M (Some v) e).world ≡ Some w → after_release v u m ≡ w
-  step_is v w e u m found up is h = same_some _ w (sym (release_does v u m found up) ∙ ap (λ z. (step_open M v z e.said).world) (sym is) ∙ h)
+  step_is v w e u m found up is h = same_Some _ w (sym (release_does v u m found up) ∙ ap (λ z. (step_open M v z e.said).world) (sym is) ∙ h)
 
   -- an accepted release leaves just the firm front's outputs released
   pub release_is_whole : ReleaseIsWhole M
@@ -352,7 +349,7 @@ module _ {S : Type 0} (M : Meaning S) where
   held_goes v u m g down found up rooms n found' x text rest e =
       let w = after_release v u m in
       let q : Member = with_released m (map (λ o. o.1) (releasable M v m)) in
-      let is : q ≡ n = same_some q n (sym (set_get_same v.members u q m found) ∙ found') in
+      let is : q ≡ n = same_Some q n (sym (set_get_same v.members u q m found) ∙ found') in
       let c : Chain w = chain_change M g.chain (releases u m found) in
       let same_firm : (y : ℕ) → is_firm w y ≡ is_firm v y = λ y. all_same (is_stable w.members) (is_stable v.members) (past v.nodes y) (λ z. any_set (λ k. has (take k.stable k.path) z) v.members u m q found refl) in
       let all : q.released ≡ firm_outputs M v m = release_all M v g.chain.sound u m found (g.released u m found) in

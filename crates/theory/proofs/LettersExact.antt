@@ -1,17 +1,18 @@
 -- What each letter says, and where its text stands among those that its sender's path sent.
-use Rattle.std.proofs.Common.{◌≡◌, inl, inr, refl, sym, ◌∙◌, ap, subst, ℕ, zero, suc, ◌+◌, ◌<◌, Bool, true, false, cond, List, [], ◌∷◌, ◌++◌, length, take, arith, map, append_assoc}
+use Rattle.std.proofs.Common.{◌≡◌, inl, inr, refl, sym, ◌∙◌, ap, subst, ℕ, zero, suc, ◌+◌, ◌<◌, Bool, true, false, cond, List, [], ◌∷◌, ◌++◌, length, take, arith, map, append_assoc, ne_eqb}
 use Rattle.std.specs.Prelude.{Option, Some, None, slice_get, ◌==◌}
 use Rattle.std.specs.List.{filter, sum_by, flat_map}
 use Rattle.std.proofs.lemmas.List.Sums.{sum_by-cons, sum_by_push, length-filter}
 use Rattle.std.proofs.lemmas.List.{length-map}
-use Rattle.std.proofs.lemmas.Option.{slice_get_within}
+use Rattle.std.proofs.lemmas.Option.{slice_get_within, same_Some}
 use native.Mathlib.Decide.{ℕ_discrete}
 use Rattle.model.specs.declared.names.Row.{Row}
 use Rattle.model.specs.Handler.{Turn, Meaning}
 use Rattle.model.specs.Lists.{from_end}
 use Rattle.model.specs.World.{Member}
 use Rattle.model.specs.Nodes.{Node, Message, node_at, Cause, place_before, sender_of, letters_of, execution, line, sends_within, count_along, count_to, next_turn}
-use Rattle.theory.proofs.ListLaws.{same_some, append_get, eq_other, eq_same, get_below, has_before, get_append_any}
+use Rattle.model.proofs.Places.{get_below, line_none}
+use Rattle.theory.proofs.ListLaws.{append_get, eq_same, has_before, get_append_any}
 use Rattle.theory.proofs.Pasts.{Placed, node_newest, node_older, placed_older}
 use Rattle.theory.proofs.Invariants.{SoundMember}
 use Rattle.theory.proofs.Sending.{turns_length}
@@ -28,22 +29,18 @@ pub sends_are : {S : Type 0} (M : Meaning S) (nodes : List Node) (d : Turn S) (x
 sends_are M [] d x h = absurd (omega arith)
 sends_are M (n ∷ older) d x h = elim (ℕ_discrete x (length older)) [
   | yes q ↦ rw (q, sends_length M older, turns_length M older, eq_same (length older)) refl
-  | no q ↦ rw (sends_length M older, turns_length M older, eq_other x (length older) q) (sends_are M older d x (omega arith))
+  | no q ↦ rw (sends_length M older, turns_length M older, ne_eqb x (length older) q) (sends_are M older d x (omega arith))
 ]
 
 sends_more : {S : Type 0} (M : Meaning S) (n : Node) (older : List Node) (x : ℕ) → x < length older → from_end (execution M (n ∷ older)).sends x [] ≡ from_end (execution M older).sends x []
-sends_more M n older x h = rw (sends_length M older, eq_other x (length older) (omega arith)) refl
+sends_more M n older x h = rw (sends_length M older, ne_eqb x (length older) (omega arith)) refl
 
 -- ---- lines
-
-line_none : (nodes : List Node) → line nodes None ≡ []
-line_none [] = refl
-line_none (n ∷ older) = refl
 
 -- one more node leaves the older lines as they were
 pub line_more : (n : Node) (older : List Node) (o : Option ℕ) → ((b : ℕ) → o ≡ Some b → b < length older) → line (n ∷ older) o ≡ line older o
 line_more n older None h = sym (line_none older)
-line_more n older (Some b) h = let t = h b refl in rw (eq_other b (length older) (omega arith)) refl
+line_more n older (Some b) h = let t = h b refl in rw (ne_eqb b (length older) (omega arith)) refl
 
 -- the node before was made before
 pub before_below : (nodes : List Node) → Placed nodes → (x b : ℕ) → (node_at nodes x).before ≡ Some b → b < x
@@ -54,7 +51,7 @@ pub line_at : (nodes : List Node) → Placed nodes → (x : ℕ) → x < length 
 line_at [] placed x h = absurd (omega arith)
 line_at (n ∷ older) placed x h = elim (ℕ_discrete x (length older)) [
   | yes q ↦ rw (node_newest n older x q, line_more n older n.before (λ b e. let t = before_below (n ∷ older) placed x b (ap (λ z. z.before) (node_newest n older x q) ∙ e) in omega arith), q, eq_same (length older)) refl
-  | no q ↦ rw (node_older n older x q, line_more n older (node_at older x).before (λ b e. let t = before_below (n ∷ older) placed x b (ap (λ z. z.before) (node_older n older x q) ∙ e) in omega arith), eq_other x (length older) q)
+  | no q ↦ rw (node_older n older x q, line_more n older (node_at older x).before (λ b e. let t = before_below (n ∷ older) placed x b (ap (λ z. z.before) (node_older n older x q) ∙ e) in omega arith), ne_eqb x (length older) q)
       (line_at older (placed_older n older placed) x (omega arith))
 ]
 
@@ -67,13 +64,13 @@ sum_line (n ∷ older) (Some x) f g h = elim (ℕ_discrete x (length older)) [
       ∙ ap (λ t. t + sum_by f (line older n.before)) (h (length older) (omega arith))
       ∙ ap (λ t. g (length older) + t) (sum_line older n.before f g (λ y k. h y (omega arith)))
       ∙ sym (sum_by-cons g (length older) (line older n.before)))
-  | no q ↦ rw (eq_other x (length older) q) (sum_line older (Some x) f g (λ y k. h y (omega arith)))
+  | no q ↦ rw (ne_eqb x (length older) q) (sum_line older (Some x) f g (λ y k. h y (omega arith)))
 ]
 
 -- a front with one more element
 pub take_more : {X : Type 0} (xs : List X) (i : ℕ) (x : X) → slice_get xs i ≡ Some x → take (suc i) xs ≡ take i xs ++ x ∷ []
 take_more [] i x e = cc
-take_more (y ∷ ys) zero x e = let q : y ≡ x = same_some y x e in rw q refl
+take_more (y ∷ ys) zero x e = let q : y ≡ x = same_Some y x e in rw q refl
 take_more (y ∷ ys) (suc i) x e = ap (λ t. y ∷ t) (take_more ys i x e)
 
 no_before : (o : Option ℕ) (c : Cause) → place_before o ++ sender_of c ≡ [] → o ≡ None
@@ -117,7 +114,7 @@ record OneOf (place unit : ℕ) (earlier : ℕ → ℕ) (all : List (ℕ × List
 letters_of_at : (place unit : ℕ) (earlier : ℕ → ℕ) (done sends : List (ℕ × List ℕ)) (l : ℕ) (msg : Message) → slice_get (letters_of place unit earlier done sends) l ≡ Some msg → OneOf place unit earlier (done ++ sends) msg
 letters_of_at place unit earlier done [] l msg e = absurd (cc e)
 letters_of_at place unit earlier done (s ∷ sends) zero msg e =
-    let q = same_some _ msg e in
+    let q = same_Some _ msg e in
     subst (OneOf place unit earlier (done ++ s ∷ sends)) q (record {
       sender = refl;
       source = refl;
@@ -203,7 +200,7 @@ letters_sent M (n ∷ older) placed l msg e = elim (get_append_any (execution M 
 
 filter_at : (u j : ℕ) (sends : List (ℕ × List ℕ)) (t : List ℕ) → slice_get sends j ≡ Some (u, t) → slice_get (map (λ s. s.1) (filter (λ s. s.0 == u) sends)) (count_to u (take j sends)) ≡ Some t
 filter_at u j [] t e = cc
-filter_at u zero (s ∷ sends) t e = let q : s ≡ (u, t) = same_some s (u, t) e in rw (q, eq_same u) refl
+filter_at u zero (s ∷ sends) t e = let q : s ≡ (u, t) = same_Some s (u, t) e in rw (q, eq_same u) refl
 filter_at u (suc j) (s ∷ sends) t e = rw (sum_by-cons (λ s. cond (s.0 == u) 1 0) s (take j sends)) (go (s.0 == u) (filter_at u j sends t e))
   where
     go : (b : Bool) → slice_get (map (λ s. s.1) (filter (λ s. s.0 == u) sends)) (count_to u (take j sends)) ≡ Some t
@@ -219,7 +216,7 @@ pub text_at : (sends_of : ℕ → List (ℕ × List ℕ)) (u : ℕ) (done : List
     → slice_get (flat_map (λ x. map (λ s. s.1) (filter (λ s. s.0 == u) (sends_of x))) done) (sum_by (λ x. count_to u (sends_of x)) (take i done) + count_to u (take j (sends_of s))) ≡ Some t
 text_at sends_of u [] i s j t e f = cc
 text_at sends_of u (x ∷ xs) zero s j t e f =
-    let q : x ≡ s = same_some x s e in
+    let q : x ≡ s = same_Some x s e in
     let k : 0 + count_to u (take j (sends_of s)) ≡ count_to u (take j (sends_of s)) = omega arith in
     rw (q, k) (append_get (map (λ p. p.1) (filter (λ p. p.0 == u) (sends_of s))) (flat_map (λ x. map (λ s. s.1) (filter (λ s. s.0 == u) (sends_of x))) xs) (count_to u (take j (sends_of s))) t (filter_at u j (sends_of s) t f))
 text_at sends_of u (x ∷ xs) (suc i) s j t e f =

@@ -4,7 +4,7 @@ use Rattle.std.specs.Prelude.{Some, slice_get, slice_index, slice_set, ◌==◌,
 use Rattle.std.proofs.lemmas.Bool.Decides.{nat_tests}
 use Rattle.std.specs.List.{filter, list_any, list_all, take_while, prefix_len}
 use Rattle.std.proofs.lemmas.List.Sums.{take_while-cons}
-use Rattle.std.proofs.lemmas.Option.{slice_get_within, get_or_from_slice_get}
+use Rattle.std.proofs.lemmas.Option.{slice_get_within, get_or_from_slice_get, same_Some}
 use Rattle.std.proofs.Math.Nat.{sub-zero}
 use Rattle.model.specs.Lists.{has}
 use Rattle.model.specs.Nodes.{Cause, letter, place_before, sender_of}
@@ -16,10 +16,6 @@ eq_true a b e = grind arith
 -- a number tests equal to itself
 pub eq_same : (a : ℕ) → (a == a) ≡ true
 eq_same a = grind arith
-
--- and to no other
-pub eq_other : (a b : ℕ) → a ≢ b → (a == b) ≡ false
-eq_other a b h = grind arith
 
 -- which of two tests passed
 pub or_cases : (a b : Bool) → (a || b) ≡ true → (a ≡ true) ⊎ (b ≡ true)
@@ -173,16 +169,6 @@ take_get [] (suc n) i x h e = e
 take_get (z ∷ xs) (suc n) zero x h e = e
 take_get (z ∷ xs) (suc n) (suc i) x h e = take_get xs n i x (omega arith) e
 
--- there is an element at each place below the length
-pub get_below : {X : Type 0} (xs : List X) (i : ℕ) → i < length xs → (x : X) × (slice_get xs i ≡ Some x)
-get_below [] i h = absurd (omega arith)
-get_below (z ∷ xs) zero h = (z, refl)
-get_below (z ∷ xs) (suc i) h = get_below xs i (omega arith)
-
--- what is there twice is the same
-pub same_some : {X : Type 0} (x y : X) → Some x ≡ Some y → x ≡ y
-same_some x y e = cc
-
 -- a test passes or fails
 pub bool_cases : (b : Bool) → (b ≡ true) ⊎ (b ≡ false)
 bool_cases true = inl refl
@@ -219,7 +205,7 @@ take_while_passes p (y ∷ ys) i x e = go (λ k. take_while_passes p ys k x) (p 
   where
     go : ((k : ℕ) → slice_get (take_while p ys) k ≡ Some x → p x ≡ true) → (b : Bool) → p y ≡ b → (k : ℕ) → slice_get (cond b (y ∷ take_while p ys) []) k ≡ Some x → p x ≡ true
     go rest false q k h = cc
-    go rest true q zero h = let r : y ≡ x = same_some y x h in rw (← r) q
+    go rest true q zero h = let r : y ≡ x = same_Some y x h in rw (← r) q
     go rest true q (suc k) h = rest k h
 
 -- equal numbers test equal
@@ -249,7 +235,7 @@ take_while_le p xs = rw (length-take (prefix_len p xs) xs) (omega arith)
 -- an element of the list gives one of the map, at the same place
 pub at_map : {X Y : Type 0} (f : X → Y) (xs : List X) (i : ℕ) (x : X) → slice_get xs i ≡ Some x → slice_get (map f xs) i ≡ Some (f x)
 at_map f [] i x e = cc
-at_map f (y ∷ ys) zero x e = let q : y ≡ x = same_some y x e in rw q refl
+at_map f (y ∷ ys) zero x e = let q : y ≡ x = same_Some y x e in rw q refl
 at_map f (y ∷ ys) (suc i) x e = at_map f ys i x e
 
 -- the node before is one of the parents
@@ -289,7 +275,7 @@ filtered_at {X} p (x ∷ xs) i y e = go (p x) refl i (λ k f. filtered_at p xs k
   where
     go : (b : Bool) → p x ≡ b → (k : ℕ) → ((k : ℕ) → slice_get (filter p xs) k ≡ Some y → ((j : ℕ) × (slice_get xs j ≡ Some y)) × (p y ≡ true))
         → slice_get (cond b (x ∷ filter p xs) (filter p xs)) k ≡ Some y → ((j : ℕ) × (slice_get (x ∷ xs) j ≡ Some y)) × (p y ≡ true)
-    go true q zero rest f = let is : x ≡ y = same_some x y f in ((0, f), ap p (sym is) ∙ q)
+    go true q zero rest f = let is : x ≡ y = same_Some x y f in ((0, f), ap p (sym is) ∙ q)
     go true q (suc k) rest f = let t = rest k f in ((suc t.0.0, t.0.1), t.1)
     go false q k rest f = let t = rest k f in ((suc t.0.0, t.0.1), t.1)
 

@@ -13,7 +13,8 @@ use Rattle.model.specs.Lists.{has}
 use Rattle.model.specs.World.{World, Member, executed, taken, source_of, is_from}
 use Rattle.model.specs.Steps.{next_node, beginning}
 use Rattle.model.specs.Nodes.{Node, Message, node_at, Cause, began, outside, letter, place_before, sender_of, letters_of, line, sends_within, count_along, next_turn as turn_after}
-use Rattle.theory.proofs.ListLaws.{append_get, eq_same, append_has, get_below, has_sender}
+use Rattle.model.proofs.Places.{get_below}
+use Rattle.theory.proofs.ListLaws.{append_get, eq_same, append_has, has_sender}
 use Rattle.theory.proofs.Pasts.{Placed, node_newest, node_older, placed_older}
 use Rattle.theory.proofs.Changes.{Change, MayTake, new_seat}
 use Rattle.theory.proofs.Changes.Change.{unchanged, receives, flushes, dies, goes_back, learns, releases, joins}

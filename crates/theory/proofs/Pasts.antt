@@ -1,11 +1,11 @@
 -- The computed past is the least set: it is the relation.
-use Rattle.std.proofs.Common.{◌≡◌, ◌≢◌, ◌⊎◌, inl, inr, refl, ◌∙◌, ℕ, suc, ◌<◌, ◌≤◌, Bool, true, false, cond, List, [], ◌∷◌, ◌++◌, length, arith}
+use Rattle.std.proofs.Common.{◌≡◌, ◌≢◌, ◌⊎◌, inl, inr, refl, ◌∙◌, ℕ, suc, ◌<◌, ◌≤◌, Bool, true, false, cond, List, [], ◌∷◌, ◌++◌, length, arith, ne_eqb}
 use Rattle.std.specs.Prelude.{◌==◌}
 use native.Mathlib.Decide.{dec_lt}
 use Rattle.model.specs.Lists.{has}
 use Rattle.model.specs.Nodes.{Node, no_node, node_at, parents, past, past_of_all, DependsOn}
 use Rattle.model.specs.Nodes.DependsOn.{itself, through}
-use Rattle.theory.proofs.ListLaws.{eq_true, eq_same, eq_other, has_append, append_has, or_cases, or_left}
+use Rattle.theory.proofs.ListLaws.{eq_true, eq_same, has_append, append_has, or_cases, or_left}
 
 -- a node's parents were made before it
 abbrev pub Placed : List Node → Type 0
@@ -21,7 +21,7 @@ node_newest n older x e = rw (e, eq_same (length older)) refl
 
 -- and that at another place is one of the older
 pub node_older : (n : Node) (older : List Node) (x : ℕ) → x ≢ length older → node_at (n ∷ older) x ≡ node_at older x
-node_older n older x h = rw (eq_other x (length older) h) refl
+node_older n older x h = rw (ne_eqb x (length older) h) refl
 
 -- as is that at an earlier place
 pub node_earlier : (n : Node) (older : List Node) (x : ℕ) → x < length older → node_at (n ∷ older) x ≡ node_at older x

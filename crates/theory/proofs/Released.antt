@@ -1,10 +1,10 @@
 -- What a unit released is a beginning of the outputs of its path's firm front.
-use Rattle.std.proofs.Common.{◌≡◌, inl, inr, refl, sym, ◌∙◌, ap, subst, ℕ, zero, suc, ◌+◌, ◌<◌, ◌≤◌, Bool, true, false, List, [], ◌∷◌, ◌++◌, length, drop, arith, map, length-append, append_assoc}
+use Rattle.std.proofs.Common.{◌≡◌, inl, inr, refl, sym, ◌∙◌, ap, subst, ℕ, zero, suc, ◌+◌, ◌<◌, ◌≤◌, Bool, true, false, List, [], ◌∷◌, ◌++◌, length, drop, arith, map, length-append, append_assoc, ne_eqb}
 use Rattle.std.specs.Prelude.{Some, slice_get, slice_set}
 use Rattle.std.specs.List.{flat_map, take_while}
 use Rattle.std.proofs.lemmas.List.Sums.{take_while-cons}
 use Rattle.std.proofs.lemmas.List.{length-map, map-append}
-use Rattle.std.proofs.lemmas.Option.{slice_get_within}
+use Rattle.std.proofs.lemmas.Option.{slice_get_within, same_Some}
 use mathlib.Core.List.{IsPrefix}
 use native.Mathlib.Decide.{ℕ_discrete}
 use Rattle.model.specs.Handler.{Turn, Meaning}
@@ -13,8 +13,9 @@ use Rattle.model.specs.Nodes.{Node, node_at, begun, execution}
 use Rattle.model.specs.Nodes.DependsOn.{itself}
 use Rattle.model.specs.World.{World, Member, executed, is_firm, releasable}
 use Rattle.model.specs.Steps.{next_node, fresh, beginning, with_released}
+use Rattle.model.proofs.Places.{get_below}
 use Rattle.theory.specs.Laws.{firm_outputs}
-use Rattle.theory.proofs.ListLaws.{same_some, get_set, get_append, eq_other, eq_same, get_below, get_take_while, take_while_passes, kept_if_all_pass, bool_cases}
+use Rattle.theory.proofs.ListLaws.{get_set, get_append, eq_same, get_take_while, take_while_passes, kept_if_all_pass, bool_cases}
 use Rattle.theory.proofs.Pasts.{node_older}
 use Rattle.theory.proofs.Changes.{Change, new_seat}
 use Rattle.theory.proofs.Changes.Change.{unchanged, receives, flushes, dies, goes_back, learns, releases, joins}
@@ -31,7 +32,7 @@ pub prefix_at : {X : Type 0} (xs ys : List X) → ((i : ℕ) (x : X) → slice_g
 prefix_at [] ys h = (ys, refl)
 prefix_at (x ∷ xs) [] h = absurd (let t = h 0 x refl in cc t)
 prefix_at (x ∷ xs) (y ∷ ys) h =
-    let q : y ≡ x = same_some y x (h 0 x refl) in
+    let q : y ≡ x = same_Some y x (h 0 x refl) in
     let r = prefix_at xs ys (λ i z e. h (suc i) z e) in
     (r.0, ap (λ t. x ∷ t) r.1 ∙ ap (λ z. z ∷ ys) (sym q))
 
@@ -53,7 +54,7 @@ pub from_end_default : {X : Type 0} (xs : List X) (x : ℕ) (d d' : X) → x < l
 from_end_default [] x d d' h = absurd (omega arith)
 from_end_default (y ∷ ys) x d d' h = elim (ℕ_discrete x (length ys)) [
   | yes q ↦ rw (q, eq_same (length ys)) refl
-  | no q ↦ rw (eq_other x (length ys) q) (from_end_default ys x d d' (omega arith))
+  | no q ↦ rw (ne_eqb x (length ys) q) (from_end_default ys x d d' (omega arith))
 ]
 
 -- pairs of a place and an output there
@@ -136,7 +137,7 @@ nodes_kept M {v} (joins kind room) x h = (omega arith, node_older (beginning (ne
 
 module _ {S : Type 0} (M : Meaning S) where
   turns_older : (v : World) (n : Node) (x : ℕ) (d : Turn S) → x < length v.nodes → from_end (execution M (n ∷ v.nodes)).turns x d ≡ from_end (executed M v).turns x d
-  turns_older v n x d h = let k = turns_length M v.nodes in rw (eq_other x (length (executed M v).turns) (omega arith)) refl
+  turns_older v n x d h = let k = turns_length M v.nodes in rw (ne_eqb x (length (executed M v).turns) (omega arith)) refl
 
   -- so do their turns
   turns_kept : {v w : World} → Change M v w → (x : ℕ) (d : Turn S) → x < length v.nodes → from_end (executed M w).turns x d ≡ from_end (executed M v).turns x d
@@ -156,7 +157,7 @@ firm_on w s u i x n found h firm own index =
     let st = firm_stands w x x s.placed h firm itself in
     let g = s.units st.unit st.member st.found in
     let unit : st.unit ≡ u = sym (g.own st.place x st.on_path) ∙ own in
-    let member : st.member ≡ n = same_some st.member n (sym st.found ∙ ap (slice_get w.members) unit ∙ found) in
+    let member : st.member ≡ n = same_Some st.member n (sym st.found ∙ ap (slice_get w.members) unit ∙ found) in
     let place : st.place ≡ i = sym (g.indexed st.place x st.on_path) ∙ index in
     let on : slice_get n.path st.place ≡ Some x = ap (λ q. slice_get q.path st.place) (sym member) ∙ st.on_path in
     let below : st.place < n.stable = subst (λ q. st.place < q.stable) member st.logged in
@@ -177,7 +178,7 @@ module _ {S : Type 0} (M : Meaning S) where
       let size : i < length (take_while (is_firm v) m.path) = slice_get_within (take_while (is_firm v) m.path) i x e in
       let q = get_below (take_while (is_firm v) m.path) j (omega arith) in
       let k = stands j q.0 q.1 in
-      let is : y ≡ q.0 = same_some y q.0 (sym f ∙ k.0) in
+      let is : y ≡ q.0 = same_Some y q.0 (sym f ∙ k.0) in
       ap (is_firm w) is ∙ k.1)
     where
       stands : (j y : ℕ) → slice_get (take_while (is_firm v) m.path) j ≡ Some y → (slice_get n.path j ≡ Some y) × (is_firm w y ≡ true)

@@ -2,6 +2,7 @@
 use Rattle.std.proofs.Common.{◌≡◌, ◌⊎◌, inl, inr, refl, sym, ◌∙◌, ap, subst, ℕ, suc, Bool, true, false, cond, List, [], ◌++◌, length, arith, map}
 use Rattle.std.specs.Prelude.{Option, Some, None, slice_get, slice_set, nat_lt}
 use Rattle.std.proofs.lemmas.List.{append-nil}
+use Rattle.std.proofs.lemmas.Option.{same_Some}
 use mathlib.Core.List.{IsPrefix}
 use native.Mathlib.Decide.{ℕ_discrete}
 use Rattle.model.specs.declared.refusals.Refusal.{Refusal}
@@ -14,7 +15,7 @@ use Rattle.model.specs.World.{World, Member, executed, releasable}
 use Rattle.model.specs.Steps.{Outcome, unless, at_unit, at_up, if_letter, with_member, path_kept, notice_orphan, notice_rows, release, join_kind}
 use Rattle.model.specs.Alone.{Event, step_open, step}
 use Rattle.theory.specs.Laws.{ReleasedGrow}
-use Rattle.theory.proofs.ListLaws.{append_get, set_get_same, set_get_other, same_some}
+use Rattle.theory.proofs.ListLaws.{append_get, set_get_same, set_get_other}
 use Rattle.theory.proofs.Changes.{unless_cases, if_unit_cases}
 
 -- each unit is still there and has released the same
@@ -26,7 +27,7 @@ module _ (v w : World) where
   keeps_same e x m f = (m, ap (λ z. slice_get z.members x) (sym e) ∙ f, refl)
 
   keeps_to : (y : World) → Keeps v y → Some y ≡ Some w → Keeps v w
-  keeps_to y k e = subst (λ z. Keeps v z) (same_some y w e) k
+  keeps_to y k e = subst (λ z. Keeps v z) (same_Some y w e) k
 
   unless_keeps : (tests : List (Bool × Refusal)) (out : Outcome) → (out.world ≡ Some w → Keeps v w) → (unless v tests out).world ≡ Some w → Keeps v w
   unless_keeps tests out k e = elim (unless_cases v w tests out e) [ inl h ↦ keeps_same h | inr h ↦ k h.1 ]
@@ -42,14 +43,14 @@ module _ (v w : World) where
 set_keeps : (v : World) (u : ℕ) (m n : Member) → slice_get v.members u ≡ Some m → n.released ≡ m.released → Keeps v (with_member v u n)
 set_keeps v u m n found e x q f = elim (ℕ_discrete x u) [
   | yes k ↦
-      let is : m ≡ q = same_some m q (sym found ∙ ap (slice_get v.members) (sym k) ∙ f) in
+      let is : m ≡ q = same_Some m q (sym found ∙ ap (slice_get v.members) (sym k) ∙ f) in
       (n, ap (slice_get (slice_set v.members u n)) k ∙ set_get_same v.members u n m found, e ∙ ap (λ z. z.released) is)
   | no k ↦ (q, set_get_other v.members u x n k ∙ f, refl)
 ]
 
 module _ {S : Type 0} (M : Meaning S) (v w : World) where
   letter_keeps : (l : ℕ) (o : Option Message) → (if_letter M v l o).world ≡ Some w → Keeps v w
-  letter_keeps l None q = keeps_same v w (same_some v w q)
+  letter_keeps l None q = keeps_same v w (same_Some v w q)
   letter_keeps l (Some msg) q = at_unit_keeps v w msg.receiver _ (λ m found. unless_keeps v w _ _ (λ k. keeps_to v w _ (set_keeps v msg.receiver m _ found refl) k)) q
 
   notice_keeps : (u : ℕ) (said : Said) (m : Member) → slice_get v.members u ≡ Some m → (b : Bool) → (cond b (notice_orphan v u said m) (notice_rows v u m)).world ≡ Some w → Keeps v w
@@ -57,22 +58,22 @@ module _ {S : Type 0} (M : Meaning S) (v w : World) where
   notice_keeps u said m found false q = keeps_to v w _ (set_keeps v u m _ found refl) q
 
   join_keeps : (o : Option ℕ) → (join_kind v o).world ≡ Some w → Keeps v w
-  join_keeps None e = keeps_same v w (same_some v w e)
+  join_keeps None e = keeps_same v w (same_Some v w e)
   join_keeps (Some kind) e = unless_keeps v w _ _ (λ q. keeps_to v w _ (λ x m f. (m, append_get v.members _ x m f, refl)) q) e
 
   -- a step that is no release
   keeps : (step : TenantStep) (said : Said) → ((u : ℕ) → ¬ (step ≡ Release u)) → (step_open M v step said).world ≡ Some w → Keeps v w
-  keeps (Open kinds quota optimism) said h e = keeps_same v w (same_some v w e)
+  keeps (Open kinds quota optimism) said h e = keeps_same v w (same_Some v w e)
   keeps (Join kind) said h e = join_keeps (M.kind kind) e
   keeps (Post unit number text) said h e = at_unit_keeps v w unit _ (λ m found. unless_keeps v w _ _ (λ k. keeps_to v w _ (set_keeps v unit m _ found refl) k)) e
   keeps (Deliver l) said h e = letter_keeps l (slice_get (executed M v).letters l) e
   keeps (Flush unit) said h e = at_up_keeps v w unit _ (λ m found k. keeps_to v w _ (set_keeps v unit m _ found refl) k) e
-  keeps (Checkpoint unit) said h e = at_up_keeps v w unit _ (λ m found. unless_keeps v w _ _ (λ k. keeps_same v w (same_some v w k))) e
+  keeps (Checkpoint unit) said h e = at_up_keeps v w unit _ (λ m found. unless_keeps v w _ _ (λ k. keeps_same v w (same_Some v w k))) e
   keeps (Kill unit) said h e = at_up_keeps v w unit _ (λ m found k. keeps_to v w _ (set_keeps v unit m _ found refl) k) e
   keeps (Restart unit) said h e = at_unit_keeps v w unit _ (λ m found. unless_keeps v w _ _ (λ k. keeps_to v w _ (set_keeps v unit m _ found refl) k)) e
   keeps (Notice unit) said h e = at_up_keeps v w unit _ (λ m found q. notice_keeps unit said m found (nat_lt (length (path_kept v m)) (length m.path)) q) e
   keeps (Release unit) said h e = absurd (h unit refl)
-  keeps (Status unit) said h e = at_unit_keeps v w unit _ (λ m found q. keeps_same v w (same_some v w q)) e
+  keeps (Status unit) said h e = at_unit_keeps v w unit _ (λ m found q. keeps_same v w (same_Some v w q)) e
 
   -- a release
   abbrev Grows : ℕ → World → Type 0
@@ -84,7 +85,7 @@ module _ {S : Type 0} (M : Meaning S) (v w : World) where
   grows_set : (u : ℕ) (m n : Member) (more : List (List ℕ)) → slice_get v.members u ≡ Some m → n.released ≡ m.released ++ more → Grows u (with_member v u n)
   grows_set u m n more found e x q f = elim (ℕ_discrete x u) [
     | yes k ↦
-        let is : m ≡ q = same_some m q (sym found ∙ ap (slice_get v.members) (sym k) ∙ f) in
+        let is : m ≡ q = same_Some m q (sym found ∙ ap (slice_get v.members) (sym k) ∙ f) in
         (n, ap (slice_get (slice_set v.members u n)) k ∙ set_get_same v.members u n m found, (more, ap (λ z. z.released ++ more) (sym is) ∙ sym e), λ h. absurd (h k))
     | no k ↦ (q, set_get_other v.members u x n k ∙ f, ([], append-nil q.released), λ h. refl)
   ]
@@ -95,7 +96,7 @@ module _ {S : Type 0} (M : Meaning S) (v w : World) where
     | inl h ↦ grows_keeps u (keeps_same v w h)
     | inr h ↦ elim (unless_cases v w _ _ h.2) [
       | inl q ↦ grows_keeps u (keeps_same v w q)
-      | inr q ↦ subst (Grows u) (same_some _ w q.1) (grows_set u h.0 _ (map (λ o. o.1) (releasable M v h.0)) h.1 refl)
+      | inr q ↦ subst (Grows u) (same_Some _ w q.1) (grows_set u h.0 _ (map (λ o. o.1) (releasable M v h.0)) h.1 refl)
     ]
   ]
 

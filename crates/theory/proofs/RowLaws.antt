@@ -1,11 +1,12 @@
 -- Laws of the table of rows.
 use Rattle.std.proofs.Common.{◌≡◌, ◌⊎◌, inl, inr, refl, ℕ, zero, suc, ◌<◌, ◌≤◌, Bool, true, false, cond, max, ◌&&◌, List, [], ◌∷◌, ◌++◌, take, arith}
+use Rattle.std.proofs.lemmas.Option.{same_Some}
 use Rattle.std.specs.Prelude.{Some, slice_get, ◌==◌}
 use native.Mathlib.Decide.{dec_lt}
 use Rattle.model.specs.declared.names.Row.{Row}
 use Rattle.model.specs.Nodes.{Node}
 use Rattle.model.specs.World.{is_lost, is_told, incarnation_of, is_lost_by}
-use Rattle.theory.proofs.ListLaws.{get_take, any_at, at_any, and_both, or_cases, append_get, same_some, bool_cases, eq_true, true_eq, lt_true, true_lt, le_true, true_le, both_and, eq_same}
+use Rattle.theory.proofs.ListLaws.{get_take, any_at, at_any, and_both, or_cases, append_get, bool_cases, eq_true, true_eq, lt_true, true_lt, le_true, true_le, both_and, eq_same}
 
 -- the row that loses a node
 pub record Loses (rows : List Row) (n : Node) : Type 0 where
@@ -54,7 +55,7 @@ told_row rows n e = elim (or_cases (n.incarnation == 0) _ e) [
 -- no row is past its unit's greatest incarnation
 pub row_reached : (rows : List Row) (i : ℕ) (r : Row) → slice_get rows i ≡ Some r → r.incarnation ≤ incarnation_of rows r.unit
 row_reached [] i r e = cc
-row_reached (q ∷ rows) zero r e = let s : q ≡ r = same_some q r e in rw s (rw (eq_same r.unit) (omega arith))
+row_reached (q ∷ rows) zero r e = let s : q ≡ r = same_Some q r e in rw s (rw (eq_same r.unit) (omega arith))
 row_reached (q ∷ rows) (suc i) r e = go (q.unit == r.unit) (row_reached rows i r e)
   where
     go : (b : Bool) → r.incarnation ≤ incarnation_of rows r.unit → r.incarnation ≤ cond b (max q.incarnation (incarnation_of rows r.unit)) (incarnation_of rows r.unit)

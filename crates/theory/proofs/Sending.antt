@@ -1,5 +1,6 @@
 -- Letters and the nodes that sent them; and the turn of each node, in the one execution of all nodes.
-use Rattle.std.proofs.Common.{◌≡◌, inl, inr, refl, sym, ◌∙◌, ap, ℕ, zero, suc, ◌<◌, List, [], ◌∷◌, ◌++◌, length, arith}
+use Rattle.std.proofs.Common.{◌≡◌, inl, inr, refl, sym, ◌∙◌, ap, ℕ, zero, suc, ◌<◌, List, [], ◌∷◌, ◌++◌, length, arith, ne_eqb}
+use Rattle.std.proofs.lemmas.Option.{same_Some}
 use Rattle.std.specs.Prelude.{Option, Some, None, slice_get}
 use native.Mathlib.Decide.{ℕ_discrete}
 use Rattle.model.specs.declared.names.Seat.{Seat}
@@ -7,7 +8,7 @@ use Rattle.model.specs.Handler.{Turn, Meaning}
 use Rattle.model.specs.Nodes.{Node, Message, node_at, Cause, began, outside, letter, turn_at, turn_upon, sender_of, letters_of, execution, line, sends_within, count_along, next_turn}
 use Rattle.model.specs.declared.names.Source.TheVariants.{Outside}
 use Rattle.model.specs.Lists.{from_end}
-use Rattle.theory.proofs.ListLaws.{same_some, eq_other, eq_same, has_before, get_append_any}
+use Rattle.theory.proofs.ListLaws.{eq_same, has_before, get_append_any}
 use Rattle.theory.proofs.Pasts.{Placed, node_newest, node_older, placed_older}
 
 abbrev AllSentBelow : ℕ → List Message → Type 0
@@ -18,7 +19,7 @@ sent_below k place unit earlier h done [] = λ l msg e. absurd (cc e)
 sent_below k place unit earlier h done (s ∷ sends) = λ l msg e. at l msg e (sent_below k place unit earlier h (done ++ s ∷ []) sends)
   where
     at : (l : ℕ) (msg : Message) → slice_get (letters_of place unit earlier done (s ∷ sends)) l ≡ Some msg → AllSentBelow k (letters_of place unit earlier (done ++ s ∷ []) sends) → msg.sender < k
-    at zero msg e rest = let q = same_some _ msg e in rw (← q) h
+    at zero msg e rest = let q = same_Some _ msg e in rw (← q) h
     at (suc l) msg e rest = rest l msg e
 
 -- a letter was sent by a node that was made
@@ -37,7 +38,7 @@ letters_made M (n ∷ older) = λ l msg e. at (letters_made M older) l msg e
 
 letters_place : (place unit : ℕ) (earlier : ℕ → ℕ) (done sends : List (ℕ × List ℕ)) (l : ℕ) (msg : Message) → slice_get (letters_of place unit earlier done sends) l ≡ Some msg → msg.sender ≡ place
 letters_place place unit earlier done [] l msg e = absurd (cc e)
-letters_place place unit earlier done (s ∷ sends) zero msg e = let q = same_some _ msg e in ap (λ m. m.sender) (sym q)
+letters_place place unit earlier done (s ∷ sends) zero msg e = let q = same_Some _ msg e in ap (λ m. m.sender) (sym q)
 letters_place place unit earlier done (s ∷ sends) (suc l) msg e = letters_place place unit earlier (done ++ s ∷ []) sends l msg e
 
 -- there is a turn for each node
@@ -61,7 +62,7 @@ Received letters nodes = (x l s : ℕ) → x < length nodes → (node_at nodes x
 turn_at_more : {S : Type 0} (M : Meaning S) (seat : Seat) (n : Node) (older : List Node) (b : Option ℕ) → ((p : ℕ) → b ≡ Some p → p < length older)
     → turn_at M seat (execution M (n ∷ older)).turns b ≡ turn_at M seat (execution M older).turns b
 turn_at_more M seat n older None h = refl
-turn_at_more M seat n older (Some p) h = let t = h p refl in let k = turns_length M older in rw (eq_other p (length (execution M older).turns) (omega arith)) refl
+turn_at_more M seat n older (Some p) h = let t = h p refl in let k = turns_length M older in rw (ne_eqb p (length (execution M older).turns) (omega arith)) refl
 
 next_turn_more : {S : Type 0} (M : Meaning S) (seat : Seat) (n : Node) (older : List Node) (b : Option ℕ) (c : Cause) → ((p : ℕ) → b ≡ Some p → p < length older)
     → ((l s : ℕ) → c ≡ letter l s → (msg : Message) × (slice_get (execution M (n ∷ older)).letters l ≡ Some msg) × (msg.sender < length older))
@@ -82,7 +83,7 @@ turns_are {S} M (n ∷ older) d placed received x h = elim (ℕ_discrete x (leng
   | yes q ↦ rw (q, turns_length M older, eq_same (length older)) (sym (next_turn_more M n.seat n older n.before n.cause
       (λ p e. placed (length older) p (rw (node_newest n older (length older) refl) (has_before n.before (sender_of n.cause) p e)))
       (λ l s e. received (length older) l s (omega arith) (ap (λ m. m.cause) (node_newest n older (length older) refl) ∙ e))))
-  | no q ↦ rw (turns_length M older, eq_other x (length older) q)
+  | no q ↦ rw (turns_length M older, ne_eqb x (length older) q)
       (turns_are M older d (placed_older n older placed) received_older x (omega arith)
       ∙ sym (next_turn_more M (node_at older x).seat n older (node_at older x).before (node_at older x).cause
       (λ p e. let t = placed_older n older placed x p (has_before (node_at older x).before (sender_of (node_at older x).cause) p e) in omega arith)

@@ -1,9 +1,9 @@
 -- A run without failures beside some paths: what one more receipt, beginning or join does to it.
-use Rattle.std.proofs.Common.{◌≡◌, ◌≢◌, ◌⊎◌, inl, inr, refl, sym, ◌∙◌, ap, ℕ, zero, suc, ◌+◌, ◌<◌, ◌≤◌, Bool, true, false, cond, List, [], ◌∷◌, ◌++◌, length, drop, arith, map, length-append, append_assoc, length-set}
+use Rattle.std.proofs.Common.{◌≡◌, ◌≢◌, ◌⊎◌, inl, inr, refl, sym, ◌∙◌, ap, ℕ, zero, suc, ◌+◌, ◌<◌, ◌≤◌, Bool, true, false, cond, List, [], ◌∷◌, ◌++◌, length, drop, arith, map, length-append, append_assoc, length-set, ne_eqb}
 use Rattle.std.specs.Prelude.{Option, Some, None, Ok, slice_get, slice_set, ◌==◌, nat_lt, nat_le, option_to_list}
 use Rattle.std.specs.List.{filter, fold, flat_map, count_by}
 use Rattle.std.proofs.lemmas.Bool.Decides.{nat_tests}
-use Rattle.std.proofs.lemmas.Option.{slice_get_within}
+use Rattle.std.proofs.lemmas.Option.{slice_get_within, same_Some}
 use Rattle.std.proofs.lemmas.List.Sums.{sum_by-append}
 use Rattle.std.proofs.lemmas.List.{append-nil}
 use native.Mathlib.Decide.{ℕ_discrete}
@@ -15,7 +15,7 @@ use Rattle.model.specs.Handler.{Turn, Meaning}
 use Rattle.model.specs.World.{is_from, same_source}
 use Rattle.model.specs.Nodes.{begun}
 use Rattle.model.specs.FailureFree.{new_worker, Worker, Packet, Network, is_between, next_text, without_next, works_on, moved}
-use Rattle.theory.proofs.ListLaws.{eq_same, eq_other, true_lt, set_get_same, set_get_other, append_get, append_get_last, same_some}
+use Rattle.theory.proofs.ListLaws.{eq_same, true_lt, set_get_same, set_get_other, append_get, append_get_last}
 
 -- the texts on their way from one unit to another
 abbrev pub texts_between : ℕ → ℕ → List Packet → List (List ℕ)
@@ -69,7 +69,7 @@ drop_append (suc k) (x ∷ xs) ys h = drop_append k xs ys (omega arith)
 
 drop_at : {X : Type 0} (xs : List X) (k : ℕ) (x : X) → slice_get xs k ≡ Some x → drop k xs ≡ x ∷ drop (suc k) xs
 drop_at [] k x e = cc
-drop_at (y ∷ ys) zero x e = let q = same_some y x e in rw q refl
+drop_at (y ∷ ys) zero x e = let q = same_Some y x e in rw q refl
 drop_at (y ∷ ys) (suc k) x e = drop_at ys k x e
 
 -- all that comes of two lists
@@ -95,7 +95,7 @@ more_here done u x = rw (eq_same u) refl
 
 -- the others have as many as before
 pub more_other : (done : ℕ → List ℕ) (u x v : ℕ) → v ≢ u → one_more done u x v ≡ done v
-more_other done u x v h = rw (eq_other v u h) refl
+more_other done u x v h = rw (ne_eqb v u h) refl
 
 -- The seats of some units; and of each receipt who sent it, its text, its turn, and its sends to units that were there.
 pub record Receipts (S : Type 0) : Type 0 where
@@ -157,7 +157,7 @@ module _ {S : Type 0} (M : Meaning S) (all : Receipts S) where
 
   between_none : (u v' u' : ℕ) → u ≢ v' → (sends : List (ℕ × List ℕ)) → texts_between v' u' (packets_to u sends) ≡ []
   between_none u v' u' h [] = refl
-  between_none u v' u' h (s ∷ sends) = rw (eq_other u v' h) (between_none u v' u' h sends)
+  between_none u v' u' h (s ∷ sends) = rw (ne_eqb u v' h) (between_none u v' u' h sends)
 
   texts_more : (u' : ℕ) (path : List ℕ) (x : ℕ) → texts_to u' (path ++ x ∷ []) ≡ texts_to u' path ++ texts_of u' x
   texts_more u' path x = flat_append (texts_of u') path (x ∷ []) ∙ ap (λ t. texts_to u' path ++ t) (append-nil (texts_of u' x))
@@ -261,7 +261,7 @@ module _ {S : Type 0} (M : Meaning S) (all : Receipts S) where
       taken_one = taken_more v (done u) x (FromUnit v) from ∙ rw (eq_same v) (omega arith)
 
       taken_none : (v' : ℕ) → v' ≢ v → taken_from v' (done u ++ x ∷ []) ≡ taken_from v' (done u)
-      taken_none v' k = taken_more v' (done u) x (FromUnit v) from ∙ rw (eq_other v v' (λ e. k (sym e))) (omega arith)
+      taken_none v' k = taken_more v' (done u) x (FromUnit v) from ∙ rw (ne_eqb v v' (λ e. k (sym e))) (omega arith)
 
   -- a beginning, upon which a unit has done nothing before, changes nothing of the network
   pub begin_step : (units : ℕ) (done : ℕ → List ℕ) (net : Network S) (u x : ℕ) → done u ≡ [] → Matches units done net → source x ≡ None → turn x ≡ begun M (seat u) → sends_of x ≡ []

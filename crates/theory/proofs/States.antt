@@ -9,8 +9,8 @@ use Rattle.model.specs.Handler.{Meaning}
 use Rattle.model.specs.Lists.{from_end}
 use Rattle.model.specs.Nodes.{Cause, began, outside, letter, node_at, begun, turn_at, turn_of, count_to}
 use Rattle.model.specs.World.{World, Member, executed, receipts, receipt_of}
+use Rattle.model.proofs.Places.{get_below}
 use Rattle.theory.specs.Laws.{StatesAreFolds, NumbersAlongPaths}
-use Rattle.theory.proofs.ListLaws.{get_below}
 use Rattle.theory.proofs.Sending.{turns_length}
 use Rattle.theory.proofs.Simulation.{flat_append, fold_append}
 use Rattle.theory.proofs.LettersExact.{letters_sent, take_more, first_before}

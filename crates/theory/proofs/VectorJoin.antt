@@ -1,5 +1,5 @@
 -- How the greatest marks of a node's past are made from those of its parents.
-use Rattle.std.proofs.Common.{◌≡◌, ◌≢◌, inl, inr, refl, sym, ◌∙◌, ap, subst, ℕ, ◌<◌, true, List, length, arith}
+use Rattle.std.proofs.Common.{◌≡◌, ◌≢◌, inl, inr, refl, sym, ◌∙◌, ap, subst, ℕ, ◌<◌, true, List, length, arith, ne_eqb}
 use Rattle.std.specs.Prelude.{Option, Some, None}
 use native.Mathlib.Decide.{ℕ_discrete}
 use Rattle.model.specs.declared.names.Mark.{Mark}
@@ -9,7 +9,7 @@ use Rattle.model.specs.Nodes.{Node, Cause, began, outside, letter, node_at, past
 use Rattle.model.specs.Nodes.DependsOn.{itself}
 use Rattle.model.specs.World.{World, mark_of, greater_mark, greatest_mark, past_nodes, no_mark}
 use Rattle.theory.specs.Laws.{entry_before, entry_of_cause, VectorsJoin}
-use Rattle.theory.proofs.ListLaws.{has_at, at_has, at_map, map_at, eq_same, eq_other, has_append, append_has}
+use Rattle.theory.proofs.ListLaws.{has_at, at_has, at_map, map_at, eq_same, has_append, append_has}
 use Rattle.theory.proofs.Pasts.{Placed, only, first_step, from_parent, depends_le, depends_past, past_depends}
 use Rattle.theory.proofs.Chain.{Chain, chain_law}
 use Rattle.theory.proofs.ChainKept.{line_depends}
@@ -109,5 +109,5 @@ module _ {S : Type 0} (M : Meaning S) where
       let g = reachable_invariant M r in
       elim (ℕ_discrete (node_at w.nodes x).unit u) [
         | yes e ↦ rw (← e, eq_same (node_at w.nodes x).unit) (own_greatest w g.chain g.linked x h)
-        | no k ↦ rw (eq_other (node_at w.nodes x).unit u k) (joined w.nodes g.chain.sound.placed x u h k)
+        | no k ↦ rw (ne_eqb (node_at w.nodes x).unit u k) (joined w.nodes g.chain.sound.placed x u h k)
       ]

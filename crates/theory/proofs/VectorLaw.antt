@@ -8,8 +8,8 @@ use Rattle.model.specs.declared.names.Mark.{Mark}
 use Rattle.model.specs.Handler.{Meaning}
 use Rattle.model.specs.Lists.{numbers_from}
 use Rattle.model.specs.Nodes.{Node, node_at, past, DependsOn}
-use Rattle.model.specs.World.{World, is_told, is_blind, mark_of, greatest_mark, past_nodes, no_mark}
-use Rattle.theory.specs.Laws.{mark_told, mark_lost, any_mark, VectorsTell}
+use Rattle.model.specs.World.{World, is_told, is_blind, mark_of, mark_told, mark_lost, greatest_mark, past_nodes, no_mark}
+use Rattle.theory.specs.Laws.{any_mark, VectorsTell}
 use Rattle.theory.proofs.ListLaws.{bool_cases, or_cases, or_left, or_right, at_has, at_any, any_at, at_map, map_at, eq_true, true_eq, true_lt, true_le, lt_true, le_true, and_both, both_and, get_take, take_get, not_true}
 use Rattle.theory.proofs.Pasts.{depends_le, past_depends}
 use Rattle.theory.proofs.RowLaws.{Told}

@@ -2,6 +2,7 @@
 use Rattle.std.proofs.Common.{◌≡◌, ◌⊎◌, inl, inr, refl, sym, ◌∙◌, ap, subst, ℕ, zero, suc, ◌+◌, ◌-◌, ◌<◌, ◌≤◌, Bool, true, false, cond, List, [], ◌∷◌, length, take, arith, map}
 use Rattle.std.specs.Prelude.{Some, slice_get, ◌==◌}
 use Rattle.std.proofs.lemmas.Bool.Decides.{nat_tests}
+use Rattle.std.proofs.lemmas.Option.{same_Some}
 use Rattle.std.specs.List.{fold, filter}
 use native.Mathlib.Decide.{dec_lt, ℕ_discrete}
 use Rattle.model.specs.declared.names.Row.{Row}
@@ -11,7 +12,7 @@ use Rattle.model.specs.World.{World, is_lost, is_orphan, no_mark, mark_le, mark_
 use Rattle.model.specs.Steps.{next_node, beginning}
 use Rattle.model.specs.declared.names.Mark.{Mark}
 use Rattle.model.specs.Nodes.DependsOn.{itself}
-use Rattle.theory.proofs.ListLaws.{get_take, has_at, at_has, at_any, at_map, map_at, same_some, bool_cases, has_before, eq_true, true_eq}
+use Rattle.theory.proofs.ListLaws.{get_take, has_at, at_has, at_any, at_map, map_at, bool_cases, has_before, eq_true, true_eq}
 use Rattle.theory.proofs.Pasts.{Placed, node_newest, node_older, parent_within, depends_le, past_depends, depends_past}
 use Rattle.theory.proofs.Changes.{Change, new_seat}
 use Rattle.theory.proofs.Changes.Change.{unchanged, receives, flushes, dies, goes_back, learns, releases, joins}
@@ -128,7 +129,7 @@ filter_step a n nodes u = go (n.unit == u)
 pub below_greatest : (nodes : List Node) (a : Mark) (u i : ℕ) (n : Node) → slice_get nodes i ≡ Some n → n.unit ≡ u → MarkLe (mark_of n) (greatest_from a (of_unit u nodes))
 below_greatest [] a u i n e own = cc
 below_greatest (q ∷ nodes) a u zero n e own =
-    let is : q ≡ n = same_some q n e in
+    let is : q ≡ n = same_Some q n e in
     rw (filter_step a q nodes u, is, true_eq n.unit u own) (mark_trans (mark_of n) (greater_mark a (mark_of n)) _ (greater_is a (mark_of n)).0.1 (from_above (greater_mark a (mark_of n)) (of_unit u nodes)))
 below_greatest (q ∷ nodes) a u (suc i) n e own = rw (filter_step a q nodes u) (below_greatest nodes (cond (q.unit == u) (greater_mark a (mark_of q)) a) u i n e own)
 

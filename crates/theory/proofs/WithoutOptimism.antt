@@ -3,7 +3,7 @@ use Rattle.std.proofs.Common.{◌≡◌, ◌⊎◌, inl, inr, refl, sym, ◌∙�
 use Rattle.std.specs.Prelude.{Option, Some, None, slice_get, slice_set, ◌==◌, nat_lt}
 use Rattle.std.specs.List.{list_any, filter, prefix_len}
 use Rattle.std.proofs.lemmas.Bool.Decides.{nat_tests}
-use Rattle.std.proofs.lemmas.Option.{slice_get_within}
+use Rattle.std.proofs.lemmas.Option.{slice_get_within, same_Some}
 use native.Mathlib.Decide.{dec_lt}
 use Rattle.model.specs.declared.replies.Said.{Said}
 use Rattle.model.specs.Handler.{Meaning}
@@ -14,8 +14,9 @@ use Rattle.model.specs.World.{World, Member, is_orphan, is_stable, is_firm, unst
 use Rattle.model.specs.Steps.{at_unit, at_up, with_member, with_receipt, with_unit, gone_back, path_kept, next_node, fresh, beginning, notice, notice_rows, with_place, flushed, killed, back_at, with_known, with_released}
 use Rattle.model.specs.Alone.{step_open, Reachable}
 use Rattle.model.specs.Alone.Reachable.{opened, stepped}
+use Rattle.model.proofs.Places.{get_below}
 use Rattle.theory.specs.Laws.{NoOrphans, NoNoticeAppends}
-use Rattle.theory.proofs.ListLaws.{same_some, bool_cases, has_at, has_append, true_eq, or_left, or_right, get_set, get_append, append_get, append_get_last, get_below, get_take, take_get, single}
+use Rattle.theory.proofs.ListLaws.{bool_cases, has_at, has_append, true_eq, or_left, or_right, get_set, get_append, append_get, append_get_last, get_take, take_get, single}
 use Rattle.theory.proofs.Pasts.{Placed, only, first_step, depends_le, depends_less, past_depends, node_newest}
 use Rattle.theory.proofs.Changes.{Change, MayTake, step_changes, unless_cases, if_unit_cases, new_seat}
 use Rattle.theory.proofs.Changes.Change.{unchanged, receives, flushes, dies, goes_back, learns, releases, joins}
@@ -34,7 +35,7 @@ use Rattle.theory.proofs.HeldCanGo.{not_all}
 
 filter_some : {X : Type 0} (p : X → Bool) (xs : List X) (i : ℕ) (x : X) → slice_get xs i ≡ Some x → p x ≡ true → 1 ≤ length (filter p xs)
 filter_some p [] i x e h = cc
-filter_some p (y ∷ ys) zero x e h = let q : y ≡ x = same_some y x e in rw (q, h) (omega arith)
+filter_some p (y ∷ ys) zero x e h = let q : y ≡ x = same_Some y x e in rw (q, h) (omega arith)
 filter_some p (y ∷ ys) (suc i) x e h = go (p y) (filter_some p ys i x e h)
   where
     go : (b : Bool) → 1 ≤ length (filter p ys) → 1 ≤ length (cond b (y ∷ filter p ys) (filter p ys))
@@ -44,7 +45,7 @@ filter_some p (y ∷ ys) (suc i) x e h = go (p y) (filter_some p ys i x e h)
 -- one that passes both is among those that pass the first
 pub any_filter : {X : Type 0} (p q : X → Bool) (xs : List X) (i : ℕ) (x : X) → slice_get xs i ≡ Some x → p x ≡ true → q x ≡ true → list_any q (filter p xs) ≡ true
 any_filter p q [] i x e h k = cc
-any_filter p q (y ∷ ys) zero x e h k = let s : y ≡ x = same_some y x e in rw (s, h) (or_left (q x) (list_any q (filter p ys)) k)
+any_filter p q (y ∷ ys) zero x e h k = let s : y ≡ x = same_Some y x e in rw (s, h) (or_left (q x) (list_any q (filter p ys)) k)
 any_filter p q (y ∷ ys) (suc i) x e h k = go (p y) (any_filter p q ys i x e h k)
   where
     go : (b : Bool) → list_any q (filter p ys) ≡ true → list_any q (cond b (y ∷ filter p ys) (filter p ys)) ≡ true
@@ -263,7 +264,7 @@ module _ {S : Type 0} (M : Meaning S) where
           | inl q ↦ ap (λ y. y.table) (sym q)
           | inr q ↦
               let k : (notice_rows w u h.0).world ≡ Some z = (let t = rw no at q.1 in t) in
-              ap (λ y. y.table) (sym (same_some _ z k))
+              ap (λ y. y.table) (sym (same_Some _ z k))
         ]
   ]
 

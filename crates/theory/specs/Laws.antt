@@ -1,14 +1,13 @@
 -- The laws of one tenant, each of every world that it can come to.
-use Rattle.std.specs.Prelude.{◌≡◌, ◌≢◌, ◌⊎◌, ℕ, ◌-◌, ◌<◌, ◌≤◌, Bool, true, false, cond, not, ◌||◌, ◌&&◌, ◌==◌, nat_lt, nat_le, take, List, [], ◌∷◌, ◌++◌, length, Option, Some, None, slice_get}
+use Rattle.std.specs.Prelude.{◌≡◌, ◌≢◌, ◌⊎◌, ℕ, ◌-◌, ◌<◌, ◌≤◌, Bool, true, false, cond, not, ◌||◌, ◌&&◌, ◌==◌, nat_lt, take, List, [], ◌∷◌, ◌++◌, length, Option, Some, None, slice_get}
 use Rattle.std.specs.List.{take_while, flat_map, list_any, filter, fold}
-use Rattle.model.specs.declared.names.Row.{Row}
 use Rattle.model.specs.declared.names.Mark.{Mark}
 use Rattle.model.specs.Records.{vector_of}
 use mathlib.Core.List.{IsPrefix}
 use Rattle.model.specs.Handler.{Meaning}
 use Rattle.model.specs.Lists.{has, from_end}
 use Rattle.model.specs.Nodes.{Node, Cause, began, outside, letter, begun, node_at, line, past, turn_at, count_along}
-use Rattle.model.specs.World.{World, Member, executed, is_firm, is_stable, is_lost, is_blind, is_orphan, incarnation_of, held, mark_of, greater_mark, greatest_mark, no_mark, past_nodes, receipts}
+use Rattle.model.specs.World.{World, Member, executed, is_firm, is_stable, is_lost, is_blind, is_orphan, incarnation_of, held, mark_of, mark_told, mark_lost, greater_mark, greatest_mark, no_mark, past_nodes, receipts}
 use Rattle.model.specs.FailureFree.{CertificateHolds}
 use Rattle.model.specs.declared.steps.TenantStep.TheVariants.{Open, Join, Post, Deliver, Flush, Checkpoint, Kill, Restart, Notice, Release, Status}
 use Rattle.model.specs.declared.steps.TenantStep.{TenantStep}
@@ -79,14 +78,6 @@ HeldCanGo M = (v w : World) (e : Event) (u : ℕ) (m : Member) → Reachable M v
     → (n : Member) → slice_get w.members u ≡ Some n → (x : ℕ) (text : List ℕ) (rest : List (ℕ × List ℕ)) → held M w n ≡ (x, text) ∷ rest → CanGo M w u x
 
 -- ---- vectors
-
--- the rows tell of the incarnation of this mark of the unit
-abbrev pub mark_told : List Row → ℕ → Mark → Bool
-mark_told rows u g = (g.incarnation == 0) || list_any (λ r. (r.unit == u) && (r.incarnation == g.incarnation)) rows
-
--- the rows lose what the unit did at this mark
-abbrev pub mark_lost : List Row → ℕ → Mark → Bool
-mark_lost rows u g = list_any (λ r. (r.unit == u) && (nat_lt g.incarnation r.incarnation && nat_le r.start g.index)) rows
 
 -- some mark passes, where the marks are of the units from u on
 abbrev pub any_mark : (ℕ → Mark → Bool) → ℕ → List Mark → Bool

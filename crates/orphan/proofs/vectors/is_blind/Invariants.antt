@@ -1,5 +1,6 @@
 use Rattle.std.proofs.Common.{◌≡◌, drop, take, not}
-use Rattle.theory.specs.Laws.{mark_told, any_mark}
+use Rattle.model.specs.World.{mark_told}
+use Rattle.theory.specs.Laws.{any_mark}
 use Rattle.orphan.specs.Tests.{is_blind_by}
 use Rattle.orphan.proofs.vectors.is_blind.Given as goal
 

@@ -1,5 +1,6 @@
 use Rattle.std.proofs.Common.{◌≡◌, drop, take}
-use Rattle.theory.specs.Laws.{mark_lost, any_mark}
+use Rattle.model.specs.World.{mark_lost}
+use Rattle.theory.specs.Laws.{any_mark}
 use Rattle.orphan.specs.Tests.{is_orphan_by}
 use Rattle.orphan.proofs.vectors.is_orphan.Given as goal
 
