@@ -60,3 +60,8 @@ reply_by f Logger r = []
 abbrev pub replies_by : ℕ → List Entry → List Reply
 replies_by f [] = []
 replies_by f (e ∷ es) = reply_by f e.who e.reply ++ replies_by f es
+
+-- for each of n feeds a list of receipts: the replies to its steps, in order
+pub record HasReceipts (n : ℕ) (receipts : List (List Reply)) (history : List Entry) : Type 0 where
+  pub lists : length receipts ≡ n
+  pub by_feed : (f : ℕ) → f < length receipts → replies_by f history ≡ slice_index_or receipts f []

@@ -61,7 +61,7 @@ fn replies_in(alloc: Global, history: &[Entry], feed: u32) -> Result<Vec<Reply>,
 }
 
 /// Whether the feed gave it.
-fn is_by(who: Who, feed: u32) -> bool
+pub(crate) fn is_by(who: Who, feed: u32) -> bool
     ensures { (r : ReplyOf) → reply_by feed who r ≡ cond result (r ∷ []) [] }
 {
     match who {

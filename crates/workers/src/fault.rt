@@ -14,7 +14,8 @@ pub enum RunFault {
     /// A thread could not be started.
     #[error("no thread")]
     NoThread,
-    /// The history does not have each feed's steps as the feed has them.
+    /// The history does not have each feed's steps as the feed has them, or its replies to them are
+    /// not the receipts that the feed's thread kept.
     #[error("the history is not that of the feeds")]
     Unmatched,
 }

@@ -62,8 +62,9 @@ fn is_forgone(reply: &Reply) -> bool {
 }
 
 impl<'a, H: Handler, S: Store, G: Gate> Job<'a, H, S, G> {
-    /// Does the steps of the feed in order.
-    pub(crate) fn run<R: Wait>(self, rt: &R) -> Result<(), NoMemory> {
+    /// Does the steps of the feed in order, and gives the reply to each as its receipt.
+    pub(crate) fn run<R: Wait>(self, rt: &R) -> Result<Vec<Reply>, NoMemory> {
+        let mut receipts = Vec::new(self.alloc);
         let mut at = 0u32;
         for step in self.steps {
             let (reply, asked) = self.do_step(rt, at, step)?;
@@ -72,9 +73,10 @@ impl<'a, H: Handler, S: Store, G: Gate> Job<'a, H, S, G> {
                 return Err(NoMemory);
             }
             self.nudge(rt, step, &reply, asked);
+            receipts.push(reply)?;
             at = at.wrapping_add(1);
         }
-        Ok(())
+        Ok(receipts)
     }
 
     /// Does one step, and tells whose turn was asked for last, if one was. Each lock ends with its

@@ -1,10 +1,11 @@
-//! Comparing a history with the feeds.
+//! Comparing a history with the feeds and with the receipts that their threads kept.
 
 ghost use Rattle.std.specs.Prelude.{◌≡◌, ℕ, ◌<◌, ◌≤◌, ◌^◌, ◌++◌, [], IfSome, IsTrue, drop, length, map, slice_index_or};
-ghost use Rattle.workers.specs.Interleaves.{AllExpected, Interleaves, IsExpected, numbered, step_by, steps_by};
+ghost use Rattle.workers.specs.Interleaves.{AllExpected, HasReceipts, Interleaves, IsExpected, numbered, replies_by, reply_by, step_by, steps_by};
 
-use crate::same::same_step;
-use model::{Entry, Step, Who};
+use crate::closed::is_by;
+use crate::same::{same_reply, same_step};
+use model::{Entry, Reply, Step, Who};
 
 /// The number of the feed's next step after an entry, if the entry is not the feed's, or is its
 /// next step.
@@ -87,4 +88,56 @@ pub(crate) fn is_matched(history: &[Entry], feeds: &[Vec<Step>]) -> bool
     ensures { IsTrue result → Interleaves (map (λ v. v.items) feeds.now) history.now }
 {
     all_feeds(history, feeds) && all_expected(history, feeds.len())
+}
+
+/// The number of the feed's next receipt after an entry, if the entry is not the feed's, or its
+/// reply is the next receipt.
+fn after_reply(entry: &Entry, feed: u32, next: usize, receipts: &[Reply]) -> Option<usize>
+    requires { next ≤ length receipts.now }
+    ensures within { IfSome result (λ n. n ≤ length receipts.now) }
+    ensures rest { IfSome result (λ n. reply_by feed entry.now.who entry.now.reply ++ drop n receipts.now ≡ drop next receipts.now) }
+{
+    if !is_by(entry.who, feed) {
+        return Some(next);
+    }
+    if next < receipts.len() && same_reply(&entry.reply, &receipts[next]) {
+        Some(1 + next)
+    } else {
+        None
+    }
+}
+
+/// Whether the replies to the feed's steps are its receipts, in order.
+fn has_receipts(history: &[Entry], feed: u32, receipts: &[Reply]) -> bool
+    ensures { IsTrue result → replies_by feed history.now ≡ receipts.now }
+{
+    let mut next = 0usize;
+    for entry in history {
+        let Some(after) = after_reply(entry, feed, next, receipts) else {
+            return false;
+        };
+        next = after;
+    }
+    next == receipts.len()
+}
+
+/// Whether the replies to each feed's steps are its receipts, in order.
+fn all_receipts(history: &[Entry], receipts: &[Vec<Reply>]) -> bool
+    requires { length receipts.now < 2 ^ 32 }
+    ensures { IsTrue result → ((f : ℕ) → f < length receipts.now → replies_by f history.now ≡ slice_index_or (map (λ v. v.items) receipts.now) f []) }
+{
+    for feed in 0..receipts.len() {
+        if !has_receipts(history, feed as u32, receipts[feed].as_slice()) {
+            return false;
+        }
+    }
+    true
+}
+
+/// Whether there are receipts of so many feeds, and those of each are the replies to its steps.
+pub(crate) fn has_all_receipts(history: &[Entry], feeds: usize, receipts: &[Vec<Reply>]) -> bool
+    requires { feeds < 2 ^ 32 }
+    ensures { IsTrue result → HasReceipts feeds (map (λ v. v.items) receipts.now) history.now }
+{
+    receipts.len() == feeds && all_receipts(history, receipts)
 }

@@ -4,24 +4,24 @@ ghost use Rattle.std.specs.Prelude.{◌≡◌, ◌<◌, ◌^◌, [], IfOk, lengt
 ghost use denote.Param.Send.{IsSend};
 ghost use Rattle.book.specs.History.{IsRecorded};
 ghost use Rattle.model.specs.History.{IsLegal};
-ghost use Rattle.workers.specs.Interleaves.{Interleaves};
+ghost use Rattle.workers.specs.Interleaves.{HasReceipts, Interleaves};
 
 use crate::closed::Closed;
 use crate::fault::RunFault;
 use crate::gate::Gate;
 use crate::job::{Job, Nudge, log_named};
-use crate::matched::is_matched;
+use crate::matched::{has_all_receipts, is_matched};
 use book::Book;
 use crossbeam_channel::Sender;
 use handler::Handler;
-use model::{NoMemory, Step};
+use model::{NoMemory, Reply, Step};
 use stable_log::Store;
 use std::alloc::Global;
 use std::sync::{Mutex, Wait};
 use std::thread;
 use std::thread::{JoinHandle, Scope, Threads};
 
-type Started = JoinHandle<Result<(), NoMemory>>;
+type Started = JoinHandle<Result<Vec<Reply>, NoMemory>>;
 
 /// Starts the thread of a feed.
 fn start<
@@ -80,15 +80,23 @@ fn start_all<
     Ok(threads)
 }
 
-/// Waits for the threads.
-fn join_all<R: Threads + Wait>(rt: &R, threads: Vec<Started>) -> Result<(), RunFault> {
+/// Waits for the threads, and gives the receipts of each.
+fn join_all<R: Threads + Wait>(
+    rt: &R,
+    alloc: Global,
+    threads: Vec<Started>,
+) -> Result<Vec<Vec<Reply>>, RunFault> {
+    let mut receipts = Vec::new(alloc);
     for started in threads {
-        started.join(rt)?;
+        if receipts.reserve(1).is_err() {
+            return Err(RunFault::NoMemory);
+        }
+        receipts.push_reserved(started.join(rt)?);
     }
-    Ok(())
+    Ok(receipts)
 }
 
-/// Runs each feed in a thread of its own, beside one logger.
+/// Runs each feed in a thread of its own, beside one logger, and gives the receipts of each.
 fn do_all<
     R: Threads + Wait + Sync,
     H: Handler + Copy + Send + Sync,
@@ -101,11 +109,11 @@ fn do_all<
     shared: &Mutex<Book<H, S>>,
     feeds: &[Vec<Step>],
     gate: &G,
-) -> Result<(), RunFault> {
+) -> Result<Vec<Vec<Reply>>, RunFault> {
     thread::scope(
         thread::scope_env(),
         rt,
-        |scope| -> Result<(), RunFault>
+        |scope| -> Result<Vec<Vec<Reply>>, RunFault>
             requires { IsSend S.row × IsSend H.State.row }
         {
             let Ok((to, from)) = crossbeam_channel::unbounded(alloc) else {
@@ -115,25 +123,29 @@ fn do_all<
                 return Err(RunFault::NoThread);
             };
             let threads = start_all(rt, scope, alloc, handler, shared, feeds, gate, to)?;
-            join_all(rt, threads)?;
+            let receipts = join_all(rt, alloc, threads)?;
             logger.join(rt);
-            Ok(())
+            Ok(receipts)
         },
     )
 }
 
-/// Closes a book whose history is that of the feeds.
+/// Closes a book whose history is that of the feeds, and has the replies that their threads kept as
+/// receipts.
 fn gather<H: Handler, S: Store>(
     book: Book<H, S>,
     feeds: &[Vec<Step>],
+    receipts: &[Vec<Reply>],
 ) -> Result<Closed<H, S>, RunFault>
     requires { length feeds.now < 2 ^ 32 }
     ensures interleaves { IfOk result (λ c. Interleaves (map (λ f. f.items) feeds.now) c.history) }
     ensures legal { IfOk result (λ c. IsLegal H.meaning c.history) }
     ensures recorded { IfOk result (λ c. IsRecorded H.meaning c.history c.log.records) }
     ensures same { IfOk result (λ c. c ≡ book) }
+    ensures received { IfOk result (λ c. HasReceipts (length feeds.now) (map (λ r. r.items) receipts.now) c.history) }
 {
-    if is_matched(book.history(), feeds) {
+    let history = book.history();
+    if is_matched(history, feeds) && has_all_receipts(history, feeds.len(), receipts) {
         Ok(Closed::new(book))
     } else {
         Err(RunFault::Unmatched)
@@ -146,12 +158,13 @@ fn gather<H: Handler, S: Store>(
 /// A feed's steps are done in order. The input of a step's turn is prepared under the lock, the
 /// turn is worked outside it, and the step is committed if it still needs that turn. Where it needs
 /// none, or was given back three times, it is done under the lock. After each accepted receipt whose
-/// turn was asked for the logger is nudged, and flushes that unit.
+/// turn was asked for the logger is nudged, and flushes that unit. The thread keeps the reply to each
+/// step, and at the end these receipts are compared with the history's replies to the feed.
 ///
 /// On `Ok` the history is legal, holds each step of each feed once, in its feed's order, and between
 /// them flushes by the logger alone. `NoMemory` comes where there was none for a list, or for a step
 /// of a feed; `NoThread` where a thread can't be started; `Unmatched` where the history isn't that
-/// of the feeds. There is no book then.
+/// of the feeds, or a receipt isn't in it as its feed has it. There is no book then.
 pub fn run_feeds<
     R: Threads + Wait + Sync,
     H: Handler + Copy + Send + Sync,
@@ -172,6 +185,6 @@ pub fn run_feeds<
     ensures recorded { IfOk result (λ c. IsRecorded H.meaning c.history c.log.records) }
 {
     let shared = Mutex::new(Book::new(alloc, handler, store));
-    do_all(rt, alloc, handler, &shared, feeds.as_slice(), gate)?;
-    gather(shared.into_inner(), feeds.as_slice())
+    let receipts = do_all(rt, alloc, handler, &shared, feeds.as_slice(), gate)?;
+    gather(shared.into_inner(), feeds.as_slice(), receipts.as_slice())
 }
