@@ -26,7 +26,7 @@ needed M history step = needs_at M (world_of M (addressed step).0 history) (addr
 -- nothing was changed
 pub record IsUntouched (before after : Ledger) : Type 0 where
   pub history : after.history ≡ before.history
-  pub records : after.log.records ≡ before.log.records
+  pub log : after.log ≡ before.log
 
 -- The step is given back, with nothing changed, only where it now needs a turn of another input. It is entered only where it does not, or there was no memory for it.
 abbrev pub Commits : {S : Type 0} → Meaning S → Ledger → Who → Step → Input S → Committed → Ledger → Type 0

@@ -207,7 +207,7 @@ fn answer_open_with<H: Handler, S: Store>(
     ensures unopened { IfOk result (λ o. IfSome o (λ a. (w : Option World) → StandsAt H.meaning name.now (Some tenant.old) w log.old.records → opened_by name.now step a.reply ≡ [])) }
     ensures others_stand { KeepsOthers H.meaning name.now log.old.records log.new.records }
     ensures stale { IfOk result (λ o. IfNone o (tenant.new ≡ tenant.old)) }
-    ensures stale_log { IfOk result (λ o. IfNone o (log.new.records ≡ log.old.records)) }
+    ensures stale_log { IfOk result (λ o. IfNone o (log.new ≡ log.old)) }
     ensures err { OnErr result (tenant.new ≡ tenant.old) }
     ensures err_log { OnErr result (log.new.records ≡ log.old.records) }
 {
@@ -228,6 +228,7 @@ pub(crate) fn answer_with<H: Handler, S: Store>(
     ensures kept { IfOk result (λ o. IfSome o (λ a. a.kept ≡ a.reply)) }
     ensures answered { IfOk result (λ o. IfSome o (λ a. IsAnswered H.meaning step.now a.said a.reply (holding tenants.old log.old) (holding tenants.new log.new))) }
     ensures stale { IfOk result (λ o. IfNone o (IsKept (holding tenants.old log.old) (holding tenants.new log.new))) }
+    ensures stale_log { IfOk result (λ o. IfNone o (log.new ≡ log.old)) }
     ensures err { OnErr result (IsKept (holding tenants.old log.old) (holding tenants.new log.new)) }
 {
     let own_step = step.tenant_step(alloc)?;

@@ -1,6 +1,6 @@
 -- What the calls on a shelf give.
-use Rattle.std.specs.Prelude.{◌≡◌, ◌⊎◌, ℕ, ◌+◌, ◌<◌, ◌≤◌, Bool, false, cond, ◌||◌, ◌==◌, nat_lt, nat_le, List, [], ◌∷◌, ◌++◌, length, drop, Option, Some, None, option_and_then, slice_get}
-use Rattle.std.specs.List.{fold, list_any, position_or_len, remove, take_while}
+use Rattle.std.specs.Prelude.{◌≡◌, ◌⊎◌, ℕ, ◌+◌, ◌<◌, ◌≤◌, Bool, true, false, cond, ◌&&◌, ◌||◌, ◌==◌, nat_lt, nat_le, List, [], ◌∷◌, ◌++◌, length, drop, Option, Some, None, option_and_then, slice_get}
+use Rattle.std.specs.List.{fold, list_all, list_any, position_or_len, remove, take_while}
 use Rattle.std.specs.Option.{option_map_or}
 use Rattle.checkpoint.specs.declared.snapshot.Snapshot.{Snapshot}
 
@@ -21,6 +21,13 @@ IsShelved s x = (s.base ≡ Some x) ⊎ ((i : ℕ) × (slice_get s.others i ≡ 
 -- no snapshot is above the index
 abbrev pub IsTop : {S : Type 0} → Shelved S → ℕ → Type 0
 IsTop s index = (x : _) → IsShelved s x → x.index ≤ index
+
+abbrev pub is_within : {S : Type 0} → ℕ → Snapshot S → Bool
+is_within index x = nat_le x.index index
+
+-- whether no snapshot is above the index
+abbrev pub tops : {S : Type 0} → Shelved S → ℕ → Bool
+tops s index = option_map_or (is_within index) s.base true && list_all (is_within index) s.others
 
 abbrev pub is_at : {S : Type 0} → ℕ → Snapshot S → Bool
 is_at index x = x.index == index

@@ -1,9 +1,9 @@
 //! The shelf and its calls.
 
-ghost use Rattle.std.specs.Prelude.{◌≡◌, ◌≤◌, [], ◌∷◌, ◌++◌, None, IfOk, IsTrue, OnErr, MatchOption, Some, ◌+◌, ◌<◌, drop, false, nat_lt, slice_get, length};
-ghost use Rattle.std.specs.List.{list_any, position_or_len, prefix_len};
+ghost use Rattle.std.specs.Prelude.{◌≡◌, ◌≤◌, [], ◌∷◌, ◌++◌, None, IfOk, IsTrue, OnErr, MatchOption, Some, ◌+◌, ◌<◌, drop, false, true, nat_lt, slice_get, length};
+ghost use Rattle.std.specs.List.{list_all, list_any, position_or_len, prefix_len};
 ghost use Rattle.std.specs.Option.{option_copied, option_map_or};
-ghost use Rattle.checkpoint.specs.Shelves.{based_at, cut_at, has_index, is_at, later_of as later_by, nearest_of, put_on, with_room, AllAbove, IsNearest, IsTop, Rises};
+ghost use Rattle.checkpoint.specs.Shelves.{based_at, cut_at, has_index, is_at, is_within, later_of as later_by, nearest_of, put_on, tops, with_room, AllAbove, IsNearest, IsTop, Rises};
 
 use crate::snapshot::Snapshot;
 use ident::{MAX_CHECKPOINTS, NoMemory};
@@ -51,6 +51,14 @@ impl<S: Drop> Shelf<S> {
         ensures { result ≡ has_index self.now index }
     {
         is_base_at(&self.base, index) || is_some_at(self.others.as_slice(), index)
+    }
+
+    /// Whether no snapshot is above the index.
+    pub fn is_top(&self, index: u32) -> bool
+        ensures exact { result ≡ tops self.now index }
+        ensures top { IsTrue result → IsTop self.now index }
+    {
+        is_top_of(&self.base, self.others.as_slice(), index)
     }
 
     /// Shelves a snapshot, which no other is above. One at an index that is shelved leaves the shelf
@@ -137,6 +145,27 @@ fn take_at<S: Drop>(others: &mut Vec<Snapshot<S>>, at: usize) -> Snapshot<S>
         let _ = others.remove(0);
     }
     others.remove(0)
+}
+
+fn is_top_of<S>(base: &Option<Snapshot<S>>, others: &[Snapshot<S>], index: u32) -> bool
+    ensures { result ≡ tops (record { base = base.now; others = others.now }) index }
+{
+    is_base_within(base, index) && are_within(others, index)
+}
+
+fn is_base_within<S>(base: &Option<Snapshot<S>>, index: u32) -> bool
+    ensures { result ≡ option_map_or (is_within index) base.now true }
+{
+    match base {
+        Some(base) => base.index <= index,
+        None => true,
+    }
+}
+
+fn are_within<S>(others: &[Snapshot<S>], index: u32) -> bool
+    ensures { result ≡ list_all (is_within index) others.now }
+{
+    others.iter().all(|x| x.index <= index)
 }
 
 fn is_base_at<S>(base: &Option<Snapshot<S>>, index: u32) -> bool

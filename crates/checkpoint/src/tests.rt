@@ -10,6 +10,7 @@ fn finds_the_nearest_snapshot(rt: HostRuntime) -> Result<(), Fail> {
     })?;
     assert_eq!(rt; shelf.len(), 1);
     assert!(rt; shelf.has(5) && !shelf.has(6));
+    assert!(rt; shelf.is_top(5) && !shelf.is_top(4));
     assert_eq!(rt; shelf.nearest(9).map(|x| x.state), Some(50));
     assert!(rt; shelf.nearest(4).is_none());
     shelf.cut(5);

@@ -1,65 +1,141 @@
-//! Rows over a store that fails one append.
+//! Rows over a store that fails.
+//!
+//! A row tells which calls of the store fail by lines at its head, `append N fails` and `fetch N
+//! fails`, with numbers from 0. All other lines are steps.
 
 use crate::answers::{answer, push_reply};
 use book::Book;
 use handler::Sample;
 use model::{Refusal, Reply};
-use stable_log::MemoryStore;
 use std::alloc::Global;
 use stores::FuseStore;
 
-/// How many records a new book logs for these lines.
-fn logged(alloc: Global, lines: &str) -> anyhow::Result<u64> {
-    let mut book = Book::new(alloc, Sample, MemoryStore::new(alloc));
+type Books = Book<Sample, FuseStore>;
+
+/// At how many places a row is made to fail at most.
+const PLACES: u64 = 1000;
+
+/// The number in a line between these words.
+fn number_in(line: &str, first: &str) -> Option<u64> {
+    let number = line.strip_prefix(first)?.strip_suffix(" fails")?;
+    number.parse::<u64>().ok()
+}
+
+/// The numbers in those lines that have one.
+fn numbers_in(alloc: Global, lines: &str, first: &str) -> anyhow::Result<Vec<u64>> {
+    let mut numbers = Vec::new(alloc);
     for line in lines.lines() {
-        answer(alloc, &mut book, line)?;
+        if let Some(number) = number_in(line, first) {
+            numbers.push(number)?;
+        }
     }
-    let mut count = 0u64;
-    for entry in book.history() {
-        count = count.saturating_add(entry.said.appended);
-    }
-    Ok(count)
+    Ok(numbers)
 }
 
-/// The reply to a line. A flush that the store stopped is given again, and counts what both logged.
-fn answer_again(
-    alloc: Global,
-    book: &mut Book<Sample, FuseStore>,
-    line: &str,
-) -> anyhow::Result<Reply> {
-    let first = answer(alloc, book, line)?;
-    let Reply::Stopped {
-        count,
-        refusal: Refusal::Store,
-    } = first
-    else {
-        return Ok(first);
-    };
-    match answer(alloc, book, line)? {
-        Reply::Flushed { count: rest } => Ok(Reply::Flushed {
-            count: count.saturating_add(rest),
-        }),
-        other => Ok(other),
-    }
+fn is_step(line: &str) -> bool {
+    number_in(line, "append ").is_none() && number_in(line, "fetch ").is_none()
 }
 
-/// The replies of a new book over a store that fails the append of this number (from 0).
-fn failed_at(alloc: Global, lines: &str, number: u64) -> anyhow::Result<String> {
-    let store = FuseStore::new(alloc, [number].to_vec(alloc)?, Vec::new(alloc));
-    let mut book = Book::new(alloc, Sample, store);
+/// The replies of a new book over a store that fails as the row tells.
+pub(crate) fn failed(alloc: Global, lines: &str) -> anyhow::Result<String> {
+    let appends = numbers_in(alloc, lines, "append ")?;
+    let fetches = numbers_in(alloc, lines, "fetch ")?;
+    let mut book: Books = Book::new(alloc, Sample, FuseStore::new(alloc, appends, fetches));
     let mut text = String::new(alloc);
     for line in lines.lines() {
-        push_reply(alloc, &mut text, &answer_again(alloc, &mut book, line)?)?;
+        if is_step(line) {
+            push_reply(alloc, &mut text, &answer(alloc, &mut book, line)?)?;
+        }
     }
     Ok(text)
 }
 
-/// Whether each append fails in turn with the replies all the same.
-pub(crate) fn survives_each(alloc: Global, lines: &str, replies: &str) -> anyhow::Result<bool> {
-    for number in 0..logged(alloc, lines)? {
-        if failed_at(alloc, lines, number)?.as_str() != replies {
+/// What a row came to where the step that the store refused was given again.
+#[derive(Drop)]
+struct Again {
+    replies: String,
+    refused: bool,
+}
+
+impl Again {
+    /// Adds the reply to a line. A flush that the store stopped counts what both times logged.
+    fn add(&mut self, alloc: Global, book: &mut Books, line: &str) -> anyhow::Result<()> {
+        let first = answer(alloc, book, line)?;
+        let reply = match first {
+            Reply::Stopped {
+                count,
+                refusal: Refusal::Store,
+            } => {
+                self.refused = true;
+                with_more(answer(alloc, book, line)?, count)
+            }
+            Reply::Refused {
+                refusal: Refusal::Store,
+            } => {
+                self.refused = true;
+                answer(alloc, book, line)?
+            }
+            other => other,
+        };
+        push_reply(alloc, &mut self.replies, &reply)
+    }
+}
+
+/// The reply to a flush, with so many more records.
+fn with_more(reply: Reply, more: u64) -> Reply {
+    match reply {
+        Reply::Flushed { count } => Reply::Flushed {
+            count: count.saturating_add(more),
+        },
+        other => other,
+    }
+}
+
+/// What the steps come to over a store that fails the appends and the fetches of these numbers.
+fn given_again(
+    alloc: Global,
+    lines: &str,
+    appends: Vec<u64>,
+    fetches: Vec<u64>,
+) -> anyhow::Result<Again> {
+    let mut book: Books = Book::new(alloc, Sample, FuseStore::new(alloc, appends, fetches));
+    let mut all = Again {
+        replies: String::new(alloc),
+        refused: false,
+    };
+    for line in lines.lines() {
+        all.add(alloc, &mut book, line)?;
+    }
+    Ok(all)
+}
+
+/// What the steps come to over a store that fails one append or one fetch, of this number.
+fn failing_once(alloc: Global, lines: &str, is_append: bool, number: u64) -> anyhow::Result<Again> {
+    let one = [number].to_vec(alloc)?;
+    let none = Vec::new(alloc);
+    if is_append {
+        given_again(alloc, lines, one, none)
+    } else {
+        given_again(alloc, lines, none, one)
+    }
+}
+
+/// Whether each append, or each fetch, fails in turn with the replies all the same, up to the first
+/// that the row doesn't come to.
+fn survives(alloc: Global, lines: &str, replies: &str, is_append: bool) -> anyhow::Result<bool> {
+    for number in 0..PLACES {
+        let all = failing_once(alloc, lines, is_append, number)?;
+        if all.replies.as_str() != replies {
             return Ok(false);
         }
+        if !all.refused {
+            return Ok(true);
+        }
     }
-    Ok(true)
+    Ok(false)
+}
+
+/// Whether each append and each fetch fails in turn with the replies all the same.
+pub(crate) fn survives_each(alloc: Global, lines: &str, replies: &str) -> anyhow::Result<bool> {
+    Ok(survives(alloc, lines, replies, true)? && survives(alloc, lines, replies, false)?)
 }

@@ -3,9 +3,10 @@
 //! For each name on standard input, the step lines of `NAME.steps` go to a new book, and the reply
 //! lines must be those of `NAME.replies`, which were written down from the rules, not taken from
 //! the program. They must be the same where a busy tenant does its steps before each of the lines,
-//! and where the store fails any one append and the flush that it stopped is given again.
+//! and where the store fails any one append or fetch and the step that it refused is given again.
 //!
-//! For a name that begins with `turns-` the lines also tell which turns are worked beside the book.
+//! For a name that begins with `turns-` the lines also tell which turns are worked beside the book,
+//! and for one that begins with `fails-` which calls of the store fail.
 #![tactic(auto)]
 
 mod answers;
@@ -17,7 +18,7 @@ mod turned;
 
 use beside::{every, with_noise};
 use book::Book;
-use failing::survives_each;
+use failing::{failed, survives_each};
 use handler::Sample;
 use lines::{Counted, serve};
 use stable_log::MemoryStore;
@@ -46,6 +47,13 @@ fn verdict(rt: &HostRuntime, name: &str) -> anyhow::Result<&'static str> {
             "the replies by turns that were worked beside the book differ"
         });
     }
+    if name.starts_with("fails-") {
+        return Ok(if failed(alloc, steps.as_str())?.as_str() == replies.as_str() {
+            "the replies are as they must be over a store that fails"
+        } else {
+            "the replies over a store that fails differ"
+        });
+    }
     let alone = served(alloc, steps.as_bytes())?;
     if alone.as_slice() != replies.as_bytes() {
         return Ok("the replies differ from those that they must be");
@@ -56,9 +64,11 @@ fn verdict(rt: &HostRuntime, name: &str) -> anyhow::Result<&'static str> {
         return Ok("the replies differ beside a busy tenant");
     }
     if !survives_each(alloc, steps.as_str(), replies.as_str())? {
-        return Ok("the replies differ where an append fails");
+        return Ok("the replies differ where an append or a fetch fails");
     }
-    Ok("the replies are as they must be, alone, beside a busy tenant and where any append fails")
+    Ok(
+        "the replies are as they must be, alone, beside a busy tenant and where any append or fetch fails",
+    )
 }
 
 /// The reply lines of a new book to these step lines.

@@ -1,5 +1,5 @@
 use crate::served;
-use audit::check;
+use audit::{Verdict, check};
 use auditor::can_check;
 use book::Book;
 use handler::Sample;
@@ -168,15 +168,15 @@ fn certificates_hold_what_is_firm(rt: HostRuntime) -> Result<(), Fail> {
     Ok(())
 }
 
-/// Whether the audit, where there is a list for each unit, tells this flaw, or none.
+/// Whether the audit, where there is a list for each unit, tells this.
 fn tells(
     alloc: Global,
     seats: &[Seat],
     moves: &[Move],
     released: &[Texts],
-    want: Option<Flaw>,
+    want: Result<Verdict, Flaw>,
 ) -> bool {
-    can_check(seats, moves, released) && check(alloc, &Sample, seats, moves, released).err() == want
+    can_check(seats, moves, released) && check(alloc, &Sample, seats, moves, released) == want
 }
 
 /// No output of unit 0, and one of unit 1.
@@ -201,12 +201,12 @@ fn certified(alloc: Global, steps: &str) -> Result<(Vec<Seat>, Vec<Move>), Fail>
     Ok((seats, moves))
 }
 
-fn outputs_differ() -> Option<Flaw> {
-    Some(Flaw::OutputsDiffer(Unit::new(1)))
+fn outputs_differ() -> Result<Verdict, Flaw> {
+    Err(Flaw::OutputsDiffer(Unit::new(1)))
 }
 
-fn nothing_to_receive() -> Option<Flaw> {
-    Some(Flaw::NothingToReceive(Unit::new(1)))
+fn nothing_to_receive() -> Result<Verdict, Flaw> {
+    Err(Flaw::NothingToReceive(Unit::new(1)))
 }
 
 #[test]
@@ -219,7 +219,15 @@ fn tampering_is_found(rt: HostRuntime) -> Result<(), Fail> {
     let first = moves.get(..1).unwrap_or(&[]);
     let rest = moves.get(1..).unwrap_or(&[]);
     let one_seat = seats.get(..1).unwrap_or(&[]);
-    assert!(rt; tells(alloc, seats, moves, released.as_slice(), None));
+    assert!(rt;
+        tells(
+            alloc,
+            seats,
+            moves,
+            released.as_slice(),
+            Ok(Verdict { moves: 2 })
+        )
+    );
     assert!(rt; tells(alloc, seats, moves, lost.as_slice(), outputs_differ()));
     assert!(rt; tells(alloc, seats, first, released.as_slice(), outputs_differ()));
     assert!(rt;

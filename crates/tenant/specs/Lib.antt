@@ -5,3 +5,4 @@ pub mod Receipts
 pub mod Needs
 pub mod Joins
 pub mod Stands
+pub mod Returns

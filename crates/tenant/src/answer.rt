@@ -2,6 +2,8 @@
 
 ghost use Rattle.std.specs.Prelude.{◌≡◌, IfOk, IsOk};
 ghost use Rattle.tenant.specs.Outcomes.{IsPlain, quiet as quiet_said};
+ghost use Rattle.tenant.specs.Returns.{failing};
+ghost use Rattle.model.specs.declared.refusals.Refusal.TheVariants.{Store};
 ghost use Rattle.model.specs.declared.replies.Reply.TheVariants.{Refused};
 
 use model::{End, NoMemory, Refusal, Reply, Said};
@@ -48,6 +50,26 @@ impl Answer {
             said: quiet(),
             reply: Reply::Refused { refusal },
             kept: Reply::Refused { refusal },
+        }
+    }
+
+    /// The step is refused, since the store was asked for a record and its device failed.
+    pub(crate) fn unfetched() -> Answer
+        ensures reply { result.reply ≡ Refused Store }
+        ensures kept { result.kept ≡ result.reply }
+        ensures said { result.said ≡ failing }
+    {
+        Answer {
+            said: Said {
+                appended: 0,
+                end: End::Device,
+            },
+            reply: Reply::Refused {
+                refusal: Refusal::Store,
+            },
+            kept: Reply::Refused {
+                refusal: Refusal::Store,
+            },
         }
     }
 }

@@ -1,18 +1,21 @@
 //! The steps `restart` and `notice`.
 
-ghost use Rattle.std.specs.Prelude.{◌≡◌, ◌<◌, ◌≤◌, ◌-◌, ◌+◌, ◌^◌, ◌∷◌, [], ◌++◌, IfOk, IfNone, OnOk, OnErr, length, take, drop, slice_get, slice_set, Some, not};
+ghost use Rattle.std.specs.Prelude.{◌≡◌, ◌<◌, ◌≤◌, ◌-◌, ◌+◌, ◌^◌, ◌∷◌, [], ◌++◌, All, IfOk, IfNone, OnOk, OnErr, length, take, drop, slice_get, slice_set, Some, not};
 ghost use Rattle.std.specs.List.{take_while};
+ghost use Rattle.model.specs.Failures.{HasRisen};
 ghost use Rattle.model.specs.Steps.{restart as restart_of, notice as notice_of, going_back_tests, gone_back, back_at, with_known, with_member, first_refusal};
 ghost use Rattle.model.specs.World.{Member as MemberOf, is_orphan as is_orphan_of, incarnation_of};
 ghost use Rattle.model.specs.declared.refusals.Refusal.TheVariants.{Up};
-ghost use Rattle.tenant.specs.Outcomes.{IsPlain, done, quiet};
+ghost use Rattle.tenant.specs.Outcomes.{done, quiet};
+ghost use Rattle.tenant.specs.Returns.{GivenNone, IsTrueOfDevice, Returns};
 
 use crate::answer::Answer;
 use crate::tenant::Tenant;
 use graph::{Member, pasts};
 use handler::Handler;
 use ident::MAX_INCARNATION;
-use model::{NoMemory, Refusal, Reply, Row, Start, Unit};
+use model::{NoMemory, Refusal, Reply, Row, Start, TenantName, Unit};
+use stable_log::{SharedLog, Store, StoreFault};
 use std::alloc::Global;
 
 fn cut_member(members: &mut Vec<Member>, i: usize, kept: usize, known: usize)
@@ -36,8 +39,26 @@ fn learn(members: &mut Vec<Member>, i: usize, known: usize)
     member.known = known;
 }
 
+/// Asks the store for the records of these places, from the first of them to before the last, in
+/// order, until one fails.
+fn fetch_some<S: Store>(
+    log: &mut SharedLog<S>,
+    places: &[u64],
+    first: usize,
+    last: usize,
+) -> Result<(), StoreFault>
+    requires { All (λ p. p < length log.old.records) places.now }
+    ensures records { log.new.records ≡ log.old.records }
+    ensures device { result ≡ Err StoreFault.Device → HasRisen log.old.failures log.new.failures }
+{
+    for i in first..last.min(places.len()) {
+        let _ = log.fetch(places[i])?;
+    }
+    Ok(())
+}
+
 impl<H: Handler> Tenant<H> {
-    /// Why a unit may not go back. (The plain tenant fetches nothing, so the store is not asked.)
+    /// Why a unit may not go back, whatever the store says.
     #[tactic(auto, unfolding(model::specs::Steps::first_refusal))]
     fn back_refusal(&self, unit: Unit) -> Option<Refusal>
         ensures refusal { result ≡ first_refusal (going_back_tests self.now unit quiet) }
@@ -114,11 +135,87 @@ impl<H: Handler> Tenant<H> {
         Ok(())
     }
 
-    /// A unit that is down goes back to its last interval that is no orphan, and is up again.
-    pub(crate) fn restart(&mut self, alloc: Global, unit: Unit) -> Result<Answer, NoMemory>
-        ensures done { IfOk result (λ a. restart_of self.old unit quiet ≡ done a.reply self.new) }
-        ensures plain { IfOk result IsPlain }
+    /// Asks the store for the records that the unit needs to go back to this length of its path:
+    /// those past its nearest snapshot.
+    fn fetch_kept<S: Store>(
+        &self,
+        alloc: Global,
+        name: &TenantName,
+        unit: Unit,
+        kept: usize,
+        log: &mut SharedLog<S>,
+    ) -> Result<(), StoreFault>
+        ensures records { log.new.records ≡ log.old.records }
+        ensures device { result ≡ Err StoreFault.Device → HasRisen log.old.failures log.new.failures }
+    {
+        let places = log.of(alloc, name, unit)?;
+        let last = kept.saturating_sub(1);
+        let first = self.shelves.nearest(unit, last);
+        fetch_some(log, places.as_slice(), first, last)
+    }
+
+    /// The unit's records and snapshots past this length of its path are given up.
+    fn forget_past<S: Store>(
+        &mut self,
+        name: &TenantName,
+        unit: Unit,
+        kept: usize,
+        log: &mut SharedLog<S>,
+    )
+        ensures same { self.new ≡ self.old }
+        ensures records { log.new.records ≡ log.old.records }
+        ensures failures { log.new.failures ≡ log.old.failures }
+    {
+        self.shelves.cut(unit, kept);
+        log.cut(name, unit, kept.saturating_sub(1));
+    }
+
+    /// The unit goes back to where its next incarnation starts, if the store gives the records that
+    /// this needs.
+    fn return_to<S: Store>(
+        &mut self,
+        alloc: Global,
+        name: &TenantName,
+        unit: Unit,
+        start: Start,
+        reply: Reply,
+        log: &mut SharedLog<S>,
+    ) -> Result<Answer, NoMemory>
+        requires within { unit < length self.old.members }
+        requires next { start.incarnation ≡ incarnation_of self.old.table unit + 1 }
+        ensures returns { IfOk result (λ a. Returns self.old unit start reply a self.new) }
+        ensures kept { IfOk result (λ a. a.kept ≡ a.reply) }
+        ensures given { IfOk result (λ a. GivenNone a.said log.old log.new) }
+        ensures device { IfOk result (λ a. IsTrueOfDevice a.said log.old log.new) }
         ensures err { OnErr result (self.new ≡ self.old) }
+        ensures err_log { OnErr result (log.new.records ≡ log.old.records) }
+    {
+        let kept = start.index as usize;
+        match self.fetch_kept(alloc, name, unit, kept, log) {
+            Ok(()) => {}
+            Err(StoreFault::Device) => return Ok(Answer::unfetched()),
+            Err(StoreFault::NoMemory) => return Err(NoMemory),
+        }
+        let answer = Answer::plain(alloc, reply)?;
+        self.go_back(unit, start)?;
+        self.forget_past(name, unit, kept, log);
+        Ok(answer)
+    }
+
+    /// A unit that is down goes back to its last interval that is no orphan, and is up again.
+    pub(crate) fn restart<S: Store>(
+        &mut self,
+        alloc: Global,
+        name: &TenantName,
+        unit: Unit,
+        log: &mut SharedLog<S>,
+    ) -> Result<Answer, NoMemory>
+        ensures done { IfOk result (λ a. restart_of self.old unit a.said ≡ done a.reply self.new) }
+        ensures kept { IfOk result (λ a. a.kept ≡ a.reply) }
+        ensures given { IfOk result (λ a. GivenNone a.said log.old log.new) }
+        ensures device { IfOk result (λ a. IsTrueOfDevice a.said log.old log.new) }
+        ensures err { OnErr result (self.new ≡ self.old) }
+        ensures err_log { OnErr result (log.new.records ≡ log.old.records) }
     {
         let member = match self.member(unit) {
             Some(member) => member,
@@ -130,9 +227,7 @@ impl<H: Handler> Tenant<H> {
         }
         let kept = self.kept_length(alloc, member.path())?;
         let row = self.next_start(unit, kept);
-        let answer = Answer::plain(alloc, Reply::Restarted { row })?;
-        self.go_back(unit, row)?;
-        Ok(answer)
+        self.return_to(alloc, name, unit, row, Reply::Restarted { row }, log)
     }
 
     /// The unit knows all rows.
@@ -144,11 +239,21 @@ impl<H: Handler> Tenant<H> {
         learn(&mut self.members, usize::from(unit.number()), known);
     }
 
-    /// A unit that is up learns the rows, and goes back where its path has an orphan.
-    pub(crate) fn notice(&mut self, alloc: Global, unit: Unit) -> Result<Answer, NoMemory>
-        ensures done { IfOk result (λ a. notice_of self.old unit quiet ≡ done a.reply self.new) }
-        ensures plain { IfOk result IsPlain }
+    /// A unit that is up learns the rows, and goes back where its path has an orphan. Only then is
+    /// the store asked.
+    pub(crate) fn notice<S: Store>(
+        &mut self,
+        alloc: Global,
+        name: &TenantName,
+        unit: Unit,
+        log: &mut SharedLog<S>,
+    ) -> Result<Answer, NoMemory>
+        ensures done { IfOk result (λ a. notice_of self.old unit a.said ≡ done a.reply self.new) }
+        ensures kept { IfOk result (λ a. a.kept ≡ a.reply) }
+        ensures given { IfOk result (λ a. GivenNone a.said log.old log.new) }
+        ensures device { IfOk result (λ a. IsTrueOfDevice a.said log.old log.new) }
         ensures err { OnErr result (self.new ≡ self.old) }
+        ensures err_log { OnErr result (log.new.records ≡ log.old.records) }
     {
         let member = match self.up_member(unit) {
             Ok(member) => member,
@@ -166,8 +271,13 @@ impl<H: Handler> Tenant<H> {
             None => {}
         }
         let row = self.next_start(unit, kept);
-        let answer = Answer::plain(alloc, Reply::Noticed { row: Some(row) })?;
-        self.go_back(unit, row)?;
-        Ok(answer)
+        self.return_to(
+            alloc,
+            name,
+            unit,
+            row,
+            Reply::Noticed { row: Some(row) },
+            log,
+        )
     }
 }

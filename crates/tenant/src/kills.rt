@@ -78,12 +78,16 @@ impl<H: Handler> Tenant<H> {
         }
     }
 
-    /// The plain tenant keeps every interval, so a checkpoint only answers.
-    pub(crate) fn checkpoint(&self, alloc: Global, unit: Unit) -> Result<Answer, NoMemory>
-        ensures done { IfOk result (λ a. checkpoint_of self.now unit ≡ done a.reply self.now) }
+    /// Shelves a snapshot of a unit that is up and has nothing volatile.
+    pub(crate) fn checkpoint(&mut self, alloc: Global, unit: Unit) -> Result<Answer, NoMemory>
+        ensures done { IfOk result (λ a. checkpoint_of self.old unit ≡ done a.reply self.new) }
         ensures plain { IfOk result IsPlain }
+        ensures err { OnErr result (self.new ≡ self.old) }
     {
-        let reply = self.checkpoint_reply(unit);
-        Answer::plain(alloc, reply)
+        let answer = Answer::plain(alloc, self.checkpoint_reply(unit))?;
+        if let Reply::Checkpointed { at } = &answer.reply {
+            self.shelves.put(alloc, unit, at.index)?;
+        }
+        Ok(answer)
     }
 }

@@ -11,7 +11,8 @@
 //!   `backs`, `releases`: the steps;
 //! - `receipt_tests`, `receives`, `accepts`: the tests of a receipt, the turn that it needs, and what
 //!   one that is taken adds;
-//! - `prepares`: a step whose turn is worked elsewhere.
+//! - `prepares`: a step whose turn is worked elsewhere;
+//! - `shelves`: which snapshots the units have.
 #![tactic(auto)]
 
 mod accepts;
@@ -30,6 +31,7 @@ mod receipt_tests;
 mod receives;
 mod released;
 mod releases;
+mod shelves;
 mod step;
 mod tenant;
 

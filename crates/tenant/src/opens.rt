@@ -8,6 +8,7 @@ ghost use Rattle.tenant.specs.Outcomes.{IsPlain};
 ghost use Rattle.tenant.specs.Stands.{IsOpened};
 
 use crate::answer::Answer;
+use crate::shelves::Shelves;
 use crate::tenant::Tenant;
 use handler::Handler;
 use model::{Kind, NoMemory, Quota, Refusal, Reply, Text, Texts};
@@ -71,6 +72,7 @@ impl<H: Handler> Tenant<H> {
             turns: VecDeque::new(alloc),
             letters: Vec::new(alloc),
             table: Vec::new(alloc),
+            shelves: Shelves::new(alloc),
         }
     }
 

@@ -127,7 +127,7 @@ impl<H: Handler> Tenant<H> {
         ensures done { IfOk result (λ o. IfSome o (λ a. step_open H.meaning self.old step a.said ≡ done a.reply self.new)) }
         ensures logs { IfOk result (λ o. IfSome o (λ a. Logs H.meaning name.now self.old step a.said log.old log.new)) }
         ensures stale { IfOk result (λ o. IfNone o (self.new ≡ self.old)) }
-        ensures stale_log { IfOk result (λ o. IfNone o (log.new.records ≡ log.old.records)) }
+        ensures stale_log { IfOk result (λ o. IfNone o (log.new ≡ log.old)) }
         ensures err { OnErr result (self.new ≡ self.old) }
         ensures err_log { OnErr result (log.new.records ≡ log.old.records) }
     {
@@ -159,7 +159,7 @@ impl<H: Handler> Tenant<H> {
         ensures kept { IfOk result (λ o. IfSome o (λ a. a.kept ≡ a.reply)) }
         ensures did { IfOk result (λ o. IfSome o (λ a. (w : World) → Stands H.meaning name.now self.old w log.old.records → Did H.meaning name.now w self.new step a.said a.reply log.old log.new)) }
         ensures stale { IfOk result (λ o. IfNone o (self.new ≡ self.old)) }
-        ensures stale_log { IfOk result (λ o. IfNone o (log.new.records ≡ log.old.records)) }
+        ensures stale_log { IfOk result (λ o. IfNone o (log.new ≡ log.old)) }
         // What other tenants stand for stays.
         ensures others { (k : Kept H.State) (w : World) (other : List ℕ) → bytes_eq other name.now ≡ false → Stands H.meaning other k w log.old.records → Stands H.meaning other k w log.new.records }
         ensures err { OnErr result (self.new ≡ self.old) }

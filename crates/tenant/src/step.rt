@@ -40,8 +40,8 @@ impl<H: Handler> Tenant<H> {
             TenantStep::Flush { unit } => self.flush(alloc, name, unit, log),
             TenantStep::Checkpoint { unit } => self.checkpoint(alloc, unit),
             TenantStep::Kill { unit } => self.kill(alloc, unit),
-            TenantStep::Restart { unit } => self.restart(alloc, unit),
-            TenantStep::Notice { unit } => self.notice(alloc, unit),
+            TenantStep::Restart { unit } => self.restart(alloc, name, unit, log),
+            TenantStep::Notice { unit } => self.notice(alloc, name, unit, log),
             TenantStep::Release { unit } => self.release(alloc, unit),
             TenantStep::Status { unit } => self.status(alloc, unit),
         }

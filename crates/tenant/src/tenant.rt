@@ -8,6 +8,7 @@ ghost use Rattle.tenant.specs.Outcomes.{IsPlain, done};
 
 use crate::accepts;
 use crate::answer::Answer;
+use crate::shelves::Shelves;
 use graph::{Member, Message, Node, reads, walks};
 use handler::{Handler, Turn};
 use model::{Mark, NoMemory, Quota, Refusal, Reply, Row, Seat, Source, Text, Unit};
@@ -25,6 +26,7 @@ pub struct Tenant<H: Handler> {
     pub(crate) turns: VecDeque<Turn<H::State>>,
     pub(crate) letters: Vec<Message>,
     pub(crate) table: Vec<Row>,
+    pub(crate) shelves: Shelves,
 }
 
 impl<H: Handler> Model for Tenant<H> {
