@@ -1,14 +1,16 @@
 //! Rows over a store that fails.
 //!
 //! A row tells which calls of the store fail by lines at its head, `append N fails` and `fetch N
-//! fails`, with numbers from 0. All other lines are steps.
+//! fails`, with numbers from 0; or by `write past N fails`, where the log goes to a writer that takes
+//! N bytes. All other lines are steps.
 
 use crate::answers::{answer, push_reply};
 use book::Book;
 use handler::Sample;
 use model::{Refusal, Reply};
+use stable_log::Store;
 use std::alloc::Global;
-use stores::FuseStore;
+use stores::{FuseStore, FuseWriter, WriterStore};
 
 type Books = Book<Sample, FuseStore>;
 
@@ -33,14 +35,28 @@ fn numbers_in(alloc: Global, lines: &str, first: &str) -> anyhow::Result<Vec<u64
 }
 
 fn is_step(line: &str) -> bool {
-    number_in(line, "append ").is_none() && number_in(line, "fetch ").is_none()
+    !line.ends_with(" fails")
 }
 
 /// The replies of a new book over a store that fails as the row tells.
 pub(crate) fn failed(alloc: Global, lines: &str) -> anyhow::Result<String> {
+    if let Some(room) = numbers_in(alloc, lines, "write past ")?.as_slice().first() {
+        let writer = FuseWriter::new(alloc, *room as usize);
+        let book = Book::new(alloc, Sample, WriterStore::new(alloc, writer));
+        return replies(alloc, book, lines);
+    }
     let appends = numbers_in(alloc, lines, "append ")?;
     let fetches = numbers_in(alloc, lines, "fetch ")?;
-    let mut book: Books = Book::new(alloc, Sample, FuseStore::new(alloc, appends, fetches));
+    let book: Books = Book::new(alloc, Sample, FuseStore::new(alloc, appends, fetches));
+    replies(alloc, book, lines)
+}
+
+/// The replies of a new book to the steps of a row.
+fn replies<S: Store>(
+    alloc: Global,
+    mut book: Book<Sample, S>,
+    lines: &str,
+) -> anyhow::Result<String> {
     let mut text = String::new(alloc);
     for line in lines.lines() {
         if is_step(line) {

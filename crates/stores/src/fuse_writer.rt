@@ -1,7 +1,8 @@
 //! A writer that fails.
 
-ghost use Rattle.std.specs.Prelude.{◌≡◌, ◌-◌, ◌≤◌, ◌++◌, [], IfOk, OnErr, Some, take, length};
+ghost use Rattle.std.specs.Prelude.{◌≡◌, ◌-◌, ◌≤◌, ◌++◌, [], IfErr, IfOk, OnErr, Some, take, length, min};
 ghost use Rattle.std.specs.Io.{WritesAtMost};
+ghost use Rattle.std.specs.IoError.{error_kind};
 ghost use Rattle.std.specs.Io.KnownBytes.{Keeps, WriteAppends};
 
 use std::alloc::Global;
@@ -45,8 +46,7 @@ impl FuseWriter {
 
 /// How many bytes of a piece there is room for.
 fn room_for(left: usize, piece: &[u8]) -> usize
-    ensures left { result ≤ left }
-    ensures piece { result ≤ length piece.now }
+    ensures { result ≡ min left (length piece.now) }
 {
     if piece.len() < left {
         piece.len()
@@ -61,7 +61,9 @@ impl Write for FuseWriter {
     fn write(&mut self, buf: &[u8]) -> io::Result<usize>
         ensures bound { WritesAtMost result buf.now }
         ensures bytes { WriteAppends (Some self.old.bytes) (Some self.new.bytes) result buf.now }
+        ensures taken { IfOk result (λ n. n ≡ min self.old.left (length buf.now)) }
         ensures left { IfOk result (λ n. self.new.left ≡ self.old.left - n) }
+        ensures full { IfErr result (λ e. error_kind e ≡ ErrorKind.StorageFull → self.old.left ≡ 0) }
         ensures err { OnErr result (self.new ≡ self.old) }
     {
         if self.left == 0 {
@@ -76,6 +78,7 @@ impl Write for FuseWriter {
     fn flush(&mut self) -> io::Result<()>
         ensures bytes { Keeps (Some self.old.bytes) (Some self.new.bytes) }
         ensures same { self.new ≡ self.old }
+        ensures works { IfErr result (λ _. ⊥) }
     {
         Ok(())
     }
