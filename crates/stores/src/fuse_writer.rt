@@ -1,6 +1,6 @@
 //! A writer that fails.
 
-ghost use Rattle.std.specs.Prelude.{◌≡◌, ◌-◌, ◌≤◌, ◌++◌, [], IfErr, IfOk, OnErr, Some, take, length, min};
+ghost use Rattle.std.specs.Prelude.{◌≡◌, ◌⊎◌, ◌-◌, ◌≤◌, ◌++◌, [], IfErr, IfOk, OnErr, Some, take, length, min};
 ghost use Rattle.std.specs.Io.{WritesAtMost};
 ghost use Rattle.std.specs.IoError.{error_kind};
 ghost use Rattle.std.specs.Io.KnownBytes.{Keeps, WriteAppends};
@@ -63,7 +63,7 @@ impl Write for FuseWriter {
         ensures bytes { WriteAppends (Some self.old.bytes) (Some self.new.bytes) result buf.now }
         ensures taken { IfOk result (λ n. n ≡ min self.old.left (length buf.now)) }
         ensures left { IfOk result (λ n. self.new.left ≡ self.old.left - n) }
-        ensures full { IfErr result (λ e. error_kind e ≡ ErrorKind.StorageFull → self.old.left ≡ 0) }
+        ensures full { IfErr result (λ e. (error_kind e ≡ ErrorKind.OutOfMemory) ⊎ (self.old.left ≡ 0)) }
         ensures err { OnErr result (self.new ≡ self.old) }
     {
         if self.left == 0 {
