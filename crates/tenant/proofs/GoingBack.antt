@@ -6,7 +6,6 @@ use Rattle.std.proofs.lemmas.Bool.Decides.{nat_tests}
 use Rattle.model.specs.declared.refusals.Refusal.{Refusal}
 use Rattle.model.specs.declared.refusals.Refusal.TheVariants.{Up, Limit, Store}
 use Rattle.model.specs.declared.names.Start.{Start}
-use Rattle.model.specs.declared.replies.Reply.{Reply}
 use Rattle.model.specs.declared.replies.Said.{Said}
 use Rattle.model.specs.declared.replies.Reply.TheVariants.{Refused, Restarted, Noticed}
 use Rattle.model.specs.World.{World, Member, incarnation_of}
@@ -15,7 +14,7 @@ use Rattle.model.specs.Steps.{first_refusal}
 use Rattle.model.proofs.Places.{at_unit_found}
 use Rattle.tenant.specs.declared.answer.Answer.{Answer}
 use Rattle.tenant.specs.Outcomes.{done, quiet}
-use Rattle.tenant.specs.Returns.{failing, Went, Failed, Returns}
+use Rattle.tenant.specs.Returns.{failing, Returns}
 use Rattle.tenant.proofs.Outcomes.{unless_refused, unless_passed}
 
 module _ (w : World) (u : ℕ) (said : Said) (m : Member) where

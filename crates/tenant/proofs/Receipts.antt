@@ -1,5 +1,5 @@
 -- Receipts: what a step that needs a turn asks for, and its outcome by that turn.
-use Rattle.std.proofs.Common.{◌≡◌, refl, sym, ◌∙◌, ap, ℕ, ◌+◌, ◌<◌, List, ◌∷◌, ◌++◌, length, ◌^◌, take}
+use Rattle.std.proofs.Common.{◌≡◌, refl, sym, ◌∙◌, ap, ℕ, ◌+◌, List, length, take}
 use Rattle.std.specs.Prelude.{Option, Some, None, Ok, Err, slice_get, nat_lt}
 use Rattle.handler.specs.Inputs.{Input, turn_of}
 use Rattle.model.specs.declared.names.Source.TheVariants.{Outside, Unit as FromUnit}
@@ -9,8 +9,8 @@ use Rattle.model.specs.declared.replies.Reply.{Reply}
 use Rattle.model.specs.declared.replies.Reply.TheVariants.{Accepted, Refused}
 use Rattle.model.specs.Handler.{Turn, Meaning}
 use Rattle.model.specs.Lists.{numbers_from}
-use Rattle.model.specs.Nodes.{Node, Cause, outside, letter, Message, next_turn, sends_within, turn_at, turn_upon}
-use Rattle.model.specs.Steps.{is_down, number_tests, room_tests, turn_tests, accepted, post, post_to, deliver, deliver_to, if_letter, turn_upon_receipt, next_node, first_refusal, unless}
+use Rattle.model.specs.Nodes.{Node, Cause, outside, letter, Message, next_turn, sends_within, turn_upon}
+use Rattle.model.specs.Steps.{is_down, number_tests, turn_tests, accepted, post, post_to, deliver, deliver_to, if_letter, turn_upon_receipt, next_node, first_refusal, unless}
 use Rattle.model.specs.World.{World, Member, executed, held, mark_of, is_blind, is_orphan, unstable_units}
 use Rattle.model.proofs.Places.{at_unit_found}
 use Rattle.tenant.specs.Accepts.{IsNext, letters_upon_node, with_node, received, CanReceive}
