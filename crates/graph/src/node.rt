@@ -65,7 +65,8 @@ impl Node {
     pub fn unit(&self) -> Unit
         ensures { result ≡ self.now.unit }
     {
-        self.unit
+        let Node { unit, .. } = self;
+        *unit
     }
 
     pub fn before(&self) -> Option<usize>

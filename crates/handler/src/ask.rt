@@ -63,7 +63,8 @@ impl<H: Handler> Ask<H> {
     pub fn seat(&self) -> Seat
         ensures { result ≡ self.now.seat }
     {
-        self.seat
+        let Ask { seat, .. } = self;
+        *seat
     }
 
     /// Whether the two are of the same whole input. It takes no memory.

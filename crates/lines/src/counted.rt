@@ -50,7 +50,8 @@ impl<T> Counted<T> {
     pub fn failed(&self) -> u64
         ensures { result ≡ self.now.failed }
     {
-        self.failed
+        let Counted { failed, .. } = self;
+        *failed
     }
 
     /// How many more calls may be made of a reader.

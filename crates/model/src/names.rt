@@ -63,7 +63,8 @@ impl Unit {
     pub fn number(self) -> u8
         ensures { result ≡ self }
     {
-        self.number
+        let Unit { number } = self;
+        number
     }
 }
 
@@ -77,7 +78,8 @@ impl Kind {
     pub fn number(self) -> u8
         ensures { result ≡ self }
     {
-        self.number
+        let Kind { number } = self;
+        number
     }
 }
 
@@ -91,7 +93,8 @@ impl Letter {
     pub fn number(self) -> u32
         ensures { result ≡ self }
     {
-        self.number
+        let Letter { number } = self;
+        number
     }
 }
 

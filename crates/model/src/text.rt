@@ -46,7 +46,8 @@ impl Text {
     pub fn as_str(&self) -> &str
         ensures { result.now ≡ self.now }
     {
-        self.string.as_str()
+        let text = &self.string;
+        text.as_str()
     }
 
     /// How many bytes it has.
@@ -67,7 +68,8 @@ impl Text {
     pub fn into_string(self) -> String
         ensures { string_bytes result ≡ self }
     {
-        self.string
+        let Text { string } = self;
+        string
     }
 }
 
@@ -127,7 +129,8 @@ impl Texts {
     pub fn into_vec(self) -> Vec<Text>
         ensures { result.items ≡ self }
     {
-        self.texts
+        let Texts { texts } = self;
+        texts
     }
 
     /// Equal texts.
@@ -225,7 +228,8 @@ impl TenantName {
     pub fn as_str(&self) -> &str
         ensures { result.now ≡ self.now }
     {
-        self.string.as_str()
+        let name = &self.string;
+        name.as_str()
     }
 
     /// An equal name.

@@ -78,7 +78,8 @@ impl<W> WriterStore<W> {
     pub fn is_closed(&self) -> bool
         ensures { result ≡ self.now.is_closed }
     {
-        self.is_closed
+        let WriterStore { is_closed, .. } = self;
+        *is_closed
     }
 
     /// The device failed.
