@@ -1,0 +1,75 @@
+"""Malicious lines: each is answered as the formats say, and none changes anything."""
+
+from program import joined
+
+OPEN = b'{"do":"open","tenant":"a","units":["echo"]}'
+STATUS = b'{"do":"status","tenant":"a","unit":0}'
+BEGUN = b'{"at":[0,0],"held":0,"known":0,"ok":"status","outside":0,"released":0,"rows":0,"stable":0,"up":true,"volatile":0}'
+BAD, NO_UNIT, NO_TENANT = b'{"no":"bad-line"}', b'{"no":"no-unit"}', b'{"no":"no-tenant"}'
+LONGEST = 65536
+
+
+def post(number=b"0", unit=b"0", tenant=b"a", more=b""):
+    return b'{"do":"post","number":%s,"tenant":"%s","text":"x","unit":%s%s}' % (number, tenant, unit, more)
+
+
+def filled(length):
+    """A status line filled with blanks to this length."""
+    return STATUS + b" " * (length - len(STATUS))
+
+
+LINES = [
+    ("200 opening brackets", b"[" * 200, BAD),
+    ("as many as fit a line", b"[" * LONGEST, BAD),
+    ("200 nested objects", b'{"do":' * 200, BAD),
+    ("nothing", b"", BAD),
+    ("a zero byte", b"\0", BAD),
+    ("bytes that are no UTF-8", post()[:-2] + b"\xff}", BAD),
+    ("half of a surrogate pair", b'{"do":"post","number":0,"tenant":"a","text":"\\ud800","unit":0}', BAD),
+    ("two values", STATUS + STATUS, BAD),
+    ("a value and a comma", STATUS + b",", BAD),
+    ("a list of a step", b"[" + STATUS + b"]", BAD),
+    ("a number of 33 bits", post(number=b"4294967296"), BAD),
+    ("a number below 0", post(number=b"-1"), BAD),
+    ("a number with an exponent", post(number=b"1e0"), BAD),
+    ("a number with a fraction", post(number=b"0.0"), BAD),
+    ("a number with a leading zero", post(number=b"00"), BAD),
+    ("a number as a text", post(number=b'"0"'), BAD),
+    ("a number of 400 digits", post(number=b"9" * 400), BAD),
+    ("no number", post(number=b"null"), BAD),
+    ("a unit of 256", post(unit=b"256"), BAD),
+    ("a unit of 255", post(unit=b"255"), NO_UNIT),
+    ("a tenant of no byte", post(tenant=b""), BAD),
+    ("a tenant of 33 bytes", post(tenant=b"a" * 33), BAD),
+    ("a tenant of 32 bytes", post(tenant=b"b" * 32), NO_TENANT),
+    ("a tenant with a capital", post(tenant=b"A"), BAD),
+    ("a tenant with a blank", post(tenant=b"a "), BAD),
+    ("a key too many", post(more=b',"units":0'), BAD),
+    ("a key too few", b'{"do":"post","number":0,"tenant":"a","unit":0}', BAD),
+    ("a step that is none", STATUS.replace(b"status", b"state"), BAD),
+    ("a status line of 65,536 bytes", filled(LONGEST), BEGUN),
+    ("a status line of 65,537 bytes", filled(LONGEST + 1), BAD),
+    ("a line of a megabyte", filled(1 << 20), BAD),
+    ("a carriage return", STATUS + b"\r", BEGUN),
+    ("a tab before it", b"\t" + STATUS, BEGUN),
+    ("a text of 4,097 bytes", post().replace(b'"x"', b'"%s"' % (b"x" * 4097)), b'{"no":"too-much"}'),
+]
+
+
+def one(program, what, given, want):
+    """The line between an open and a status, and as the last one without its line feed."""
+    wrong = []
+    for lines_at_once in (0, 1):
+        out = program.run(joined([OPEN, given, STATUS]), lines=lines_at_once)
+        if (out[0], out[2]) != (joined([b'{"ok":"open","units":1}', want, BEGUN]), 0):
+            wrong.append(f"{what}: {out[0][:200]!r}, status {out[2]}")
+    if given:
+        out = program.run(joined([OPEN]) + given)
+        if (out[0], out[2]) != (joined([b'{"ok":"open","units":1}', want]), 0):
+            wrong.append(f"{what}, without a line feed: {out[0][:200]!r}, status {out[2]}")
+    return 3, wrong
+
+
+def checks():
+    for what, given, want in LINES:
+        yield f"line: {what}", lambda program, line=(what, given, want): one(program, *line)

@@ -1,0 +1,107 @@
+/* Loaded before the C library, it makes one program meet what a healthy machine seldom gives it:
+ *
+ *   RECALL_REFUSE=n   its n-th request for memory is refused (from 1); the others are not
+ *   RECALL_COUNT=file where it ends, the number of its requests is written there
+ *   RECALL_READ=n     after n bytes a read of its standard input fails with EIO
+ *   RECALL_WRITE=n    after n bytes a write to its standard output fails with ENOSPC
+ *   RECALL_LINES=1    a read of its standard input gives no more than one line
+ *
+ * It acts in the program whose file is named RECALL_ONLY, and in no other that inherits these words. */
+#define _GNU_SOURCE
+#include <dlfcn.h>
+#include <errno.h>
+#include <fcntl.h>
+#include <limits.h>
+#include <stdatomic.h>
+#include <stdio.h>
+#include <stdlib.h>
+#include <string.h>
+#include <unistd.h>
+
+extern void *__libc_malloc(size_t);
+extern void *__libc_realloc(void *, size_t);
+extern void *__libc_calloc(size_t, size_t);
+
+static atomic_long requests;
+static long refused, to_read = -1, to_write = -1;
+static int counts, by_line;
+static const char *count_file;
+
+static long number(const char *name, long otherwise) {
+    const char *text = getenv(name);
+    return text ? atol(text) : otherwise;
+}
+
+__attribute__((constructor)) static void begin(void) {
+    char path[PATH_MAX];
+    ssize_t length = readlink("/proc/self/exe", path, sizeof path - 1);
+    const char *only = getenv("RECALL_ONLY");
+    if (length < 0 || !only) return;
+    path[length] = 0;
+    const char *slash = strrchr(path, '/');
+    if (strcmp(slash ? slash + 1 : path, only) != 0) return;
+    count_file = getenv("RECALL_COUNT");
+    to_read = number("RECALL_READ", -1);
+    to_write = number("RECALL_WRITE", -1);
+    by_line = number("RECALL_LINES", 0);
+    refused = number("RECALL_REFUSE", 0);
+    counts = 1;
+}
+
+__attribute__((destructor)) static void end(void) {
+    if (!counts || !count_file) return;
+    char text[32];
+    int length = snprintf(text, sizeof text, "%ld\n", atomic_load(&requests));
+    int file = open(count_file, O_WRONLY | O_CREAT | O_TRUNC, 0600);
+    if (file >= 0 && write(file, text, length) == length) close(file);
+}
+
+static int is_refused(void) {
+    if (!counts || atomic_fetch_add(&requests, 1) + 1 != refused) return 0;
+    errno = ENOMEM;
+    return 1;
+}
+
+void *malloc(size_t size) { return is_refused() ? NULL : __libc_malloc(size); }
+void *calloc(size_t count, size_t size) { return is_refused() ? NULL : __libc_calloc(count, size); }
+void *realloc(void *old, size_t size) { return is_refused() ? NULL : __libc_realloc(old, size); }
+
+/* No more than what is left, and a failure where nothing is. */
+static ssize_t allowed(long *left, size_t *size, int failure) {
+    if (*left == 0 && *size > 0) {
+        errno = failure;
+        return -1;
+    }
+    if (*left > 0 && (size_t)*left < *size) *size = *left;
+    return 0;
+}
+
+ssize_t read(int file, void *to, size_t size) {
+    static ssize_t (*real)(int, void *, size_t);
+    if (!real) real = (ssize_t (*)(int, void *, size_t))dlsym(RTLD_NEXT, "read");
+    if (file != 0 || !counts) return real(file, to, size);
+    if (allowed(&to_read, &size, EIO)) return -1;
+    ssize_t got = 0;
+    if (by_line) {
+        while ((size_t)got < size) {
+            ssize_t one = real(file, (char *)to + got, 1);
+            if (one < 0 && got == 0) return one;
+            if (one <= 0) break;
+            if (((char *)to)[got++] == '\n') break;
+        }
+    } else {
+        got = real(file, to, size);
+    }
+    if (to_read > 0 && got > 0) to_read -= got;
+    return got;
+}
+
+ssize_t write(int file, const void *from, size_t size) {
+    static ssize_t (*real)(int, const void *, size_t);
+    if (!real) real = (ssize_t (*)(int, const void *, size_t))dlsym(RTLD_NEXT, "write");
+    if (file != 1 || !counts) return real(file, from, size);
+    if (allowed(&to_write, &size, ENOSPC)) return -1;
+    ssize_t put = real(file, from, size);
+    if (to_write > 0 && put > 0) to_write -= put;
+    return put;
+}

@@ -1,0 +1,106 @@
+"""The program under test: started with faults planted in its libraries' calls, and talked to line by line."""
+
+import json
+import os
+import subprocess
+import tempfile
+
+HERE = os.path.dirname(os.path.abspath(__file__))
+ROWS = os.path.join(HERE, "..", "..", "crates", "rows", "data")
+SECONDS = 60
+
+
+class Program:
+    """Where the program is, and the shim that plants its faults."""
+
+    def __init__(self, path, room):
+        self.path = os.path.abspath(path)
+        self.room = room
+        self.shim = os.path.join(room, "faults.so")
+        subprocess.run(["cc", "-O1", "-fPIC", "-shared", "-o", self.shim, os.path.join(HERE, "faults.c"), "-ldl"], check=True)
+
+    def environment(self, **faults):
+        """The environment in which these faults come: RECALL_REFUSE and its kin, without the prefix and in lower case."""
+        own = {"PATH": os.environ.get("PATH", ""), "LD_PRELOAD": self.shim, "RECALL_ONLY": os.environ.get("RECALL_ONLY", os.path.basename(self.path))}
+        return {**own, **{"RECALL_" + name.upper(): str(value) for name, value in faults.items()}}
+
+    def run(self, given, *words, **faults):
+        """Runs it on these bytes to the end: what it wrote, what it complained of, and its status."""
+        with tempfile.TemporaryFile(dir=self.room) as file:
+            file.write(given)
+            file.seek(0)
+            ran = subprocess.run([self.path, *(words or ["run"])], stdin=file, capture_output=True, timeout=SECONDS, env=self.environment(**faults))
+        return ran.stdout, ran.stderr, ran.returncode
+
+    def count(self, given, *words):
+        """How many requests for memory such a run makes, where each line comes alone."""
+        with tempfile.NamedTemporaryFile(dir=self.room) as file:
+            self.run(given, *words, count=file.name, lines=1)
+            return int(open(file.name).read())
+
+    def talk(self, *words, **faults):
+        return Talk([self.path, *(words or ["run"])], self.environment(**faults))
+
+
+class Talk:
+    """A run that is given a line at a time, and asked for its reply before the next."""
+
+    def __init__(self, words, environment):
+        pipe = subprocess.PIPE
+        self.process = subprocess.Popen(words, stdin=pipe, stdout=pipe, stderr=pipe, env=environment, bufsize=0)
+        self.replies = self.process.stdout
+
+    def ask(self, line):
+        """The reply to a line without its line feed, or None where the program ended before it was out."""
+        try:
+            self.process.stdin.write(line + b"\n")
+        except BrokenPipeError:
+            return None
+        reply = bytearray()
+        while not reply.endswith(b"\n"):
+            got = self.replies.read(65536)
+            if not got:
+                self.rest = bytes(reply)
+                return None
+            reply += got
+        return bytes(reply[:-1])
+
+    rest = b""
+
+    def end(self):
+        """Ends the input: what was still written, and the status."""
+        try:
+            self.process.stdin.close()
+        except BrokenPipeError:
+            pass
+        rest = self.replies.read()
+        self.process.stderr.read()
+        status = self.process.wait(SECONDS)
+        self.replies.close()
+        self.process.stderr.close()
+        return rest, status
+
+
+def rows():
+    """The worked rows that need no store that fails and no turn that is worked elsewhere: name, step lines, reply lines."""
+    found = []
+    for file in sorted(os.listdir(ROWS)):
+        name, kind = os.path.splitext(file)
+        if kind == ".steps" and not name.startswith(("fails-", "turns-")):
+            steps = open(os.path.join(ROWS, file), "rb").read().splitlines()
+            replies = open(os.path.join(ROWS, name + ".replies"), "rb").read().splitlines()
+            found.append((name, steps, replies))
+    return found
+
+
+def joined(lines):
+    return b"".join(line + b"\n" for line in lines)
+
+
+def object_of(line):
+    """The object that a line holds, or an empty one."""
+    try:
+        value = json.loads(line)
+    except ValueError:
+        return {}
+    return value if isinstance(value, dict) else {}
