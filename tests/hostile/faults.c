@@ -1,7 +1,7 @@
 /* Loaded before the C library, it makes one program meet what a healthy machine seldom gives it:
  *
  *   RECALL_REFUSE=n   its n-th request for memory is refused (from 1); the others are not
- *   RECALL_COUNT=file where it ends, the number of its requests is written there
+ *   RECALL_COUNT=file the number of its requests so far stands in this file, as eight bytes
  *   RECALL_READ=n     after n bytes a read of its standard input fails with EIO
  *   RECALL_WRITE=n    after n bytes a write to its standard output fails with ENOSPC
  *   RECALL_LINES=1    a read of its standard input gives no more than one line
@@ -16,20 +16,30 @@
 #include <stdio.h>
 #include <stdlib.h>
 #include <string.h>
+#include <sys/mman.h>
 #include <unistd.h>
 
 extern void *__libc_malloc(size_t);
 extern void *__libc_realloc(void *, size_t);
 extern void *__libc_calloc(size_t, size_t);
 
-static atomic_long requests;
+static atomic_long own_count;
+static atomic_long *requests = &own_count;
 static long refused, to_read = -1, to_write = -1;
 static int counts, by_line;
-static const char *count_file;
 
 static long number(const char *name, long otherwise) {
     const char *text = getenv(name);
     return text ? atol(text) : otherwise;
+}
+
+/* Counts in the file, which stays as it is however the program ends. */
+static void count_in(const char *name) {
+    int file = open(name, O_RDWR);
+    if (file < 0) return;
+    void *shared = mmap(NULL, sizeof *requests, PROT_READ | PROT_WRITE, MAP_SHARED, file, 0);
+    if (shared != MAP_FAILED) requests = shared;
+    close(file);
 }
 
 __attribute__((constructor)) static void begin(void) {
@@ -40,7 +50,7 @@ __attribute__((constructor)) static void begin(void) {
     path[length] = 0;
     const char *slash = strrchr(path, '/');
     if (strcmp(slash ? slash + 1 : path, only) != 0) return;
-    count_file = getenv("RECALL_COUNT");
+    if (getenv("RECALL_COUNT")) count_in(getenv("RECALL_COUNT"));
     to_read = number("RECALL_READ", -1);
     to_write = number("RECALL_WRITE", -1);
     by_line = number("RECALL_LINES", 0);
@@ -48,16 +58,8 @@ __attribute__((constructor)) static void begin(void) {
     counts = 1;
 }
 
-__attribute__((destructor)) static void end(void) {
-    if (!counts || !count_file) return;
-    char text[32];
-    int length = snprintf(text, sizeof text, "%ld\n", atomic_load(&requests));
-    int file = open(count_file, O_WRONLY | O_CREAT | O_TRUNC, 0600);
-    if (file >= 0 && write(file, text, length) == length) close(file);
-}
-
 static int is_refused(void) {
-    if (!counts || atomic_fetch_add(&requests, 1) + 1 != refused) return 0;
+    if (!counts || atomic_fetch_add(requests, 1) + 1 != refused) return 0;
     errno = ENOMEM;
     return 1;
 }

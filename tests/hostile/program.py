@@ -3,6 +3,7 @@
 import json
 import os
 import subprocess
+import sys
 import tempfile
 
 HERE = os.path.dirname(os.path.abspath(__file__))
@@ -35,8 +36,11 @@ class Program:
     def count(self, given, *words):
         """How many requests for memory such a run makes, where each line comes alone."""
         with tempfile.NamedTemporaryFile(dir=self.room) as file:
+            file.write(bytes(8))
+            file.flush()
             self.run(given, *words, count=file.name, lines=1)
-            return int(open(file.name).read())
+            with open(file.name, "rb") as counted:
+                return int.from_bytes(counted.read(8), sys.byteorder)
 
     def talk(self, *words, **faults):
         return Talk([self.path, *(words or ["run"])], self.environment(**faults))
