@@ -10,6 +10,3 @@ mod snapshot;
 
 pub use shelf::Shelf;
 pub use snapshot::Snapshot;
-
-#[cfg(test)]
-mod tests;

@@ -9,6 +9,3 @@ mod marks;
 mod vector;
 
 pub use vector::DepVector;
-
-#[cfg(test)]
-mod tests;

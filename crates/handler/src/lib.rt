@@ -17,6 +17,3 @@ pub use ask::{Ask, Done};
 pub use law::Handler;
 pub use sample::Sample;
 pub use turn::Turn;
-
-#[cfg(test)]
-mod tests;

@@ -14,6 +14,3 @@ pub use model::{
     Kind, Letter, Letters, Mark, Marks, Move, NoMemory, Quota, Refusal, Row, Seat, Source, Start,
     TenantName, Text, Texts, Unit,
 };
-
-#[cfg(test)]
-mod tests;

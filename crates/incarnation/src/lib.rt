@@ -11,6 +11,3 @@ mod starts;
 mod table;
 
 pub use table::StartTable;
-
-#[cfg(test)]
-mod tests;

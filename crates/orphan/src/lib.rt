@@ -15,6 +15,3 @@ mod vectors;
 
 pub use paths::first_orphan;
 pub use vectors::{is_blind, is_orphan, unstable_units};
-
-#[cfg(test)]
-mod tests;

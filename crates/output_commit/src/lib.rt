@@ -22,6 +22,3 @@ pub use hold::Hold;
 pub use outlet::Outlet;
 pub use ticket::Ticket;
 pub use view::StableView;
-
-#[cfg(test)]
-mod tests;

@@ -10,6 +10,3 @@
 mod whole;
 
 pub use whole::{Failed, flush_all, is_interrupted, put_all};
-
-#[cfg(test)]
-mod tests;

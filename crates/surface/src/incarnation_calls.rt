@@ -1,6 +1,6 @@
 ghost use Rattle.std.specs.Prelude.{◌≡◌};
 
-use crate::StartTable;
+use incarnation::StartTable;
 use model::{Mark, NoMemory, Row, Unit};
 use std::test::Fail;
 

@@ -1,4 +1,4 @@
-use crate::{Shelf, Snapshot};
+use checkpoint::{Shelf, Snapshot};
 use std::test::Fail;
 
 #[test]

@@ -1,4 +1,4 @@
-use super::*;
+use auditor::{audit_line, audit_tenant, can_check};
 use audit::Verdict;
 use book::Book;
 use handler::Sample;

@@ -1,6 +1,6 @@
 ghost use Rattle.std.specs.Prelude.{◌≡◌, ◌∷◌, [], IfOk};
 
-use crate::{first_orphan, is_blind, is_orphan, unstable_units};
+use orphan::{first_orphan, is_blind, is_orphan, unstable_units};
 use depvector::DepVector;
 use incarnation::StartTable;
 use model::{Mark, Row, Unit};

@@ -1,4 +1,4 @@
-use crate::DepVector;
+use depvector::DepVector;
 use model::{Mark, Unit};
 use std::test::Fail;
 

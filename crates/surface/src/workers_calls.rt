@@ -5,7 +5,7 @@ ghost use Rattle.std.specs.Prelude.{◌<◌, ◌^◌, IfOk, vec_len};
 ghost use Rattle.handler.specs.States.{states_equal};
 ghost use Rattle.model.specs.Sample.{sample};
 
-use crate::{Gate, run_feeds};
+use workers::{Gate, run_feeds};
 use handler::{Handler, Sample, Turn};
 use ident::Kind;
 use model::{

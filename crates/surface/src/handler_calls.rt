@@ -1,4 +1,4 @@
-use super::*;
+use handler::{Ask, Done, Handler, Sample, Turn};
 use ident::{Kind, Seat, Source, Text, Unit};
 use std::test::Fail;
 

@@ -1,4 +1,4 @@
-use crate::{Hold, Outlet, StableView};
+use output_commit::{Hold, Outlet, StableView};
 use model::{Mark, Text, Unit};
 use std::test::Fail;
 

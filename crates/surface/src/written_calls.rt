@@ -1,4 +1,4 @@
-use super::*;
+use written::{Failed, flush_all, is_interrupted, put_all};
 use std::io;
 use std::io::{ErrorKind, Write};
 use std::test::Fail;

@@ -1,4 +1,4 @@
-use super::*;
+use lines::{Counted, LineFault, ServeFault, fault_reply, memory_aside, put_reply, read_feed, read_step, serve, write_reply};
 use book::Book;
 use handler::Sample;
 use stable_log::MemoryStore;
