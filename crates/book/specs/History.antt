@@ -20,7 +20,7 @@ use Rattle.model.specs.declared.replies.Who.TheVariants.{Caller}
 use Rattle.model.specs.declared.steps.Step.{Step}
 use Rattle.model.specs.declared.steps.TenantStep.{TenantStep}
 use Rattle.model.specs.declared.steps.TenantStep.TheVariants.{Open}
-use Rattle.stable_log.specs.Logged.{Logged}
+use Rattle.shared_log.specs.Logged.{Logged}
 use Rattle.tenant.specs.Stands.{Kept, StandsAt, released_in}
 use Rattle.book.specs.Entries.{Ledger, IsEntered}
 

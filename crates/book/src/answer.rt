@@ -8,7 +8,7 @@ ghost use Rattle.model.specs.declared.records.Record.{Record};
 ghost use Rattle.tenant.specs.Needs.{WasFresh};
 ghost use Rattle.tenant.specs.Outcomes.{IsPlain};
 ghost use Rattle.tenant.specs.Stands.{IsOpened, StandsAt};
-ghost use Rattle.stable_log.specs.Logged.{Logged};
+ghost use Rattle.shared_log.specs.Logged.{Logged};
 ghost use Rattle.book.specs.Commits.{needs_at};
 ghost use Rattle.book.specs.Entries.{memory_reply as reply_of_memory};
 ghost use Rattle.book.specs.History.{DidAt, IsAnswered, IsKept, KeepsOthers, LogsAt, StepsAt, holding, opened_by};
@@ -16,7 +16,7 @@ ghost use Rattle.book.specs.History.{DidAt, IsAnswered, IsKept, KeepsOthers, Log
 use handler::{Ask, Done, Handler};
 use indexmap::IndexMap;
 use model::{End, NoMemory, Quota, Refusal, Reply, Said, Step, TenantName, TenantStep, Texts};
-use stable_log::{SharedLog, Store};
+use shared_log::{SharedLog, Store};
 use std::alloc::Global;
 use tenant::{Answer, Tenant};
 

@@ -14,7 +14,7 @@ use crate::committed::Committed;
 use handler::{Ask, Done, Handler};
 use indexmap::IndexMap;
 use model::{Entry, Move, NoMemory, Reply, Row, Seat, Step, TenantName, Text, Unit, Who};
-use stable_log::{SharedLog, Store};
+use shared_log::{SharedLog, Store};
 use std::alloc::Global;
 use std::marker::Model;
 use tenant::Answer;

@@ -1,7 +1,7 @@
 use super::*;
 use book::Book;
 use handler::Sample;
-use stable_log::MemoryStore;
+use shared_log::MemoryStore;
 use std::io;
 use std::io::{BufRead, ErrorKind, Read, Write};
 use std::test::Fail;

@@ -10,7 +10,7 @@ use Rattle.model.specs.declared.replies.End.TheVariants.{Device}
 use Rattle.model.specs.declared.replies.Reply.{Reply}
 use Rattle.model.specs.declared.replies.Reply.TheVariants.{Refused}
 use Rattle.model.specs.declared.replies.Said.{Said}
-use Rattle.stable_log.specs.Logged.{Logged}
+use Rattle.shared_log.specs.Logged.{Logged}
 use Rattle.tenant.specs.declared.answer.Answer.{Answer}
 use Rattle.tenant.specs.Outcomes.{quiet}
 

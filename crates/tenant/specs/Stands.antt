@@ -12,7 +12,7 @@ use Rattle.model.specs.Handler.{Meaning}
 use Rattle.model.specs.Records.{IsHonest}
 use Rattle.model.specs.Steps.{open_new}
 use Rattle.model.specs.World.{World}
-use Rattle.stable_log.specs.Logged.{Logged}
+use Rattle.shared_log.specs.Logged.{Logged}
 use Rattle.tenant.specs.Outcomes.{done}
 
 -- what a tenant is seen as

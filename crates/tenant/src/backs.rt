@@ -15,7 +15,7 @@ use graph::{Member, pasts};
 use handler::Handler;
 use ident::MAX_INCARNATION;
 use model::{NoMemory, Refusal, Reply, Row, Start, TenantName, Unit};
-use stable_log::{SharedLog, Store, StoreFault};
+use shared_log::{SharedLog, Store, StoreFault};
 use std::alloc::Global;
 
 fn cut_member(members: &mut Vec<Member>, i: usize, kept: usize, known: usize)

@@ -16,7 +16,7 @@ use crate::tenant::Tenant;
 use graph::{Cause, Member, Message, Node, reads, vectors};
 use handler::Handler;
 use model::{End, Letter, NoMemory, Record, Refusal, Reply, Said, Source, TenantName, Text, Unit};
-use stable_log::{SharedLog, Store, StoreFault};
+use shared_log::{SharedLog, Store, StoreFault};
 use std::alloc::Global;
 
 fn flush_reply(end: End, count: u64) -> Reply

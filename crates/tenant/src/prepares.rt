@@ -14,7 +14,7 @@ use crate::answer::Answer;
 use crate::tenant::Tenant;
 use handler::{Ask, Done, Handler};
 use model::{Letter, NoMemory, TenantName, TenantStep, Text, Unit};
-use stable_log::{SharedLog, Store};
+use shared_log::{SharedLog, Store};
 use std::alloc::Global;
 
 impl<H: Handler> Tenant<H> {

@@ -11,7 +11,7 @@ use crate::answer::Answer;
 use crate::tenant::Tenant;
 use handler::Handler;
 use model::{NoMemory, Refusal, TenantName, TenantStep};
-use stable_log::{SharedLog, Store};
+use shared_log::{SharedLog, Store};
 use std::alloc::Global;
 
 impl<H: Handler> Tenant<H> {

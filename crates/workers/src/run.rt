@@ -15,7 +15,7 @@ use book::Book;
 use crossbeam_channel::Sender;
 use handler::Handler;
 use model::{NoMemory, Reply, Step};
-use stable_log::Store;
+use shared_log::Store;
 use std::alloc::Global;
 use std::sync::{Mutex, Wait};
 use std::thread;

@@ -1,0 +1,148 @@
+//! A store that writes its records.
+
+ghost use Rattle.std.specs.Prelude.{◌≡◌, ◌≢◌, ◌<◌, ◌≤◌, ◌++◌, ◌∷◌, [], IfOk, OnOk, OnErr, length, slice_get, string_bytes, Some, true, false};
+ghost use Rattle.std.specs.Io.KnownBytes.{Appends, Keeps};
+ghost use Rattle.model.specs.Failures.{HasRisen};
+ghost use Rattle.written.specs.Beginnings.{AppendsBeginning};
+ghost use Rattle.stable_log.specs.Writing.{log_line};
+
+use forms::write_record;
+use model::{NoMemory, Record};
+use shared_log::{Store, StoreFault};
+use std::alloc::Global;
+use std::io::Write;
+use std::marker::Model;
+use written::{flush_all, put_all};
+
+/// A store that keeps its records in memory, and writes one line of JSON for each. A record is
+/// acknowledged once its line is out.
+///
+/// A write that fails closes the store: it writes nothing any more, and each later append counts one
+/// more failure of the device and answers `Device`. What was acknowledged before can still be
+/// fetched, which needs no device.
+#[derive(Drop)]
+pub struct WriterStore<W> {
+    records: Vec<Record>,
+    writer: W,
+    failures: u64,
+    is_closed: bool,
+}
+
+impl<W> Model for WriterStore<W> {
+    ghost use Rattle.stable_log.specs.Writing.{Writing};
+
+    ghost Value = { Writing W };
+
+    ghost view = { λ s. record { records = s.records.items; writer = s.writer; failures = s.failures; is_closed = s.is_closed } };
+}
+
+/// The line of a record, with the line feed at its end.
+fn line_of(alloc: Global, logged: &Record) -> Result<String, NoMemory>
+    ensures { IfOk result (λ s. string_bytes s ≡ log_line logged.now) }
+{
+    let mut line = write_record(alloc, logged)?;
+    line.push('\n')?;
+    Ok(line)
+}
+
+/// Writes all of the bytes and flushes them. Where that fails a beginning of them is written.
+fn put_out<W: Write>(writer: &mut W, bytes: &[u8]) -> Result<(), written::Failed>
+    ensures ok { OnOk result (Appends (W.contents writer.old) (W.contents writer.new) bytes.now) }
+    ensures err { OnErr result (AppendsBeginning (W.contents writer.old) (W.contents writer.new) bytes.now) }
+{
+    put_all(writer, bytes)?;
+    flush_all(writer)
+}
+
+impl<W> WriterStore<W> {
+    /// A store with no records, over this writer.
+    pub fn new(alloc: Global, writer: W) -> WriterStore<W>
+        ensures { result ≡ record { records = []; writer = writer; failures = 0; is_closed = false } }
+    {
+        WriterStore {
+            records: Vec::new(alloc),
+            writer,
+            failures: 0,
+            is_closed: false,
+        }
+    }
+
+    /// The writer, and what is written.
+    pub fn writer(&self) -> &W
+        ensures { result.now ≡ self.now.writer }
+    {
+        &self.writer
+    }
+
+    /// Whether a write failed: nothing is written any more.
+    pub fn is_closed(&self) -> bool
+        ensures { result ≡ self.now.is_closed }
+    {
+        let WriterStore { is_closed, .. } = self;
+        *is_closed
+    }
+
+    /// The device failed.
+    fn count_failure(&mut self)
+        ensures records { self.new.records ≡ self.old.records }
+        ensures writer { self.new.writer ≡ self.old.writer }
+        ensures risen { HasRisen self.old.failures self.new.failures }
+        ensures up { self.old.failures ≤ self.new.failures }
+        ensures closed { self.new.is_closed ≡ true }
+    {
+        self.is_closed = true;
+        self.failures = self.failures.saturating_add(1);
+    }
+}
+
+impl<W: Write + Drop> Store for WriterStore<W> {
+    ghost log = { λ s. s.records };
+
+    ghost failures = { λ s. s.failures };
+
+    /// Keeps a record once its line is out. After an error the records are as they were: where the
+    /// writer failed now a beginning of the line is written, and else nothing.
+    fn append(&mut self, logged: &Record) -> Result<(), StoreFault>
+        ensures ok { OnOk result (self.new.records ≡ self.old.records ++ logged.now ∷ []) }
+        ensures err { OnErr result (self.new.records ≡ self.old.records) }
+        ensures device { result ≡ Err StoreFault.Device → HasRisen self.old.failures self.new.failures }
+        ensures up { self.old.failures ≤ self.new.failures }
+        ensures line { OnOk result (Appends (W.contents self.old.writer) (W.contents self.new.writer) (log_line logged.now)) }
+        ensures beginning { result ≡ Err StoreFault.Device → AppendsBeginning (W.contents self.old.writer) (W.contents self.new.writer) (log_line logged.now) }
+        ensures memory { result ≡ Err StoreFault.NoMemory → self.new ≡ self.old }
+        ensures quiet { self.old.is_closed ≡ true → self.new.writer ≡ self.old.writer }
+        ensures refused { self.old.is_closed ≡ true → result ≡ Err StoreFault.Device }
+        ensures closes { result ≡ Err StoreFault.Device → self.new.is_closed ≡ true }
+        ensures opens { OnOk result (self.new.is_closed ≡ false) }
+    {
+        if self.is_closed {
+            self.count_failure();
+            return Err(StoreFault::Device);
+        }
+        let alloc = *self.records.allocator();
+        let line = line_of(alloc, logged)?;
+        let kept = logged.copy(alloc)?;
+        if self.records.reserve(1).is_err() {
+            return Err(StoreFault::NoMemory);
+        }
+        if put_out(&mut self.writer, line.as_bytes()).is_err() {
+            self.count_failure();
+            return Err(StoreFault::Device);
+        }
+        self.records.push_reserved(kept);
+        Ok(())
+    }
+
+    fn fetch(&mut self, place: u64) -> Result<Record, StoreFault>
+        requires { place < length self.old.records }
+        ensures found { IfOk result (λ r. slice_get self.old.records place ≡ Some r) }
+        ensures same { self.new ≡ self.old }
+        ensures device { result ≢ Err StoreFault.Device }
+    {
+        let alloc = *self.records.allocator();
+        match self.records[place as usize].copy(alloc) {
+            Ok(copied) => Ok(copied),
+            Err(NoMemory) => Err(StoreFault::NoMemory),
+        }
+    }
+}
