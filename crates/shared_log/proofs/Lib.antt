@@ -1,1 +1,4 @@
-pub mod PlacesLaws
+pub mod LeftLaws
+mod Lists
+mod PlacesLaws
+pub mod Tables

@@ -40,6 +40,35 @@ fn a_store_gives_back_what_it_acknowledged(rt: HostRuntime) -> Result<(), Fail> 
     Ok(())
 }
 
+#[test]
+fn a_store_forgets_a_place_and_keeps_the_others(rt: HostRuntime) -> Result<(), Fail> {
+    let alloc = rt.alloc();
+    let mut store = MemoryStore::new(alloc);
+    store.append(&record_of(alloc, "a", 1, 7)?)?;
+    store.append(&record_of(alloc, "a", 1, 8)?)?;
+    store.forget(0);
+    store.append(&record_of(alloc, "a", 1, 9)?)?;
+    let second = store.fetch(1)?;
+    let third = store.fetch(2)?;
+    assert_eq!(rt; second.number, 8);
+    assert_eq!(rt; third.number, 9);
+    Ok(())
+}
+
+#[test]
+fn what_is_taken_back_leaves_its_place(rt: HostRuntime) -> Result<(), Fail> {
+    let alloc = rt.alloc();
+    let mut records = Records::new(alloc);
+    records.take_back();
+    records.keep(record_of(alloc, "a", 1, 7)?)?;
+    records.keep(record_of(alloc, "a", 1, 8)?)?;
+    records.take_back();
+    records.keep(record_of(alloc, "a", 1, 9)?)?;
+    let second = records.copy_of(alloc, 1)?;
+    assert_eq!(rt; second.number, 9);
+    Ok(())
+}
+
 /// A log of two tenants: a's unit 1 has the places 0, 3 and 4, its unit 2 has 1, and b's unit 1
 /// has 2 and 5. The numbers are 7 to 12.
 fn two_tenants(alloc: Global) -> Result<SharedLog<MemoryStore>, StoreFault> {
@@ -61,8 +90,8 @@ fn has(
     unit: u8,
     places: &[u64],
 ) -> Result<bool, NoMemory> {
-    let own = log.of(alloc, &name(alloc, tenant)?, Unit::new(unit))?;
-    Ok(own.as_slice() == places)
+    let tenant = name(alloc, tenant)?;
+    Ok(log.of(&tenant, Unit::new(unit)) == places)
 }
 
 #[test]
@@ -88,6 +117,19 @@ fn a_cut_leaves_the_others(rt: HostRuntime) -> Result<(), Fail> {
 }
 
 #[test]
+fn a_record_is_fetched_after_a_cut_of_others(rt: HostRuntime) -> Result<(), Fail> {
+    let alloc = rt.alloc();
+    let mut log = two_tenants(alloc)?;
+    log.cut(&name(alloc, "a")?, Unit::new(1), 1);
+    log.forget(&name(alloc, "b")?, Unit::new(1), 1);
+    let kept = log.fetch(0)?;
+    let other = log.fetch(5)?;
+    assert_eq!(rt; kept.number, 7);
+    assert_eq!(rt; other.number, 12);
+    Ok(())
+}
+
+#[test]
 fn a_record_after_a_cut_is_listed(rt: HostRuntime) -> Result<(), Fail> {
     let alloc = rt.alloc();
     let mut log = two_tenants(alloc)?;
@@ -106,5 +148,20 @@ fn the_shared_log_gives_a_record_back(rt: HostRuntime) -> Result<(), Fail> {
     let logged = log.fetch(0)?;
     assert_eq!(rt; logged.number, 7);
     assert!(rt; logged.tenant == name(alloc, "a")?);
+    Ok(())
+}
+
+#[test]
+fn a_forget_leaves_the_later_ones_and_the_others(rt: HostRuntime) -> Result<(), Fail> {
+    let alloc = rt.alloc();
+    let mut log = two_tenants(alloc)?;
+    log.forget(&name(alloc, "a")?, Unit::new(1), 2);
+    assert!(rt; has(alloc, &log, "a", 1, &[4])?);
+    assert!(rt; has(alloc, &log, "a", 2, &[1])?);
+    assert!(rt; has(alloc, &log, "b", 1, &[2, 5])?);
+    log.append(&record_of(alloc, "a", 1, 13)?)?;
+    assert!(rt; has(alloc, &log, "a", 1, &[4, 6])?);
+    log.forget(&name(alloc, "a")?, Unit::new(1), 9);
+    assert!(rt; has(alloc, &log, "a", 1, &[])?);
     Ok(())
 }
