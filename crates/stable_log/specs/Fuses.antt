@@ -1,5 +1,5 @@
 -- What fails when it is told to, for tests.
-use Rattle.std.specs.Prelude.{ℕ, List, Bool, ◌==◌}
+use Rattle.std.specs.Prelude.{ℕ, List, Option, Bool, ◌==◌}
 use Rattle.std.specs.List.{list_any}
 use Rattle.model.specs.declared.records.Record.{Record}
 
@@ -8,10 +8,10 @@ pub record Fuse : Type 0 where
   pub bytes : List ℕ
   pub left : ℕ
 
--- a store: its records, the numbers of the appends and of the fetches that fail, how many of each
--- there were, and how often one failed
+-- a store: its records, with empty places for those that were forgotten, the numbers of the appends
+-- and of the fetches that fail, how many of each there were, and how often one failed
 pub record Fused : Type 0 where
-  pub records : List Record
+  pub records : List (Option Record)
   pub bad_appends : List ℕ
   pub bad_fetches : List ℕ
   pub appends : ℕ

@@ -1,7 +1,8 @@
 //! A store that fails.
 
-ghost use Rattle.std.specs.Prelude.{◌≡◌, ◌≢◌, ◌<◌, ◌≤◌, ◌+◌, ◌-◌, ◌^◌, ◌++◌, ◌∷◌, [], IfOk, OnOk, OnErr, length, slice_get, Some, true, false};
+ghost use Rattle.std.specs.Prelude.{◌≡◌, ◌≢◌, ◌<◌, ◌≤◌, ◌+◌, ◌-◌, ◌^◌, ◌++◌, ◌∷◌, [], IfOk, OnOk, OnErr, None, length, slice_get, slice_set, Some, true, false};
 ghost use Rattle.model.specs.Failures.{HasRisen};
+ghost use Rattle.shared_log.specs.Logged.{IsHeld};
 ghost use Rattle.stable_log.specs.Fuses.{is_one_of};
 
 use model::Record;
@@ -65,7 +66,7 @@ impl Store for FuseStore {
     ghost failures = { λ s. s.failures };
 
     fn append(&mut self, logged: &Record) -> Result<(), StoreFault>
-        ensures ok { OnOk result (self.new.records ≡ self.old.records ++ logged.now ∷ []) }
+        ensures ok { OnOk result (self.new.records ≡ self.old.records ++ Some logged.now ∷ []) }
         ensures err { OnErr result (self.new.records ≡ self.old.records) }
         ensures device { result ≡ Err StoreFault.Device → HasRisen self.old.failures self.new.failures }
         ensures up { self.old.failures ≤ self.new.failures }
@@ -83,8 +84,8 @@ impl Store for FuseStore {
     }
 
     fn fetch(&mut self, place: u64) -> Result<Record, StoreFault>
-        requires { place < length self.old.records }
-        ensures found { IfOk result (λ r. slice_get self.old.records place ≡ Some r) }
+        requires { IsHeld self.old.records place }
+        ensures found { IfOk result (λ r. slice_get self.old.records place ≡ Some (Some r)) }
         ensures same { self.new.records ≡ self.old.records }
         ensures device { result ≡ Err StoreFault.Device → HasRisen self.old.failures self.new.failures }
         ensures up { self.old.failures ≤ self.new.failures }
@@ -99,5 +100,14 @@ impl Store for FuseStore {
             return Err(StoreFault::Device);
         }
         self.inner.fetch(place)
+    }
+
+    /// Gives up the record of a place, which stays as an empty one. It is not counted.
+    fn forget(&mut self, place: u64)
+        requires { place < length self.old.records }
+        ensures emptied { self.new ≡ record self.old { records = slice_set self.old.records place None } }
+        ensures same { self.new.failures ≡ self.old.failures }
+    {
+        self.inner.forget(place);
     }
 }

@@ -1,6 +1,5 @@
 use super::*;
 use model::{Letter, Mark, Marks, Record, Source, TenantName, Text, Unit};
-use shared_log::{Store, StoreFault};
 use std::alloc::Global;
 use std::test::Fail;
 
@@ -69,6 +68,20 @@ fn each_record_is_a_line(rt: HostRuntime) -> Result<(), Fail> {
 }
 
 #[test]
+fn what_is_forgotten_stays_written(rt: HostRuntime) -> Result<(), Fail> {
+    let alloc = rt.alloc();
+    let mut store = WriterStore::new(alloc, Vec::new(alloc));
+    store.append(&from_unit_0(alloc)?)?;
+    store.forget(0);
+    store.append(&from_outside(alloc)?)?;
+    let mut want = String::from_str(alloc, FROM_UNIT_0)?;
+    want.push_str(FROM_OUTSIDE)?;
+    assert!(rt; store.writer().as_slice() == want.as_bytes());
+    assert_eq!(rt; store.fetch(1)?.unit, Unit::new(0));
+    Ok(())
+}
+
+#[test]
 fn a_failed_write_closes_the_store(rt: HostRuntime) -> Result<(), Fail> {
     let alloc = rt.alloc();
     let room = FROM_UNIT_0.len() + 9;
@@ -98,5 +111,34 @@ fn a_fuse_store_fails_what_it_is_told_to(rt: HostRuntime) -> Result<(), Fail> {
     assert_eq!(rt; store.append(&logged), Ok(()));
     assert!(rt; matches!(store.fetch(0), Err(StoreFault::Device)));
     assert_eq!(rt; store.fetch(0)?.unit, Unit::new(0));
+    Ok(())
+}
+
+#[test]
+fn a_fuse_store_forgets_without_counting(rt: HostRuntime) -> Result<(), Fail> {
+    let alloc = rt.alloc();
+    let bad_appends = [2].to_vec(alloc)?;
+    let mut store = FuseStore::new(alloc, bad_appends, Vec::new(alloc));
+    store.append(&from_outside(alloc)?)?;
+    store.append(&from_unit_0(alloc)?)?;
+    store.forget(0);
+    assert_eq!(rt; store.fetch(1)?.unit, Unit::new(1));
+    assert_eq!(rt;
+        store.append(&from_outside(alloc)?),
+        Err(StoreFault::Device)
+    );
+    Ok(())
+}
+
+#[test]
+fn the_shared_log_stands_over_each_store(rt: HostRuntime) -> Result<(), Fail> {
+    let alloc = rt.alloc();
+    let logged = from_outside(alloc)?;
+    let mut written = SharedLog::new(alloc, WriterStore::new(alloc, Vec::new(alloc)));
+    written.append(&logged)?;
+    let mut kept = SharedLog::new(alloc, MemoryStore::new(alloc));
+    kept.append(&logged)?;
+    assert!(rt; written.of(&logged.tenant, logged.unit) == [0].as_slice());
+    assert!(rt; kept.of(&logged.tenant, logged.unit) == [0].as_slice());
     Ok(())
 }

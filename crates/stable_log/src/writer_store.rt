@@ -1,28 +1,30 @@
 //! A store that writes its records.
 
-ghost use Rattle.std.specs.Prelude.{◌≡◌, ◌≢◌, ◌<◌, ◌≤◌, ◌++◌, ◌∷◌, [], IfOk, OnOk, OnErr, length, slice_get, string_bytes, Some, true, false};
+ghost use Rattle.std.specs.Prelude.{◌≡◌, ◌≢◌, ◌<◌, ◌≤◌, ◌++◌, ◌∷◌, [], IfOk, OnOk, OnErr, None, length, slice_get, slice_set, string_bytes, Some, true, false};
 ghost use Rattle.std.specs.Io.KnownBytes.{Appends, Keeps};
 ghost use Rattle.model.specs.Failures.{HasRisen};
 ghost use Rattle.written.specs.Beginnings.{AppendsBeginning};
+ghost use Rattle.shared_log.specs.Logged.{IsHeld};
 ghost use Rattle.stable_log.specs.Writing.{log_line};
 
 use forms::write_record;
 use model::{NoMemory, Record};
-use shared_log::{Store, StoreFault};
+use shared_log::{Records, Store, StoreFault};
 use std::alloc::Global;
 use std::io::Write;
 use std::marker::Model;
 use written::{flush_all, put_all};
 
 /// A store that keeps its records in memory, and writes one line of JSON for each. A record is
-/// acknowledged once its line is out.
+/// acknowledged once its line is out. One that is forgotten leaves memory; its line stays written.
 ///
 /// A write that fails closes the store: it writes nothing any more, and each later append counts one
-/// more failure of the device and answers `Device`. What was acknowledged before can still be
-/// fetched, which needs no device.
+/// more failure of the device and answers `Device`. What was acknowledged before and is not forgotten
+/// can still be fetched, which needs no device.
 #[derive(Drop)]
 pub struct WriterStore<W> {
-    records: Vec<Record>,
+    alloc: Global,
+    records: Records,
     writer: W,
     failures: u64,
     is_closed: bool,
@@ -33,7 +35,7 @@ impl<W> Model for WriterStore<W> {
 
     ghost Value = { Writing W };
 
-    ghost view = { λ s. record { records = s.records.items; writer = s.writer; failures = s.failures; is_closed = s.is_closed } };
+    ghost view = { λ s. record { records = s.records; writer = s.writer; failures = s.failures; is_closed = s.is_closed } };
 }
 
 /// The line of a record, with the line feed at its end.
@@ -60,7 +62,8 @@ impl<W> WriterStore<W> {
         ensures { result ≡ record { records = []; writer = writer; failures = 0; is_closed = false } }
     {
         WriterStore {
-            records: Vec::new(alloc),
+            alloc,
+            records: Records::new(alloc),
             writer,
             failures: 0,
             is_closed: false,
@@ -100,10 +103,10 @@ impl<W: Write + Drop> Store for WriterStore<W> {
 
     ghost failures = { λ s. s.failures };
 
-    /// Keeps a record once its line is out. After an error the records are as they were: where the
+    /// Keeps a record, and its place, once its line is out. After an error the records are as they were: where the
     /// writer failed now a beginning of the line is written, and else nothing.
     fn append(&mut self, logged: &Record) -> Result<(), StoreFault>
-        ensures ok { OnOk result (self.new.records ≡ self.old.records ++ logged.now ∷ []) }
+        ensures ok { OnOk result (self.new.records ≡ self.old.records ++ Some logged.now ∷ []) }
         ensures err { OnErr result (self.new.records ≡ self.old.records) }
         ensures device { result ≡ Err StoreFault.Device → HasRisen self.old.failures self.new.failures }
         ensures up { self.old.failures ≤ self.new.failures }
@@ -119,30 +122,33 @@ impl<W: Write + Drop> Store for WriterStore<W> {
             self.count_failure();
             return Err(StoreFault::Device);
         }
-        let alloc = *self.records.allocator();
-        let line = line_of(alloc, logged)?;
-        let kept = logged.copy(alloc)?;
-        if self.records.reserve(1).is_err() {
-            return Err(StoreFault::NoMemory);
-        }
+        let line = line_of(self.alloc, logged)?;
+        let kept = logged.copy(self.alloc)?;
+        self.records.keep(kept)?;
         if put_out(&mut self.writer, line.as_bytes()).is_err() {
+            self.records.take_back();
             self.count_failure();
             return Err(StoreFault::Device);
         }
-        self.records.push_reserved(kept);
         Ok(())
     }
 
     fn fetch(&mut self, place: u64) -> Result<Record, StoreFault>
-        requires { place < length self.old.records }
-        ensures found { IfOk result (λ r. slice_get self.old.records place ≡ Some r) }
+        requires { IsHeld self.old.records place }
+        ensures found { IfOk result (λ r. slice_get self.old.records place ≡ Some (Some r)) }
         ensures same { self.new ≡ self.old }
         ensures device { result ≢ Err StoreFault.Device }
     {
-        let alloc = *self.records.allocator();
-        match self.records[place as usize].copy(alloc) {
-            Ok(copied) => Ok(copied),
-            Err(NoMemory) => Err(StoreFault::NoMemory),
-        }
+        let copied = self.records.copy_of(self.alloc, place)?;
+        Ok(copied)
+    }
+
+    /// Gives up the record of a place, which stays as an empty one. The record's line stays written.
+    fn forget(&mut self, place: u64)
+        requires { place < length self.old.records }
+        ensures emptied { self.new ≡ record self.old { records = slice_set self.old.records place None } }
+        ensures same { self.new.failures ≡ self.old.failures }
+    {
+        self.records.forget(place);
     }
 }

@@ -16,6 +16,7 @@ use std::alloc::Global;
 
 impl<H: Handler> Tenant<H> {
     /// The step, by the definitions of the world that the tenant is seen as.
+    #[tactic(auto, using(shared_log::proofs::LeftLaws::same_grows))]
     pub(crate) fn work<S: Store>(
         &mut self,
         alloc: Global,
