@@ -131,6 +131,7 @@ fn answer_open<H: Handler, S: Store>(
 }
 
 /// Does a step of a tenant that is not open.
+#[tactic(auto, using(shared_log::proofs::LeftLaws::same_grows))]
 fn answer_unopened<H: Handler>(
     alloc: Global,
     handler: &H,
@@ -181,7 +182,7 @@ pub(crate) fn ask<H: Handler>(
     tenants: &Tenants<H>,
     step: &Step,
 ) -> Result<Option<Ask<H>>, NoMemory>
-    ensures { IfOk result (λ a. (w : Option World) (records : List Record) → StandsAt H.meaning (addressed step.now).0 (get bytes_eq tenants.now (addressed step.now).0) w records → a ≡ needs_at H.meaning w (addressed step.now).1) }
+    ensures { IfOk result (λ a. (w : Option World) (records : List (Option Record)) → StandsAt H.meaning (addressed step.now).0 (get bytes_eq tenants.now (addressed step.now).0) w records → a ≡ needs_at H.meaning w (addressed step.now).1) }
 {
     let Some(tenant) = tenants.get(step.tenant()) else {
         return Ok(None);

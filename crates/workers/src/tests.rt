@@ -213,6 +213,10 @@ impl<'a> Store for Telling<'a> {
     fn fetch(&mut self, place: u64) -> Result<Record, StoreFault> {
         self.inner.fetch(place)
     }
+
+    fn forget(&mut self, place: u64) {
+        self.inner.forget(place);
+    }
 }
 
 /// Holds the second post's turn until something is logged.
