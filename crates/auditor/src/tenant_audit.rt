@@ -10,7 +10,7 @@ use book::Book;
 use handler::Handler;
 use ident::MAX_UNITS;
 use model::{Flaw, NoMemory, TenantName, Text, Texts, Unit};
-use stable_log::Store;
+use shared_log::Store;
 use std::alloc::Global;
 
 /// Equal texts.

@@ -15,7 +15,7 @@ use Rattle.model.specs.declared.replies.Said.{Said}
 use Rattle.model.specs.declared.steps.Step.{Step}
 use Rattle.model.specs.declared.steps.TenantStep.{TenantStep}
 use Rattle.model.specs.declared.steps.TenantStep.TheVariants.{Open}
-use Rattle.stable_log.specs.Logged.{Logged}
+use Rattle.shared_log.specs.Logged.{Logged}
 use Rattle.tenant.specs.Outcomes.{done}
 use Rattle.tenant.specs.Stands.{Kept, Stands, StandsAt, Did, IsOpened}
 use Rattle.book.specs.Commits.{needs_at}
@@ -89,7 +89,7 @@ module _ {S : Type 0} (M : Meaning S) where
       let d = did w stands in unopened_from name w step said answer d.steps.0 d.steps.1
 
   -- what other tenants stand for stays, also where they are not open
-  pub keeps_others : (name : List ℕ) (before after : List Record)
+  pub keeps_others : (name : List ℕ) (before after : List (Option Record))
       → ((k : Kept S) (w : World) (other : List ℕ) → bytes_eq other name ≡ false → Stands M other k w before → Stands M other k w after)
       → KeepsOthers M name before after
   keeps_others name before after keeps None None other apart stands = tt
@@ -117,7 +117,7 @@ module _ {S : Type 0} (M : Meaning S) where
       only_world (Some w) stands = absurd (subst (λ t. StandsAt M (addressed step).0 t (Some w) log.records) (sym none) stands)
 
   -- what holds of each world that an open tenant stands for holds of the one that it has
-  pub of_open : (name : List ℕ) (k : Kept S) (at : Option (Kept S)) (records : List Record) (F : Option World → Type 0)
+  pub of_open : (name : List ℕ) (k : Kept S) (at : Option (Kept S)) (records : List (Option Record)) (F : Option World → Type 0)
       → Some k ≡ at → ((w : World) → Stands M name k w records → F (Some w))
       → (w : Option World) → StandsAt M name at w records → F w
   of_open name k at records F here f None stands = absurd (subst (λ t. StandsAt M name t None records) (sym here) stands)

@@ -157,8 +157,11 @@ module _ {S : Type 0} (M : Meaning S) where
       stands = λ t. stands_after t (bytes_eq t (name_of e)) refl;
       order = done.order ∙ ap (λ (l : List (List ℕ)). l ++ opened_by (name_of e) (addressed e.step).1 e.reply) replay.order ∙ sym (opened-push h e);
       legal = λ t. legal_after t (bytes_eq t (name_of e)) refl;
-      recorded = subst (RecordedAfter M [] (h ++ e ∷ [])) (sym done.logs.honest.1)
-          (recorded-push [] h e before.log.records done.logs.honest.0 replay.recorded done.logs.honest.2);
+      recorded = (
+        replay.recorded.0 ++ done.logs.honest.0,
+        recorded-push [] h e replay.recorded.0 done.logs.honest.0 replay.recorded.1 done.logs.honest.2,
+        done.logs.honest.1 replay.recorded.0 replay.recorded.2,
+      );
     }
 
 -- a tenant's replies and its world follow from its own pairs

@@ -10,7 +10,7 @@ use Rattle.model.specs.declared.replies.Who.{Who}
 use Rattle.model.specs.declared.steps.Step.{Step}
 use Rattle.model.specs.declared.steps.Step.TheVariants.{Open, Join, Post, Deliver, Flush, Checkpoint, Kill, Restart, Notice, Release, Status}
 use Rattle.model.specs.Failures.{HasRisen}
-use Rattle.stable_log.specs.Logged.{Logged}
+use Rattle.shared_log.specs.Logged.{Logged}
 
 -- what a book is seen as: its history, and the log of all tenants
 pub record Ledger : Type 0 where

@@ -20,7 +20,7 @@ use Rattle.model.specs.declared.replies.Who.TheVariants.{Caller}
 use Rattle.model.specs.declared.steps.Step.{Step}
 use Rattle.model.specs.declared.steps.TenantStep.{TenantStep}
 use Rattle.model.specs.declared.steps.TenantStep.TheVariants.{Open}
-use Rattle.stable_log.specs.Logged.{Logged}
+use Rattle.shared_log.specs.Logged.{Grows, IsLeftOf, Logged}
 use Rattle.tenant.specs.Stands.{Kept, StandsAt, released_in}
 use Rattle.book.specs.Entries.{Ledger, IsEntered}
 
@@ -76,6 +76,10 @@ RecordedAfter M before (e ∷ entries) records =
 abbrev pub IsRecorded : {S : Type 0} → Meaning S → List Entry → List Record → Type 0
 IsRecorded M history records = RecordedAfter M [] history records
 
+-- the log has what is left of the records that the store took during this history, honestly: in each place its record, or none where it was forgotten
+abbrev pub IsRecordedIn : {S : Type 0} → Meaning S → List Entry → List (Option Record) → Type 0
+IsRecordedIn M history records = (whole : List Record) × IsRecorded M history whole × IsLeftOf records whole
+
 -- ---- one step
 
 -- the tenants and the log of a book: what is kept under each name, the names in the order of opening, and the log
@@ -89,15 +93,15 @@ abbrev pub holding : {K X : Type 0} → IndexMap (List ℕ) K X → Logged → H
 holding tenants log = record { at = get bytes_eq tenants; names = keys tenants; log = log }
 
 -- the step of a tenant that may be unopened has this reply by the definitions, and what is kept stands for the world after it
-abbrev pub StepsAt : {S : Type 0} → Meaning S → List ℕ → Option World → Option (Kept S) → TenantStep → Said → Reply → List Record → Type 0
+abbrev pub StepsAt : {S : Type 0} → Meaning S → List ℕ → Option World → Option (Kept S) → TenantStep → Said → Reply → List (Option Record) → Type 0
 StepsAt M tenant w k step said answer records =
     (z : Option World)
     × (step_alone M w (record { step = step; said = said }) ≡ record { reply = answer; world = z })
     × StandsAt M tenant k z records
 
--- the log grew by what the store took during a step of the tenant, honestly, and the device is said to have failed only where it did
+-- the log grew by what the store took during a step of the tenant, honestly (it may have forgotten others), and the device is said to have failed only where it did
 pub record LogsAt {S : Type 0} (M : Meaning S) (tenant : List ℕ) (w : Option World) (step : TenantStep) (said : Said) (before after : Logged) : Type 0 where
-  pub honest : (grown : List Record) × (after.records ≡ before.records ++ grown) × IsHonestAt M tenant w step said grown
+  pub honest : (grown : List Record) × Grows before.records grown after.records × IsHonestAt M tenant w step said grown
   pub device : said.end ≡ Device → HasRisen before.failures after.failures
 
 -- the step of a tenant that may be unopened was done
@@ -107,7 +111,7 @@ pub record DidAt {S : Type 0} (M : Meaning S) (tenant : List ℕ) (w : Option Wo
   pub order : after.names ≡ before.names ++ opened_by tenant step answer
 
 -- what any other tenant stands for stays, where the log's records change so
-abbrev pub KeepsOthers : {S : Type 0} → Meaning S → List ℕ → List Record → List Record → Type 0
+abbrev pub KeepsOthers : {S : Type 0} → Meaning S → List ℕ → List (Option Record) → List (Option Record) → Type 0
 KeepsOthers {S = S} M tenant before after =
     (k : Option (Kept S)) (w : Option World) (other : List ℕ)
     → bytes_eq other tenant ≡ false → StandsAt M other k w before → StandsAt M other k w after
@@ -133,7 +137,7 @@ pub record IsReplay {S : Type 0} (M : Meaning S) (book : Holding (Kept S)) (hist
   pub stands : (tenant : List ℕ) → StandsAt M tenant (book.at tenant) (world_of M tenant history) book.log.records
   pub order : book.names ≡ opened history
   pub legal : IsLegal M history
-  pub recorded : IsRecorded M history book.log.records
+  pub recorded : IsRecordedIn M history book.log.records
 
 -- the steps were entered in order, with these replies
 abbrev pub Ran : Ledger → List Step → List Reply → Ledger → Type 0

@@ -8,7 +8,7 @@ ghost use Rattle.model.specs.declared.records.Record.{Record};
 ghost use Rattle.tenant.specs.Needs.{WasFresh};
 ghost use Rattle.tenant.specs.Outcomes.{IsPlain};
 ghost use Rattle.tenant.specs.Stands.{IsOpened, StandsAt};
-ghost use Rattle.stable_log.specs.Logged.{Logged};
+ghost use Rattle.shared_log.specs.Logged.{Logged};
 ghost use Rattle.book.specs.Commits.{needs_at};
 ghost use Rattle.book.specs.Entries.{memory_reply as reply_of_memory};
 ghost use Rattle.book.specs.History.{DidAt, IsAnswered, IsKept, KeepsOthers, LogsAt, StepsAt, holding, opened_by};
@@ -16,7 +16,7 @@ ghost use Rattle.book.specs.History.{DidAt, IsAnswered, IsKept, KeepsOthers, Log
 use handler::{Ask, Done, Handler};
 use indexmap::IndexMap;
 use model::{End, NoMemory, Quota, Refusal, Reply, Said, Step, TenantName, TenantStep, Texts};
-use stable_log::{SharedLog, Store};
+use shared_log::{SharedLog, Store};
 use std::alloc::Global;
 use tenant::{Answer, Tenant};
 
@@ -131,6 +131,7 @@ fn answer_open<H: Handler, S: Store>(
 }
 
 /// Does a step of a tenant that is not open.
+#[tactic(auto, using(shared_log::proofs::LeftLaws::same_grows))]
 fn answer_unopened<H: Handler>(
     alloc: Global,
     handler: &H,
@@ -181,7 +182,7 @@ pub(crate) fn ask<H: Handler>(
     tenants: &Tenants<H>,
     step: &Step,
 ) -> Result<Option<Ask<H>>, NoMemory>
-    ensures { IfOk result (λ a. (w : Option World) (records : List Record) → StandsAt H.meaning (addressed step.now).0 (get bytes_eq tenants.now (addressed step.now).0) w records → a ≡ needs_at H.meaning w (addressed step.now).1) }
+    ensures { IfOk result (λ a. (w : Option World) (records : List (Option Record)) → StandsAt H.meaning (addressed step.now).0 (get bytes_eq tenants.now (addressed step.now).0) w records → a ≡ needs_at H.meaning w (addressed step.now).1) }
 {
     let Some(tenant) = tenants.get(step.tenant()) else {
         return Ok(None);

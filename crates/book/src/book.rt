@@ -7,14 +7,14 @@ ghost use Rattle.model.specs.declared.replies.Who.TheVariants.{Caller};
 ghost use Rattle.book.specs.Certificates.{CertifiesAt, IsHeadline, certificate_at, seats_at};
 ghost use Rattle.book.specs.Commits.{Commits, needed};
 ghost use Rattle.book.specs.Entries.{IsEntered};
-ghost use Rattle.book.specs.History.{IsIsolated, IsRecorded, Ran, opened, released_at, table_at, world_of};
+ghost use Rattle.book.specs.History.{IsIsolated, IsRecordedIn, Ran, opened, released_at, table_at, world_of};
 
 use crate::answer::{Tenants, answer, answer_with, ask, memory_reply};
 use crate::committed::Committed;
 use handler::{Ask, Done, Handler};
 use indexmap::IndexMap;
 use model::{Entry, Move, NoMemory, Reply, Row, Seat, Step, TenantName, Text, Unit, Who};
-use stable_log::{SharedLog, Store};
+use shared_log::{SharedLog, Store};
 use std::alloc::Global;
 use std::marker::Model;
 use tenant::Answer;
@@ -60,11 +60,12 @@ impl<H: Handler, S: Store> Book<H, S> {
     }
 
     /// The entries, in order. To each tenant the replies are those that it gets alone, and the
-    /// records of the log are those that the entries acknowledged, honestly.
+    /// records of the log are those that the entries acknowledged, honestly, but for the places whose
+    /// records were forgotten.
     pub fn history(&self) -> &[Entry]
         ensures entries { result.now ≡ self.now.history }
         ensures legal { IsLegal H.meaning self.now.history }
-        ensures recorded { IsRecorded H.meaning self.now.history self.now.log.records }
+        ensures recorded { IsRecordedIn H.meaning self.now.history self.now.log.records }
     {
         self.history.as_slice()
     }

@@ -3,7 +3,7 @@
 //! - `words`: the words of the command line, read with `clap`;
 //! - `run`: `recall run`, thin over `lines::serve`, which carries the theorem;
 //! - `feeds`: `recall feeds`, thin over `workers::run_feeds`, which carries its own;
-//! - `log_file`: the file of `--log`, thin over `stores::WriterStore`, which carries its own;
+//! - `log_file`: the file of `--log`, thin over `stable_log::WriterStore`, which carries its own;
 //! - `audits`: the audit lines, thin over `auditor::audit_tenant`, which carries its own.
 #![tactic(auto)]
 
@@ -18,13 +18,13 @@ use log::sink::Console;
 use log::{LevelFilter, Logged, error};
 use log_file::LogFile;
 use run::run_on;
-use stable_log::{MemoryStore, Store};
+use shared_log::{MemoryStore, Store};
 use std::fs::{File, Files};
 use std::io;
 use std::process::ExitCode;
 use std::sync::Wait;
 use std::thread::Threads;
-use stores::WriterStore;
+use stable_log::WriterStore;
 use words::{Asked, FeedsWords, RunWords, read_words};
 
 fn main(rt: HostRuntime) -> io::Result<ExitCode> {

@@ -16,7 +16,7 @@ use forms::{LineFault, read_step, write_reply};
 use handler::Handler;
 use ident::{MAX_LINE_BYTES, Refusal};
 use model::Reply;
-use stable_log::Store;
+use shared_log::Store;
 use std::alloc::Global;
 use std::io::{BufRead, Write};
 

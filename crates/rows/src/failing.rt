@@ -8,9 +8,9 @@ use crate::answers::{answer, push_reply};
 use book::Book;
 use handler::Sample;
 use model::{Refusal, Reply};
-use stable_log::Store;
+use shared_log::Store;
 use std::alloc::Global;
-use stores::{FuseStore, FuseWriter, WriterStore};
+use stable_log::{FuseStore, FuseWriter, WriterStore};
 
 type Books = Book<Sample, FuseStore>;
 

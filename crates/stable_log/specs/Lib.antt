@@ -1,2 +1,2 @@
-pub mod Logged
-pub mod Slots
+pub mod Writing
+pub mod Fuses

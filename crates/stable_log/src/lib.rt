@@ -1,20 +1,22 @@
-//! Stable storage: the records that were acknowledged.
+//! Stable storage: the shared log, and all stores that it may stand over.
 //!
-//! - `Store`: keeps records. Whoever has an acknowledgement may fetch the record again.
-//! - `MemoryStore`: a store with no device.
-//! - `SharedLog`: the one log of all tenants over a store, with the places of each unit's live
-//!   records.
-//! - `slots`: whose each record is, and whether it is live.
+//! - `Store`, `StoreFault`, `MemoryStore`, `SharedLog`: of the crate `shared_log` below, which the
+//!   tenant stands on, so that an edit of a line's form doesn't prove the tenant again.
+//! - `WriterStore`: keeps its records, and writes a line of JSON for each, for people to read.
+//! - `FuseStore`: fails the appends and fetches that it is told to, for tests.
+//! - `FuseWriter`: takes some bytes and then fails, for tests.
+//!
+//! `specs/Writing` says what a writer store is seen as, and what its lines are.
 #![tactic(auto)]
 
-mod memory_store;
-mod shared_log;
-mod slots;
-mod store;
+mod fuse_store;
+mod fuse_writer;
+mod writer_store;
 
-pub use memory_store::MemoryStore;
-pub use shared_log::SharedLog;
-pub use store::{Store, StoreFault};
+pub use fuse_store::FuseStore;
+pub use fuse_writer::FuseWriter;
+pub use shared_log::{MemoryStore, SharedLog, Store, StoreFault};
+pub use writer_store::WriterStore;
 
 #[cfg(test)]
 mod tests;

@@ -1,110 +1,144 @@
 use super::*;
-use model::{Letter, Mark, Marks, NoMemory, Record, Source, TenantName, Text, Unit};
+use model::{Letter, Mark, Marks, Record, Source, TenantName, Text, Unit};
 use std::alloc::Global;
 use std::test::Fail;
 
-fn name(alloc: Global, text: &str) -> Result<TenantName, NoMemory> {
-    TenantName::new(String::from_str(alloc, text)?).ok_or(NoMemory)
+const FROM_UNIT_0: &str =
+    r#"{"from":0,"letter":0,"mark":[0,1],"number":0,"tenant":"a","text":"x","unit":1,"vector":[[0,1],[0,1]]}
+"#;
+
+const FROM_OUTSIDE: &str =
+    r#"{"from":"outside","letter":null,"mark":[0,1],"number":0,"tenant":"a","text":"x","unit":0,"vector":[[0,1],[0,0]]}
+"#;
+
+/// The first interval of a unit.
+fn first() -> Mark {
+    Mark {
+        incarnation: 0,
+        index: 1,
+    }
 }
 
-/// The n-th record of a tenant's unit.
-fn record_of(alloc: Global, tenant: &str, unit: u8, number: u32) -> Result<Record, NoMemory> {
-    let mark = Mark {
-        incarnation: 0,
-        index: number,
-    };
+/// A receipt of "x" by a unit of tenant a.
+fn receipt(
+    alloc: Global,
+    unit: u8,
+    source: Source,
+    letter: Option<Letter>,
+    other: Mark,
+) -> Result<Record, Fail> {
+    let tenant = TenantName::new(String::from_str(alloc, "a")?).ok_or("not a name")?;
     Ok(Record {
-        tenant: name(alloc, tenant)?,
+        tenant,
         unit: Unit::new(unit),
-        mark,
-        source: Source::Unit(Unit::new(0)),
-        letter: Some(Letter::new(number)),
-        number: u64::from(number),
+        mark: first(),
+        source,
+        letter,
+        number: 0,
         text: Text::of(alloc, "x")?,
-        vector: Marks::new([mark].to_vec(alloc)?),
+        vector: Marks::new([first(), other].to_vec(alloc)?),
     })
 }
 
-#[test]
-fn a_store_gives_back_what_it_acknowledged(rt: HostRuntime) -> Result<(), Fail> {
-    let alloc = rt.alloc();
-    let mut store = MemoryStore::new(alloc);
-    store.append(&record_of(alloc, "a", 1, 7)?)?;
-    store.append(&record_of(alloc, "a", 1, 8)?)?;
-    let first = store.fetch(0)?;
-    let second = store.fetch(1)?;
-    assert_eq!(rt; first.number, 7);
-    assert_eq!(rt; second.number, 8);
-    assert!(rt; second.text.as_str() == "x");
-    assert_eq!(rt; second.vector.as_slice().len(), 1);
-    Ok(())
+fn from_unit_0(alloc: Global) -> Result<Record, Fail> {
+    let source = Source::Unit(Unit::new(0));
+    receipt(alloc, 1, source, Some(Letter::new(0)), first())
 }
 
-/// A log of two tenants: a's unit 1 has the places 0, 3 and 4, its unit 2 has 1, and b's unit 1
-/// has 2 and 5. The numbers are 7 to 12.
-fn two_tenants(alloc: Global) -> Result<SharedLog<MemoryStore>, StoreFault> {
-    let mut log = SharedLog::new(alloc, MemoryStore::new(alloc));
-    let owners = [("a", 1), ("a", 2), ("b", 1), ("a", 1), ("a", 1), ("b", 1)];
-    let mut number = 7;
-    for (tenant, unit) in owners {
-        log.append(&record_of(alloc, tenant, unit, number)?)?;
-        number = number.wrapping_add(1);
-    }
-    Ok(log)
-}
-
-/// Whether the live records of the unit have these places.
-fn has(
-    alloc: Global,
-    log: &SharedLog<MemoryStore>,
-    tenant: &str,
-    unit: u8,
-    places: &[u64],
-) -> Result<bool, NoMemory> {
-    let own = log.of(alloc, &name(alloc, tenant)?, Unit::new(unit))?;
-    Ok(own.as_slice() == places)
+fn from_outside(alloc: Global) -> Result<Record, Fail> {
+    let begin = Mark {
+        incarnation: 0,
+        index: 0,
+    };
+    receipt(alloc, 0, Source::Outside, None, begin)
 }
 
 #[test]
-fn the_shared_log_lists_the_records_of_each_unit(rt: HostRuntime) -> Result<(), Fail> {
+fn each_record_is_a_line(rt: HostRuntime) -> Result<(), Fail> {
     let alloc = rt.alloc();
-    let log = two_tenants(alloc)?;
-    assert!(rt; has(alloc, &log, "a", 1, &[0, 3, 4])?);
-    assert!(rt; has(alloc, &log, "a", 2, &[1])?);
-    assert!(rt; has(alloc, &log, "b", 1, &[2, 5])?);
-    assert!(rt; has(alloc, &log, "b", 2, &[])?);
+    let mut store = WriterStore::new(alloc, Vec::new(alloc));
+    store.append(&from_unit_0(alloc)?)?;
+    store.append(&from_outside(alloc)?)?;
+    let mut want = String::from_str(alloc, FROM_UNIT_0)?;
+    want.push_str(FROM_OUTSIDE)?;
+    assert!(rt; store.writer().as_slice() == want.as_bytes());
+    assert!(rt; !store.is_closed());
+    assert_eq!(rt; store.fetch(1)?.unit, Unit::new(0));
     Ok(())
 }
 
 #[test]
-fn a_cut_leaves_the_others(rt: HostRuntime) -> Result<(), Fail> {
+fn what_is_forgotten_stays_written(rt: HostRuntime) -> Result<(), Fail> {
     let alloc = rt.alloc();
-    let mut log = two_tenants(alloc)?;
-    log.cut(&name(alloc, "a")?, Unit::new(1), 1);
-    assert!(rt; has(alloc, &log, "a", 1, &[0])?);
-    assert!(rt; has(alloc, &log, "a", 2, &[1])?);
-    assert!(rt; has(alloc, &log, "b", 1, &[2, 5])?);
+    let mut store = WriterStore::new(alloc, Vec::new(alloc));
+    store.append(&from_unit_0(alloc)?)?;
+    store.forget(0);
+    store.append(&from_outside(alloc)?)?;
+    let mut want = String::from_str(alloc, FROM_UNIT_0)?;
+    want.push_str(FROM_OUTSIDE)?;
+    assert!(rt; store.writer().as_slice() == want.as_bytes());
+    assert_eq!(rt; store.fetch(1)?.unit, Unit::new(0));
     Ok(())
 }
 
 #[test]
-fn a_record_after_a_cut_is_listed(rt: HostRuntime) -> Result<(), Fail> {
+fn a_failed_write_closes_the_store(rt: HostRuntime) -> Result<(), Fail> {
     let alloc = rt.alloc();
-    let mut log = two_tenants(alloc)?;
-    log.cut(&name(alloc, "b")?, Unit::new(1), 0);
-    log.append(&record_of(alloc, "b", 1, 13)?)?;
-    assert!(rt; has(alloc, &log, "b", 1, &[6])?);
-    assert!(rt; has(alloc, &log, "a", 1, &[0, 3, 4])?);
+    let room = FROM_UNIT_0.len() + 9;
+    let mut store = WriterStore::new(alloc, FuseWriter::new(alloc, room));
+    store.append(&from_unit_0(alloc)?)?;
+    let second = from_outside(alloc)?;
+    assert_eq!(rt; store.append(&second), Err(StoreFault::Device));
+    assert!(rt; store.is_closed());
+    let mut want = String::from_str(alloc, FROM_UNIT_0)?;
+    want.push_str(r#"{"from":""#)?;
+    assert!(rt; store.writer().bytes() == want.as_bytes());
+    assert_eq!(rt; store.append(&second), Err(StoreFault::Device));
+    assert!(rt; store.writer().bytes() == want.as_bytes());
+    assert_eq!(rt; store.fetch(0)?.unit, Unit::new(1));
     Ok(())
 }
 
 #[test]
-fn the_shared_log_gives_a_record_back(rt: HostRuntime) -> Result<(), Fail> {
+fn a_fuse_store_fails_what_it_is_told_to(rt: HostRuntime) -> Result<(), Fail> {
     let alloc = rt.alloc();
-    let mut log = SharedLog::new(alloc, MemoryStore::new(alloc));
-    log.append(&record_of(alloc, "a", 1, 7)?)?;
-    let logged = log.fetch(0)?;
-    assert_eq!(rt; logged.number, 7);
-    assert!(rt; logged.tenant == name(alloc, "a")?);
+    let bad_appends = [1].to_vec(alloc)?;
+    let bad_fetches = [0].to_vec(alloc)?;
+    let mut store = FuseStore::new(alloc, bad_appends, bad_fetches);
+    let logged = from_outside(alloc)?;
+    store.append(&logged)?;
+    assert_eq!(rt; store.append(&logged), Err(StoreFault::Device));
+    assert_eq!(rt; store.append(&logged), Ok(()));
+    assert!(rt; matches!(store.fetch(0), Err(StoreFault::Device)));
+    assert_eq!(rt; store.fetch(0)?.unit, Unit::new(0));
+    Ok(())
+}
+
+#[test]
+fn a_fuse_store_forgets_without_counting(rt: HostRuntime) -> Result<(), Fail> {
+    let alloc = rt.alloc();
+    let bad_appends = [2].to_vec(alloc)?;
+    let mut store = FuseStore::new(alloc, bad_appends, Vec::new(alloc));
+    store.append(&from_outside(alloc)?)?;
+    store.append(&from_unit_0(alloc)?)?;
+    store.forget(0);
+    assert_eq!(rt; store.fetch(1)?.unit, Unit::new(1));
+    assert_eq!(rt;
+        store.append(&from_outside(alloc)?),
+        Err(StoreFault::Device)
+    );
+    Ok(())
+}
+
+#[test]
+fn the_shared_log_stands_over_each_store(rt: HostRuntime) -> Result<(), Fail> {
+    let alloc = rt.alloc();
+    let logged = from_outside(alloc)?;
+    let mut written = SharedLog::new(alloc, WriterStore::new(alloc, Vec::new(alloc)));
+    written.append(&logged)?;
+    let mut kept = SharedLog::new(alloc, MemoryStore::new(alloc));
+    kept.append(&logged)?;
+    assert!(rt; written.of(&logged.tenant, logged.unit) == [0].as_slice());
+    assert!(rt; kept.of(&logged.tenant, logged.unit) == [0].as_slice());
     Ok(())
 }

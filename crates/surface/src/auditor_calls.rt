@@ -3,7 +3,7 @@ use audit::Verdict;
 use book::Book;
 use handler::Sample;
 use model::{Flaw, Kind, Move, NoMemory, Quota, Seat, Step, TenantName, Text, Texts, Unit};
-use stable_log::MemoryStore;
+use shared_log::MemoryStore;
 use std::alloc::Global;
 use std::test::Fail;
 

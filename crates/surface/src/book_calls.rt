@@ -6,7 +6,7 @@ use handler::Sample;
 use model::{
     End, Mark, Quota, Refusal, Reply, Row, Said, Start, Step, TenantName, Text, Texts, Unit, Who,
 };
-use stable_log::MemoryStore;
+use shared_log::MemoryStore;
 use std::alloc::Global;
 use std::test::Fail;
 

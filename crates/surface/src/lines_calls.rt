@@ -1,7 +1,7 @@
 use lines::{Counted, LineFault, ServeFault, fault_reply, memory_aside, put_reply, read_feed, read_step, serve, write_reply};
 use book::Book;
 use handler::Sample;
-use stable_log::MemoryStore;
+use shared_log::MemoryStore;
 use std::io;
 use std::io::{BufRead, ErrorKind, Read, Write};
 use std::test::Fail;

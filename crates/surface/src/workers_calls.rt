@@ -11,7 +11,7 @@ use ident::Kind;
 use model::{
     Mark, NoMemory, Quota, Record, Reply, Seat, Source, Step, TenantName, Text, Texts, Unit, Who,
 };
-use stable_log::{MemoryStore, Store, StoreFault};
+use shared_log::{MemoryStore, Store, StoreFault};
 use std::alloc::Global;
 use std::hint;
 use std::sync::atomic::{AtomicBool, Ordering};
@@ -212,6 +212,10 @@ impl<'a> Store for Telling<'a> {
 
     fn fetch(&mut self, place: u64) -> Result<Record, StoreFault> {
         self.inner.fetch(place)
+    }
+
+    fn forget(&mut self, place: u64) {
+        self.inner.forget(place);
     }
 }
 

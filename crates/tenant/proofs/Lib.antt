@@ -4,3 +4,4 @@ pub mod Receipts
 pub mod GoingBack
 pub mod Letters
 pub mod Certificates
+mod Logs

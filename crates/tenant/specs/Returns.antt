@@ -1,5 +1,5 @@
 -- What going back gives, once the store was asked for the records that it needs.
-use Rattle.std.specs.Prelude.{◌≡◌, ◌≤◌, ◌⊎◌, ◌++◌, ℕ, List, [], length, take, slice_get, Some}
+use Rattle.std.specs.Prelude.{◌≡◌, ◌≤◌, ◌⊎◌, ℕ, List, [], length, take, slice_get, Some}
 use Rattle.model.specs.Failures.{HasRisen}
 use Rattle.model.specs.Steps.{gone_back}
 use Rattle.model.specs.World.{World, Member}
@@ -10,7 +10,7 @@ use Rattle.model.specs.declared.replies.End.TheVariants.{Device}
 use Rattle.model.specs.declared.replies.Reply.{Reply}
 use Rattle.model.specs.declared.replies.Reply.TheVariants.{Refused}
 use Rattle.model.specs.declared.replies.Said.{Said}
-use Rattle.stable_log.specs.Logged.{Logged}
+use Rattle.shared_log.specs.Logged.{Grows, Logged}
 use Rattle.tenant.specs.declared.answer.Answer.{Answer}
 use Rattle.tenant.specs.Outcomes.{quiet}
 
@@ -33,9 +33,9 @@ pub record Failed (w : World) (a : Answer) (v : World) : Type 0 where
 abbrev pub Returns : World → ℕ → Start → Reply → Answer → World → Type 0
 Returns w unit start given a v = Went w unit start given a v ⊎ Failed w a v
 
--- the log has the records that it had
+-- the log took nothing, and may have forgotten some of its records
 abbrev pub GivenNone : Said → Logged → Logged → Type 0
-GivenNone said before after = (grown : List Record) × (after.records ≡ before.records ++ grown) × (said.appended ≡ 0) × (grown ≡ [])
+GivenNone said before after = (grown : List Record) × Grows before.records grown after.records × (said.appended ≡ 0) × (grown ≡ [])
 
 -- the device is said to have failed only where it did
 abbrev pub IsTrueOfDevice : Said → Logged → Logged → Type 0

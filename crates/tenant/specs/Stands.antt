@@ -1,5 +1,5 @@
 -- What the crates above may use of a tenant.
-use Rattle.std.specs.Prelude.{◌≡◌, ◌++◌, ℕ, List, Option, Some, None, option_map, slice_get}
+use Rattle.std.specs.Prelude.{◌≡◌, ℕ, List, Option, Some, None, option_map, slice_get}
 use Rattle.model.specs.declared.names.Quota.{Quota}
 use Rattle.model.specs.declared.records.Record.{Record}
 use Rattle.model.specs.declared.replies.End.TheVariants.{Device}
@@ -12,33 +12,34 @@ use Rattle.model.specs.Handler.{Meaning}
 use Rattle.model.specs.Records.{IsHonest}
 use Rattle.model.specs.Steps.{open_new}
 use Rattle.model.specs.World.{World}
-use Rattle.stable_log.specs.Logged.{Logged}
+use Rattle.shared_log.specs.Logged.{Grows, Logged}
 use Rattle.tenant.specs.Outcomes.{done}
 
 -- what a tenant is seen as
 abbrev pub Kept : Type 0 → Type 0
 Kept S = World
 
--- The tenant of this name stands for the world, where the log has these records.
+-- The tenant of this name stands for the world, where the log has these records, with empty places for those that
+-- were forgotten.
 -- The plain tenant keeps the world itself.
-abbrev pub Stands : {S : Type 0} → Meaning S → List ℕ → Kept S → World → List Record → Type 0
+abbrev pub Stands : {S : Type 0} → Meaning S → List ℕ → Kept S → World → List (Option Record) → Type 0
 Stands M name k w records = k ≡ w
 
 -- the tenant, if there is one, stands for the world, if there is one
-abbrev pub StandsAt : {S : Type 0} → Meaning S → List ℕ → Option (Kept S) → Option World → List Record → Type 0
+abbrev pub StandsAt : {S : Type 0} → Meaning S → List ℕ → Option (Kept S) → Option World → List (Option Record) → Type 0
 StandsAt M name None None records = Unit {0}
 StandsAt M name None (Some w) records = ⊥
 StandsAt M name (Some k) None records = ⊥
 StandsAt M name (Some k) (Some w) records = Stands M name k w records
 
--- What the store said during a step is honest: the log grew by just the records that the definitions name,
--- and the device is said to have failed only where it did.
+-- What the store said during a step is honest: the log grew by just the records that the definitions name
+-- (it may have forgotten others), and the device is said to have failed only where it did.
 pub record Logs {S : Type 0} (M : Meaning S) (name : List ℕ) (w : World) (step : TenantStep) (said : Said) (before after : Logged) : Type 0 where
-  pub honest : (grown : List Record) × (after.records ≡ before.records ++ grown) × IsHonest M name w step said grown
+  pub honest : (grown : List Record) × Grows before.records grown after.records × IsHonest M name w step said grown
   pub device : said.end ≡ Device → HasRisen before.failures after.failures
 
 -- the reply to a step of this world is that of the definitions for what the store said, and the tenant stands for the world after it
-abbrev pub Steps : {S : Type 0} → Meaning S → List ℕ → World → Kept S → TenantStep → Said → Reply → List Record → Type 0
+abbrev pub Steps : {S : Type 0} → Meaning S → List ℕ → World → Kept S → TenantStep → Said → Reply → List (Option Record) → Type 0
 Steps M name w k step said answer records = (z : World) × (step_open M w step said ≡ done answer z) × Stands M name k z records
 
 -- a step of this world was done
@@ -49,7 +50,7 @@ pub record Did {S : Type 0} (M : Meaning S) (name : List ℕ) (w : World) (k : K
 -- a tenant was opened with these, or not
 abbrev pub IsOpened : {S : Type 0} → Meaning S → List (List ℕ) → Quota → ℕ → Reply → Option (Kept S) → Type 0
 IsOpened M kinds quota optimism answer t = (z : Option World) × (open_new M kinds quota optimism ≡ record { reply = answer; world = z })
-    × ((name : List ℕ) (records : List Record) → StandsAt M name t z records)
+    × ((name : List ℕ) (records : List (Option Record)) → StandsAt M name t z records)
 
 -- what a unit of the world has released, if the unit is there
 abbrev pub released_in : World → ℕ → Option (List (List ℕ))

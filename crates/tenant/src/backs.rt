@@ -1,11 +1,12 @@
 //! The steps `restart` and `notice`.
 
-ghost use Rattle.std.specs.Prelude.{◌≡◌, ◌<◌, ◌≤◌, ◌-◌, ◌+◌, ◌^◌, ◌∷◌, [], ◌++◌, All, IfOk, IfNone, OnOk, OnErr, length, take, drop, slice_get, slice_set, Some, not};
+ghost use Rattle.std.specs.Prelude.{◌≡◌, ◌<◌, ◌≤◌, ◌-◌, ◌+◌, ◌^◌, ◌∷◌, [], ◌++◌, IfOk, IfNone, OnOk, OnErr, length, take, drop, slice_get, slice_set, Some, not};
 ghost use Rattle.std.specs.List.{take_while};
 ghost use Rattle.model.specs.Failures.{HasRisen};
 ghost use Rattle.model.specs.Steps.{restart as restart_of, notice as notice_of, going_back_tests, gone_back, back_at, with_known, with_member, first_refusal};
 ghost use Rattle.model.specs.World.{Member as MemberOf, is_orphan as is_orphan_of, incarnation_of};
 ghost use Rattle.model.specs.declared.refusals.Refusal.TheVariants.{Up};
+ghost use Rattle.shared_log.specs.Logged.{Grows};
 ghost use Rattle.tenant.specs.Outcomes.{done, quiet};
 ghost use Rattle.tenant.specs.Returns.{GivenNone, IsTrueOfDevice, Returns};
 
@@ -15,7 +16,7 @@ use graph::{Member, pasts};
 use handler::Handler;
 use ident::MAX_INCARNATION;
 use model::{NoMemory, Refusal, Reply, Row, Start, TenantName, Unit};
-use stable_log::{SharedLog, Store, StoreFault};
+use shared_log::{SharedLog, Store, StoreFault};
 use std::alloc::Global;
 
 fn cut_member(members: &mut Vec<Member>, i: usize, kept: usize, known: usize)
@@ -39,20 +40,25 @@ fn learn(members: &mut Vec<Member>, i: usize, known: usize)
     member.known = known;
 }
 
-/// Asks the store for the records of these places, from the first of them to before the last, in
-/// order, until one fails.
+/// Asks the store for the unit's records, from the first of these positions in its list to before
+/// the last, in order, until one fails.
 fn fetch_some<S: Store>(
     log: &mut SharedLog<S>,
-    places: &[u64],
+    name: &TenantName,
+    unit: Unit,
     first: usize,
     last: usize,
 ) -> Result<(), StoreFault>
-    requires { All (λ p. p < length log.old.records) places.now }
     ensures records { log.new.records ≡ log.old.records }
     ensures device { result ≡ Err StoreFault.Device → HasRisen log.old.failures log.new.failures }
 {
-    for i in first..last.min(places.len()) {
-        let _ = log.fetch(places[i])?;
+    for position in first..last {
+        let places = log.of(name, unit);
+        if position >= places.len() {
+            return Ok(());
+        }
+        let place = places[position];
+        let _ = log.fetch(place)?;
     }
     Ok(())
 }
@@ -139,7 +145,6 @@ impl<H: Handler> Tenant<H> {
     /// those past its nearest snapshot.
     fn fetch_kept<S: Store>(
         &self,
-        alloc: Global,
         name: &TenantName,
         unit: Unit,
         kept: usize,
@@ -148,13 +153,13 @@ impl<H: Handler> Tenant<H> {
         ensures records { log.new.records ≡ log.old.records }
         ensures device { result ≡ Err StoreFault.Device → HasRisen log.old.failures log.new.failures }
     {
-        let places = log.of(alloc, name, unit)?;
         let last = kept.saturating_sub(1);
         let first = self.shelves.nearest(unit, last);
-        fetch_some(log, places.as_slice(), first, last)
+        fetch_some(log, name, unit, first, last)
     }
 
-    /// The unit's records and snapshots past this length of its path are given up.
+    /// The unit's records and snapshots past this length of its path are given up, which makes the
+    /// store forget the records.
     fn forget_past<S: Store>(
         &mut self,
         name: &TenantName,
@@ -163,7 +168,7 @@ impl<H: Handler> Tenant<H> {
         log: &mut SharedLog<S>,
     )
         ensures same { self.new ≡ self.old }
-        ensures records { log.new.records ≡ log.old.records }
+        ensures grows { Grows log.old.records [] log.new.records }
         ensures failures { log.new.failures ≡ log.old.failures }
     {
         self.shelves.cut(unit, kept);
@@ -172,6 +177,7 @@ impl<H: Handler> Tenant<H> {
 
     /// The unit goes back to where its next incarnation starts, if the store gives the records that
     /// this needs.
+    #[tactic(auto, using(shared_log::proofs::LeftLaws::same_grows))]
     fn return_to<S: Store>(
         &mut self,
         alloc: Global,
@@ -191,7 +197,7 @@ impl<H: Handler> Tenant<H> {
         ensures err_log { OnErr result (log.new.records ≡ log.old.records) }
     {
         let kept = start.index as usize;
-        match self.fetch_kept(alloc, name, unit, kept, log) {
+        match self.fetch_kept(name, unit, kept, log) {
             Ok(()) => {}
             Err(StoreFault::Device) => return Ok(Answer::unfetched()),
             Err(StoreFault::NoMemory) => return Err(NoMemory),
@@ -203,6 +209,7 @@ impl<H: Handler> Tenant<H> {
     }
 
     /// A unit that is down goes back to its last interval that is no orphan, and is up again.
+    #[tactic(auto, using(shared_log::proofs::LeftLaws::same_grows))]
     pub(crate) fn restart<S: Store>(
         &mut self,
         alloc: Global,
@@ -241,6 +248,7 @@ impl<H: Handler> Tenant<H> {
 
     /// A unit that is up learns the rows, and goes back where its path has an orphan. Only then is
     /// the store asked.
+    #[tactic(auto, using(shared_log::proofs::LeftLaws::same_grows))]
     pub(crate) fn notice<S: Store>(
         &mut self,
         alloc: Global,

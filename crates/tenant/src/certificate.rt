@@ -1,6 +1,6 @@
 //! The certificate of what was released: a run without failures.
 
-ghost use Rattle.std.specs.Prelude.{◌≡◌, ◌<◌, ◌++◌, ℕ, List, IfOk, OnOk, length, map, take};
+ghost use Rattle.std.specs.Prelude.{◌≡◌, ◌<◌, ◌++◌, ℕ, List, Option, IfOk, OnOk, length, map, take};
 ghost use Rattle.model.specs.FailureFree.{certificate as certificate_of, move_at, move_of, opening_seats as opening_seats_of, opening_units};
 ghost use Rattle.model.specs.Nodes.{node_at as node_of};
 ghost use Rattle.model.specs.World.{World};
@@ -92,7 +92,7 @@ impl<H: Handler> Tenant<H> {
 
     /// The seats that the tenant was opened with, unit 0 first.
     pub fn opening_seats(&self, alloc: Global) -> Result<Vec<Seat>, NoMemory>
-        ensures { IfOk result (λ seats. (name : List ℕ) (w : World) (records : List Record) → Stands H.meaning name self.now w records → seats.items ≡ opening_seats_of w) }
+        ensures { IfOk result (λ seats. (name : List ℕ) (w : World) (records : List (Option Record)) → Stands H.meaning name self.now w records → seats.items ≡ opening_seats_of w) }
     {
         let seats = first_seats(alloc, self.members.as_slice(), self.opening_count())?;
         Ok(seats)
@@ -102,7 +102,7 @@ impl<H: Handler> Tenant<H> {
     /// failures, whose outputs begin with what was released. It takes time by the square of the
     /// history.
     pub fn certificate(&self, alloc: Global) -> Result<Vec<Move>, NoMemory>
-        ensures { IfOk result (λ moves. (name : List ℕ) (w : World) (records : List Record) → Stands H.meaning name self.now w records → moves.items ≡ certificate_of w) }
+        ensures { IfOk result (λ moves. (name : List ℕ) (w : World) (records : List (Option Record)) → Stands H.meaning name self.now w records → moves.items ≡ certificate_of w) }
     {
         self.firm_moves(alloc)
     }

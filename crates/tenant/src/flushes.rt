@@ -9,6 +9,7 @@ ghost use Rattle.model.specs.World.{Member as MemberOf, executed, source_of, tex
 ghost use Rattle.model.specs.declared.replies.End.TheVariants.{Whole, Device};
 ghost use Rattle.model.specs.declared.records.Record.{Record as RecordOf};
 ghost use Rattle.graph.specs.Causes.{cause_of};
+ghost use Rattle.shared_log.specs.Logged.{Grows};
 ghost use Rattle.tenant.specs.Outcomes.{done};
 
 use crate::answer::Answer;
@@ -16,7 +17,7 @@ use crate::tenant::Tenant;
 use graph::{Cause, Member, Message, Node, reads, vectors};
 use handler::Handler;
 use model::{End, Letter, NoMemory, Record, Refusal, Reply, Said, Source, TenantName, Text, Unit};
-use stable_log::{SharedLog, Store, StoreFault};
+use shared_log::{SharedLog, Store, StoreFault};
 use std::alloc::Global;
 
 fn flush_reply(end: End, count: u64) -> Reply
@@ -130,7 +131,7 @@ impl<H: Handler> Tenant<H> {
         place: usize,
         log: &mut SharedLog<S>,
     ) -> Result<(), End>
-        ensures ok { OnOk result (log.new.records ≡ log.old.records ++ record_at H.meaning tenant.now self.now place ∷ []) }
+        ensures ok { OnOk result (log.new.records ≡ log.old.records ++ Some (record_at H.meaning tenant.now self.now place) ∷ []) }
         ensures err { OnErr result (log.new.records ≡ log.old.records) }
         ensures end { IfErr result (λ e. e ≡ Whole → ⊥) }
         ensures device { IfErr result (λ e. e ≡ Device → HasRisen log.old.failures log.new.failures) }
@@ -155,7 +156,8 @@ impl<H: Handler> Tenant<H> {
         places: &[usize],
         log: &mut SharedLog<S>,
     ) -> Said
-        ensures log { log.new.records ≡ log.old.records ++ take result.appended (map (record_at H.meaning tenant.now self.now) places.now) }
+        ensures log { log.new.records ≡ log.old.records ++ map Some (take result.appended (map (record_at H.meaning tenant.now self.now) places.now)) }
+        ensures grows { Grows log.old.records (take result.appended (map (record_at H.meaning tenant.now self.now) places.now)) log.new.records }
         ensures within { result.appended ≤ length places.now }
         ensures whole { (result.end ≡ Whole) ↔ (result.appended ≡ length places.now) }
         ensures device { result.end ≡ Device → HasRisen log.old.failures log.new.failures }
@@ -187,6 +189,7 @@ impl<H: Handler> Tenant<H> {
 
     /// Logs the unit's volatile records, from the front. Where there was no memory for the first,
     /// nothing is changed.
+    #[tactic(auto, using(shared_log::proofs::LeftLaws::same_grows))]
     pub(crate) fn flush<S: Store>(
         &mut self,
         alloc: Global,
@@ -196,7 +199,7 @@ impl<H: Handler> Tenant<H> {
     ) -> Result<Answer, NoMemory>
         ensures done { IfOk result (λ a. flush_of self.old unit a.said ≡ done a.reply self.new) }
         ensures kept { IfOk result (λ a. a.kept ≡ a.reply) }
-        ensures honest { IfOk result (λ a. (grown : List RecordOf) × (log.new.records ≡ log.old.records ++ grown) × FlushesUnit H.meaning tenant.now self.old a.said grown (slice_get self.old.members unit)) }
+        ensures honest { IfOk result (λ a. (grown : List RecordOf) × Grows log.old.records grown log.new.records × FlushesUnit H.meaning tenant.now self.old a.said grown (slice_get self.old.members unit)) }
         ensures device { IfOk result (λ a. a.said.end ≡ Device → HasRisen log.old.failures log.new.failures) }
         ensures err { OnErr result (self.new ≡ self.old) }
         ensures err_log { OnErr result (log.new.records ≡ log.old.records) }

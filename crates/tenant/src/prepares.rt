@@ -1,6 +1,6 @@
 //! A step whose turn is worked elsewhere.
 
-ghost use Rattle.std.specs.Prelude.{◌≡◌, IfNone, IfOk, IfSome, OnErr, List, ℕ, false};
+ghost use Rattle.std.specs.Prelude.{◌≡◌, IfNone, IfOk, IfSome, OnErr, List, Option, ℕ, false};
 ghost use Rattle.std.specs.Str.{bytes_eq};
 ghost use Rattle.model.specs.Alone.{step_open};
 ghost use Rattle.model.specs.Steps.{deliver as deliver_of, post as post_of};
@@ -14,7 +14,7 @@ use crate::answer::Answer;
 use crate::tenant::Tenant;
 use handler::{Ask, Done, Handler};
 use model::{Letter, NoMemory, TenantName, TenantStep, Text, Unit};
-use stable_log::{SharedLog, Store};
+use shared_log::{SharedLog, Store};
 use std::alloc::Global;
 
 impl<H: Handler> Tenant<H> {
@@ -27,7 +27,7 @@ impl<H: Handler> Tenant<H> {
         handler: &H,
         step: &TenantStep,
     ) -> Result<Option<Ask<H>>, NoMemory>
-        ensures { IfOk result (λ a. (name : List ℕ) (w : World) (records : List Record) → Stands H.meaning name self.now w records → a ≡ needs H.meaning w step.now) }
+        ensures { IfOk result (λ a. (name : List ℕ) (w : World) (records : List (Option Record)) → Stands H.meaning name self.now w records → a ≡ needs H.meaning w step.now) }
     {
         self.needed(alloc, handler, step)
     }
@@ -113,6 +113,7 @@ impl<H: Handler> Tenant<H> {
 
     /// The step by a turn that was worked, by the definitions of the world that the tenant is seen
     /// as.
+    #[tactic(auto, using(shared_log::proofs::LeftLaws::same_grows))]
     fn work_with<S: Store>(
         &mut self,
         alloc: Global,

@@ -11,11 +11,12 @@ use crate::answer::Answer;
 use crate::tenant::Tenant;
 use handler::Handler;
 use model::{NoMemory, Refusal, TenantName, TenantStep};
-use stable_log::{SharedLog, Store};
+use shared_log::{SharedLog, Store};
 use std::alloc::Global;
 
 impl<H: Handler> Tenant<H> {
     /// The step, by the definitions of the world that the tenant is seen as.
+    #[tactic(auto, using(shared_log::proofs::LeftLaws::same_grows))]
     pub(crate) fn work<S: Store>(
         &mut self,
         alloc: Global,

@@ -7,7 +7,7 @@ ghost use Rattle.workers.specs.Interleaves.{replies_by, reply_by};
 use book::Book;
 use handler::Handler;
 use model::{Entry, NoMemory, Reply, Who};
-use stable_log::Store;
+use shared_log::Store;
 use std::alloc::Global;
 use std::marker::Model;
 

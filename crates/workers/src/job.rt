@@ -5,7 +5,7 @@ use book::{Book, Committed};
 use crossbeam_channel::{Receiver, Sender};
 use handler::Handler;
 use model::{NoMemory, Refusal, Reply, Step, TenantName, Unit, Who};
-use stable_log::Store;
+use shared_log::Store;
 use std::alloc::Global;
 use std::sync::{Mutex, Wait};
 

@@ -2,7 +2,7 @@
 
 ghost use Rattle.std.specs.Prelude.{◌≡◌, ◌<◌, ◌^◌, [], IfOk, length, map, vec_len};
 ghost use denote.Param.Send.{IsSend};
-ghost use Rattle.book.specs.History.{IsRecorded};
+ghost use Rattle.book.specs.History.{IsRecordedIn};
 ghost use Rattle.model.specs.History.{IsLegal};
 ghost use Rattle.workers.specs.Interleaves.{HasReceipts, Interleaves};
 
@@ -15,7 +15,7 @@ use book::Book;
 use crossbeam_channel::Sender;
 use handler::Handler;
 use model::{NoMemory, Reply, Step};
-use stable_log::Store;
+use shared_log::Store;
 use std::alloc::Global;
 use std::sync::{Mutex, Wait};
 use std::thread;
@@ -140,7 +140,7 @@ fn gather<H: Handler, S: Store>(
     requires { length feeds.now < 2 ^ 32 }
     ensures interleaves { IfOk result (λ c. Interleaves (map (λ f. f.items) feeds.now) c.history) }
     ensures legal { IfOk result (λ c. IsLegal H.meaning c.history) }
-    ensures recorded { IfOk result (λ c. IsRecorded H.meaning c.history c.log.records) }
+    ensures recorded { IfOk result (λ c. IsRecordedIn H.meaning c.history c.log.records) }
     ensures same { IfOk result (λ c. c ≡ book) }
     ensures received { IfOk result (λ c. HasReceipts (length feeds.now) (map (λ r. r.items) receipts.now) c.history) }
 {
@@ -182,7 +182,7 @@ pub fn run_feeds<
     requires feeds { vec_len feeds < 2 ^ 32 }
     ensures interleaves { IfOk result (λ c. Interleaves (map (λ f. f.items) feeds.items) c.history) }
     ensures legal { IfOk result (λ c. IsLegal H.meaning c.history) }
-    ensures recorded { IfOk result (λ c. IsRecorded H.meaning c.history c.log.records) }
+    ensures recorded { IfOk result (λ c. IsRecordedIn H.meaning c.history c.log.records) }
 {
     let shared = Mutex::new(Book::new(alloc, handler, store));
     let receipts = do_all(rt, alloc, handler, &shared, feeds.as_slice(), gate)?;

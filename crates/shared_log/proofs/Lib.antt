@@ -1,0 +1,4 @@
+pub mod LeftLaws
+mod Lists
+mod PlacesLaws
+pub mod Tables

@@ -1,0 +1,229 @@
+//! The log of all tenants.
+
+ghost use Rattle.std.specs.Prelude.{◌≡◌, ◌<◌, ◌≤◌, ◌++◌, ◌∷◌, [], All, IfOk, OnOk, OnErr, Some, length, slice_get, take, drop};
+ghost use Rattle.model.specs.Failures.{HasRisen};
+ghost use Rattle.shared_log.specs.Index.{listed, OtherLists, SameLists};
+ghost use Rattle.shared_log.specs.Logged.{places_of, AllKept, OthersKept, IsHeld, Grows, KeepsContents, emptied};
+
+use crate::index::{self, Index};
+use crate::store::{Store, StoreFault};
+use indexmap::IndexMap;
+use model::{Record, TenantName, Unit};
+use std::alloc::Global;
+use std::marker::Model;
+
+/// The one log of all tenants over a store, seen as the records that were acknowledged, with empty
+/// places for those that were forgotten, and the count of the device's failures. A record has its
+/// place, from 0, by the order of acknowledgement. It is live until a `cut` or a `forget` of its
+/// unit takes it, which both make the store forget it.
+///
+/// The places of each unit's live records are kept in memory, by tenant and unit, and nothing else
+/// for each record: no call takes time by the number of all records.
+#[derive(Drop)]
+pub struct SharedLog<S: Store> {
+    alloc: Global,
+    store: S,
+    count: u64,
+    index: Index,
+}
+
+impl<S: Store> Model for SharedLog<S> {
+    ghost use Rattle.std.specs.Prelude.{◌≡◌, ℕ, List, length};
+    ghost use Rattle.shared_log.specs.Index.{listed};
+    ghost use Rattle.shared_log.specs.Logged.{Logged, places_from};
+
+    ghost Value = { Logged };
+
+    ghost view = { λ l. record { records = S.log l.store; failures = S.failures l.store } };
+
+    ghost invariant = { λ l. (l.count ≡ length (S.log l.store)) × ((tenant : List ℕ) (unit : ℕ) → listed l.index tenant unit ≡ places_from tenant unit 0 (S.log l.store)) };
+}
+
+impl<S: Store> SharedLog<S> {
+    /// The log over a store that acknowledged nothing yet. It takes no memory.
+    pub fn new(alloc: Global, store: S) -> SharedLog<S>
+        requires { S.log store ≡ [] }
+        ensures { result ≡ record { records = []; failures = S.failures store } }
+    {
+        SharedLog {
+            alloc,
+            store,
+            count: 0,
+            index: IndexMap::new(alloc),
+        }
+    }
+
+    /// Logs a record, which is live then. The index grows before the store is asked, so that what
+    /// the store acknowledged is always counted.
+    ///
+    /// # Errors
+    ///
+    /// `Device` comes only where the device failed in this call; after an error the records and the
+    /// live ones are as they were.
+    pub fn append(&mut self, logged: &Record) -> Result<(), StoreFault>
+        ensures ok { OnOk result (self.new.records ≡ self.old.records ++ Some logged.now ∷ []) }
+        ensures err { OnErr result (self.new.records ≡ self.old.records) }
+        ensures device { result ≡ Err StoreFault.Device → HasRisen self.old.failures self.new.failures }
+        ensures up { self.old.failures ≤ self.new.failures }
+        ensures own { OnOk result (places_of logged.now.tenant logged.now.unit self.new ≡ places_of logged.now.tenant logged.now.unit self.old ++ length self.old.records ∷ []) }
+        ensures others { OthersKept logged.now.tenant logged.now.unit self.old self.new }
+        ensures kept { OnErr result (AllKept self.old self.new) }
+        ensures grows { OnOk result (Grows self.old.records (logged.now ∷ []) self.new.records) }
+    {
+        append_to(
+            self.alloc,
+            &mut self.store,
+            &mut self.count,
+            &mut self.index,
+            logged,
+        )
+    }
+
+    /// The places of the unit's live records, in the order of acknowledgement. It takes no memory.
+    pub fn of(&self, tenant: &TenantName, unit: Unit) -> &[u64]
+        ensures places { result.now ≡ places_of tenant.now unit self.now }
+        ensures held { All (IsHeld self.now.records) result.now }
+    {
+        index::of(&self.index, tenant, unit)
+    }
+
+    /// Gives the record of a place back, which must be live.
+    ///
+    /// # Errors
+    ///
+    /// `Device` comes only where the device failed in this call, `NoMemory` where the record finds
+    /// no memory. The records and the live ones are as they were in any case.
+    pub fn fetch(&mut self, place: u64) -> Result<Record, StoreFault>
+        requires { IsHeld self.old.records place }
+        ensures found { IfOk result (λ r. slice_get self.old.records place ≡ Some (Some r)) }
+        ensures records { self.new.records ≡ self.old.records }
+        ensures kept { AllKept self.old self.new }
+        ensures device { result ≡ Err StoreFault.Device → HasRisen self.old.failures self.new.failures }
+        ensures up { self.old.failures ≤ self.new.failures }
+    {
+        self.store.fetch(place)
+    }
+
+    /// The unit's live records past the first `keep` are live no more, all of them where `keep` is 0:
+    /// the store forgets them. It takes no memory and cannot fail.
+    pub fn cut(&mut self, tenant: &TenantName, unit: Unit, keep: usize)
+        ensures own { places_of tenant.now unit self.new ≡ take keep (places_of tenant.now unit self.old) }
+        ensures others { OthersKept tenant.now unit self.old self.new }
+        ensures records { self.new.records ≡ emptied (drop keep (places_of tenant.now unit self.old)) self.old.records }
+        ensures grows { Grows self.old.records [] self.new.records }
+        ensures contents { KeepsContents self.old.records self.new.records }
+        ensures failures { self.new.failures ≡ self.old.failures }
+    {
+        cut_in(&mut self.store, &mut self.index, tenant, unit, keep);
+    }
+
+    /// The first `count` of the unit's live records are live no more, all of them where it has no
+    /// more: the store forgets them. It takes no memory and cannot fail.
+    pub fn forget(&mut self, tenant: &TenantName, unit: Unit, count: usize)
+        ensures own { places_of tenant.now unit self.new ≡ drop count (places_of tenant.now unit self.old) }
+        ensures others { OthersKept tenant.now unit self.old self.new }
+        ensures records { self.new.records ≡ emptied (take count (places_of tenant.now unit self.old)) self.old.records }
+        ensures grows { Grows self.old.records [] self.new.records }
+        ensures contents { KeepsContents self.old.records self.new.records }
+        ensures failures { self.new.failures ≡ self.old.failures }
+    {
+        forget_in(&mut self.store, &mut self.index, tenant, unit, count);
+    }
+}
+
+/// Keeps a record in the store, counts it and lists its place. The index grows before the store is
+/// asked; where the store refuses, the place is taken off the list again.
+fn append_to<S: Store>(
+    alloc: Global,
+    store: &mut S,
+    count: &mut u64,
+    index: &mut Index,
+    logged: &Record,
+) -> Result<(), StoreFault>
+    requires { count.old ≡ length (S.log store.old) }
+    ensures ok { OnOk result (S.log store.new ≡ S.log store.old ++ Some logged.now ∷ []) }
+    ensures err { OnErr result (S.log store.new ≡ S.log store.old) }
+    ensures count { count.new ≡ length (S.log store.new) }
+    ensures own { OnOk result (listed index.new logged.now.tenant logged.now.unit ≡ listed index.old logged.now.tenant logged.now.unit ++ count.old ∷ []) }
+    ensures others { OtherLists logged.now.tenant logged.now.unit index.old index.new }
+    ensures same { OnErr result (SameLists index.old index.new) }
+    ensures device { result ≡ Err StoreFault.Device → HasRisen (S.failures store.old) (S.failures store.new) }
+    ensures up { S.failures store.old ≤ S.failures store.new }
+{
+    let Some(next) = count.checked_add(1) else {
+        return Err(StoreFault::NoMemory);
+    };
+    let had = index::of(index, &logged.tenant, logged.unit).len();
+    index::add(alloc, index, &logged.tenant, logged.unit, *count)?;
+    match store.append(logged) {
+        Ok(()) => {
+            *count = next;
+            Ok(())
+        }
+        Err(fault) => {
+            index::cut(index, &logged.tenant, logged.unit, had);
+            Err(fault)
+        }
+    }
+}
+
+/// The items past the first `keep`.
+fn past(places: &[u64], keep: usize) -> &[u64]
+    ensures { result.now ≡ drop keep places.now }
+{
+    if keep >= places.len() {
+        return &[];
+    }
+    &places[keep..]
+}
+
+/// The first `count` items, or all where there are no more.
+fn first(places: &[u64], count: usize) -> &[u64]
+    ensures { result.now ≡ take count places.now }
+{
+    if count >= places.len() {
+        return places;
+    }
+    &places[..count]
+}
+
+/// Makes the store forget the records of these places.
+fn forget_all<S: Store>(store: &mut S, places: &[u64])
+    requires { All (λ p. p < length (S.log store.old)) places.now }
+    ensures emptied { S.log store.new ≡ emptied places.now (S.log store.old) }
+    ensures failures { S.failures store.new ≡ S.failures store.old }
+{
+    for place in places {
+        store.forget(*place);
+    }
+}
+
+/// Makes the store forget the records of a unit past the first `keep`, and takes them off its list.
+fn cut_in<S: Store>(store: &mut S, index: &mut Index, tenant: &TenantName, unit: Unit, keep: usize)
+    requires { All (λ p. p < length (S.log store.old)) (listed index.old tenant.now unit) }
+    ensures emptied { S.log store.new ≡ emptied (drop keep (listed index.old tenant.now unit)) (S.log store.old) }
+    ensures own { listed index.new tenant.now unit ≡ take keep (listed index.old tenant.now unit) }
+    ensures others { OtherLists tenant.now unit index.old index.new }
+    ensures failures { S.failures store.new ≡ S.failures store.old }
+{
+    forget_all(store, past(index::of(index, tenant, unit), keep));
+    index::cut(index, tenant, unit, keep);
+}
+
+/// Makes the store forget the first records of a unit, and takes them off its list.
+fn forget_in<S: Store>(
+    store: &mut S,
+    index: &mut Index,
+    tenant: &TenantName,
+    unit: Unit,
+    count: usize,
+)
+    requires { All (λ p. p < length (S.log store.old)) (listed index.old tenant.now unit) }
+    ensures emptied { S.log store.new ≡ emptied (take count (listed index.old tenant.now unit)) (S.log store.old) }
+    ensures own { listed index.new tenant.now unit ≡ drop count (listed index.old tenant.now unit) }
+    ensures others { OtherLists tenant.now unit index.old index.new }
+    ensures failures { S.failures store.new ≡ S.failures store.old }
+{
+    forget_all(store, first(index::of(index, tenant, unit), count));
+    index::forget(index, tenant, unit, count);
+}

@@ -1,8 +1,0 @@
-use Rattle.std.proofs.Common.{◌∙◌, ap}
-use Rattle.stable_log.specs.Logged.{Logged}
-use Rattle.stable_log.proofs.PlacesLaws.{kept_same}
-use Rattle.stable_log.proofs.shared_log.SharedLog.fetch.Goals as goal
-
-pub returns-clause-kept : goal.returns-clause-kept
-returns-clause-kept g c =
-    kept_same c.args.self.now _ (c.fetch.ensures.same ∙ ap (λ (l : Logged). l.records) c.self.view_is) (ap (λ (l : Logged). l.live) c.self.view_is)

@@ -1,7 +1,0 @@
-use Rattle.std.proofs.Common.{◌≡◌, ◌++◌, drop}
-use Rattle.stable_log.specs.Slots.{slot_places}
-use Rattle.stable_log.proofs.slots.places.Given as goal
-
--- the places so far and those of the rest are those of all
-abbrev pub invariant-loop-at : goal.invariant-loop-at
-invariant-loop-at l = l.places.items ++ slot_places l.tenant l.unit l.at (drop l.at l.slots) ≡ slot_places l.tenant l.unit 0 l.slots
