@@ -17,6 +17,3 @@ pub use fuse_store::FuseStore;
 pub use fuse_writer::FuseWriter;
 pub use shared_log::{MemoryStore, SharedLog, Store, StoreFault};
 pub use writer_store::WriterStore;
-
-#[cfg(test)]
-mod tests;

@@ -1,8 +1,7 @@
 //! The public calls of the crates, each called once on its happy path, and what no clause says: printed
 //! texts, want of memory, readers and writers that fail, feeds that work at once.
 //!
-//! They stand in one crate since a crate with tests is proved twice. `rows` has the worked rows, and the
-//! crates that have tests of their own keep those that need what is private to them.
+//! They stand in one crate since a crate with tests is proved twice. `rows` has the worked rows.
 #![tactic(auto)]
 
 #[cfg(test)]
@@ -29,6 +28,12 @@ mod lines_calls;
 mod orphan_calls;
 #[cfg(test)]
 mod output_commit_calls;
+#[cfg(test)]
+mod shared_log_calls;
+#[cfg(test)]
+mod stable_log_calls;
+#[cfg(test)]
+mod whole_runs;
 #[cfg(test)]
 mod workers_calls;
 #[cfg(test)]

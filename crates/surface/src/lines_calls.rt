@@ -17,7 +17,7 @@ fn book(rt: &HostRuntime) -> Book<Sample, MemoryStore> {
 }
 
 /// What a new book's replies to this input are.
-fn served(rt: &HostRuntime, input: &[u8]) -> Result<String, Fail> {
+pub(crate) fn served(rt: &HostRuntime, input: &[u8]) -> Result<String, Fail> {
     let mut reader = Counted::new(input);
     let mut writer = Counted::new(Vec::new(rt.alloc()));
     serve(rt.alloc(), &mut reader, &mut writer, &mut book(rt))?;

@@ -1,4 +1,4 @@
-use super::*;
+use shared_log::{MemoryStore, Records, SharedLog, Store, StoreFault};
 use model::{Letter, Mark, Marks, NoMemory, Record, Source, TenantName, Text, Unit};
 use std::alloc::Global;
 use std::test::Fail;

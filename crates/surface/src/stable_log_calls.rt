@@ -1,4 +1,4 @@
-use super::*;
+use stable_log::{FuseStore, FuseWriter, MemoryStore, SharedLog, Store, StoreFault, WriterStore};
 use model::{Letter, Mark, Marks, Record, Source, TenantName, Text, Unit};
 use std::alloc::Global;
 use std::test::Fail;
