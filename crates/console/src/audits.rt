@@ -5,7 +5,7 @@ use book::Book;
 use handler::Sample;
 use log::{Log, error};
 use model::{NoMemory, TenantName};
-use shared_log::Store;
+use stable_log::Store;
 use std::alloc::Global;
 use std::io::Write;
 

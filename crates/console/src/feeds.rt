@@ -8,7 +8,7 @@ use ident::MAX_FEEDS;
 use lines::{Counted, ServeFault, fault_reply, put_reply, read_feed};
 use log::{Log, error};
 use model::{NoMemory, Reply, Step};
-use shared_log::MemoryStore;
+use stable_log::MemoryStore;
 use std::alloc::Global;
 use std::io::{BufReader, BufWriter, Read, Write};
 use std::sync::Wait;

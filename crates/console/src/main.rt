@@ -18,13 +18,12 @@ use log::sink::Console;
 use log::{LevelFilter, Logged, error};
 use log_file::LogFile;
 use run::run_on;
-use shared_log::{MemoryStore, Store};
+use stable_log::{MemoryStore, Store, WriterStore};
 use std::fs::{File, Files};
 use std::io;
 use std::process::ExitCode;
 use std::sync::Wait;
 use std::thread::Threads;
-use stable_log::WriterStore;
 use words::{Asked, FeedsWords, RunWords, read_words};
 
 fn main(rt: HostRuntime) -> io::Result<ExitCode> {

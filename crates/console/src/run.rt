@@ -7,7 +7,7 @@ use book::Book;
 use handler::Sample;
 use lines::{Counted, ServeFault, serve};
 use log::{Log, error};
-use shared_log::Store;
+use stable_log::Store;
 use std::alloc::Global;
 use std::io::{BufReader, BufWriter, Read, Write};
 

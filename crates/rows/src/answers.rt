@@ -4,7 +4,7 @@ use book::Book;
 use handler::Sample;
 use lines::{fault_reply, read_step, write_reply};
 use model::{Reply, Step};
-use shared_log::Store;
+use stable_log::Store;
 use std::alloc::Global;
 
 /// The reply to a line.

@@ -8,9 +8,8 @@ use crate::answers::{answer, push_reply};
 use book::Book;
 use handler::Sample;
 use model::{Refusal, Reply};
-use shared_log::Store;
+use stable_log::{FuseStore, FuseWriter, Store, WriterStore};
 use std::alloc::Global;
-use stable_log::{FuseStore, FuseWriter, WriterStore};
 
 type Books = Book<Sample, FuseStore>;
 

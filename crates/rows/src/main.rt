@@ -19,7 +19,7 @@ use book::Book;
 use failing::{failed, survives_each};
 use handler::Sample;
 use lines::{Counted, serve};
-use shared_log::MemoryStore;
+use stable_log::MemoryStore;
 use std::alloc::Global;
 use std::fs;
 use turned::turned;

@@ -9,7 +9,7 @@ use anyhow::bail;
 use book::{Book, Committed};
 use handler::{Done, Sample};
 use model::Who;
-use shared_log::MemoryStore;
+use stable_log::MemoryStore;
 use std::alloc::Global;
 
 type Books = Book<Sample, MemoryStore>;

@@ -1,7 +1,7 @@
 //! Stable storage: the shared log, and all stores that it may stand over.
 //!
-//! - `Store`, `StoreFault`, `MemoryStore`, `SharedLog`: of the crate `shared_log` below, which the
-//!   tenant stands on, so that an edit of a line's form doesn't prove the tenant again.
+//! - `Store`, `StoreFault`, `MemoryStore`, `Records`, `SharedLog`: of the crate `shared_log` below,
+//!   which the tenant stands on, so that an edit of a line's form doesn't prove the tenant again.
 //! - `WriterStore`: keeps its records, and writes a line of JSON for each, for people to read.
 //! - `FuseStore`: fails the appends and fetches that it is told to, for tests.
 //! - `FuseWriter`: takes some bytes and then fails, for tests.
@@ -15,5 +15,5 @@ mod writer_store;
 
 pub use fuse_store::FuseStore;
 pub use fuse_writer::FuseWriter;
-pub use shared_log::{MemoryStore, SharedLog, Store, StoreFault};
+pub use shared_log::{MemoryStore, Records, SharedLog, Store, StoreFault};
 pub use writer_store::WriterStore;

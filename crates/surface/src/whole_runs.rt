@@ -8,7 +8,7 @@ use model::{
     Flaw, Kind, Move, NoMemory, Quota, Refusal, Reply, Seat, TenantName, TenantStep, Text, Texts,
     Unit,
 };
-use shared_log::{MemoryStore, SharedLog};
+use stable_log::{MemoryStore, SharedLog};
 use std::alloc::Global;
 use std::test::Fail;
 use tenant::Tenant;
