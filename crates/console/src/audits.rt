@@ -23,8 +23,10 @@ pub(crate) fn audit_all<L: Log, W: Write, S: Store>(
     };
     let mut status = 0;
     for name in names {
-        if !audit_one(rt, alloc, writer, book, name) {
-            status = 1;
+        match audit_one(rt, alloc, writer, book, name) {
+            Some(true) => {}
+            Some(false) => status = 1,
+            None => return 1,
         }
     }
     if writer.flush().is_err() {
@@ -44,26 +46,27 @@ fn sorted_names<S: Store>(alloc: Global, book: &Book<Sample, S>) -> Result<Vec<S
     Ok(names)
 }
 
-/// Writes the audit line of a tenant, and tells whether it is out and says yes.
+/// Writes the audit line of a tenant, and tells whether it says yes; none where it isn't out, and none
+/// can follow.
 fn audit_one<L: Log, W: Write, S: Store>(
     rt: &L,
     alloc: Global,
     writer: &mut W,
     book: &Book<Sample, S>,
     name: String,
-) -> bool {
+) -> Option<bool> {
     let Some(tenant) = TenantName::new(name) else {
         error!(rt; "a tenant has no name: it is not audited");
-        return false;
+        return Some(false);
     };
     let outcome = audit_tenant(alloc, &Sample, book, &tenant);
     let Ok(mut line) = audit_line(alloc, &tenant, &outcome) else {
-        error!(rt; "there is no memory for an audit line: it is missing");
-        return false;
+        error!(rt; "there is no memory for an audit line: the audit ends");
+        return None;
     };
     if line.push('\n').is_err() || writer.write_all(line.as_bytes()).is_err() {
-        error!(rt; "an audit line can't be written: it is missing");
-        return false;
+        error!(rt; "an audit line can't be written: the audit ends");
+        return None;
     }
-    outcome.is_ok()
+    Some(outcome.is_ok())
 }

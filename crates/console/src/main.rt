@@ -4,41 +4,65 @@
 //! - `run`: `recall run`, thin over `lines::serve`, which carries the theorem;
 //! - `feeds`: `recall feeds`, thin over `workers::run_feeds`, which carries its own;
 //! - `log_file`: the file of `--log`, thin over `stable_log::WriterStore`, which carries its own;
-//! - `audits`: the audit lines, thin over `auditor::audit_tenant`, which carries its own.
+//! - `audits`: the audit lines, thin over `auditor::audit_tenant`, which carries its own;
+//! - `complaints`: what goes to standard error.
 #![tactic(auto)]
 
 mod audits;
+mod complaints;
 mod feeds;
 mod log_file;
 mod run;
 mod words;
 
+use complaints::Complaints;
 use feeds::feeds_on;
-use log::sink::Console;
 use log::{LevelFilter, Logged, error};
 use log_file::LogFile;
 use run::run_on;
 use stable_log::{MemoryStore, Store, WriterStore};
 use std::fs::{File, Files};
 use std::io;
+use std::io::ErrorKind;
 use std::process::ExitCode;
 use std::sync::Wait;
 use std::thread::Threads;
 use words::{Asked, FeedsWords, RunWords, read_words};
 
-fn main(rt: HostRuntime) -> io::Result<ExitCode> {
-    let words: Vec<String> = std::env::args(&rt)?.collect(rt.alloc())?;
-    let status = match read_words(&rt, words.as_slice()) {
-        Asked::Run(run) => run_as_asked(&rt, &run),
-        Asked::Feeds(feeds) => feeds_as_asked(&rt, &feeds),
-        Asked::Ended(status) => status,
+fn main(rt: HostRuntime) -> ExitCode {
+    let status = match words_of(&rt) {
+        Ok(words) => match read_words(&rt, words.as_slice()) {
+            Asked::Run(run) => run_as_asked(&rt, &run),
+            Asked::Feeds(feeds) => feeds_as_asked(&rt, &feeds),
+            Asked::Ended(status) => status,
+        },
+        Err(error) => {
+            let told = Logged::new(&rt, LevelFilter::Warn, Complaints(&rt));
+            let (why, status) = bad_words(&error);
+            error!(&told; "{why}");
+            status
+        }
     };
-    Ok(ExitCode::from(status))
+    ExitCode::from(status)
+}
+
+/// The words of the command line, the program's name among them.
+fn words_of(rt: &HostRuntime) -> io::Result<Vec<String>> {
+    Ok(std::env::args(rt)?.collect(rt.alloc())?)
+}
+
+/// Why the words can't be read, and the status to end with: 1 where there is no memory, 2 where one is bad.
+fn bad_words(error: &io::Error) -> (&'static str, u8) {
+    if error.kind() == ErrorKind::InvalidData {
+        ("a word is not UTF-8: see `recall --help`", 2)
+    } else {
+        ("there is no memory for the words: free some, and run again", 1)
+    }
 }
 
 /// `recall run`: with a log that is written, where a file is named for it, or with one in memory.
 fn run_as_asked(rt: &HostRuntime, run: &RunWords<'_>) -> u8 {
-    let logged = Logged::new(rt, LevelFilter::Warn, Console(rt));
+    let logged = Logged::new(rt, LevelFilter::Warn, Complaints(rt));
     let alloc = rt.alloc();
     let Some(path) = run.log else {
         let store = MemoryStore::new(alloc);
@@ -51,9 +75,12 @@ fn run_as_asked(rt: &HostRuntime, run: &RunWords<'_>) -> u8 {
             run.audit,
         );
     };
-    let Ok(file) = File::create(rt, path) else {
-        error!(&logged; "the log can't be made at {path}: name a file that can be written");
-        return 1;
+    let file = match File::create(rt, path) {
+        Ok(file) => file,
+        Err(error) => {
+            error!(&logged; "can't make the log {path}: {error}");
+            return 1;
+        }
     };
     let store = WriterStore::new(alloc, LogFile::new(&logged, file));
     run_on(
@@ -71,13 +98,16 @@ fn feeds_as_asked<R: Threads + Wait + Sync + Files + Print + Eprint + AllocGloba
     rt: &R,
     feeds: &FeedsWords<'_>,
 ) -> u8 {
-    let told = Logged::new(rt, LevelFilter::Warn, Console(rt));
+    let told = Logged::new(rt, LevelFilter::Warn, Complaints(rt));
     let alloc = rt.alloc();
     let mut inputs = Vec::new(alloc);
     for path in &feeds.files {
-        let Ok(file) = File::open(rt, *path) else {
-            error!(&told; "the feed {path} can't be opened: name files that can be read");
-            return 1;
+        let file = match File::open(rt, *path) {
+            Ok(file) => file,
+            Err(error) => {
+                error!(&told; "can't open {path}: {error}");
+                return 1;
+            }
         };
         if inputs.push(file).is_err() {
             error!(&told; "there is no memory for the feeds: no step is done");

@@ -42,10 +42,14 @@ const LOG: &str = "log";
 /// The files of the feeds.
 const FILE: &str = "FILE";
 
+/// The version of the program.
+const VERSION: &str = "0.1.0";
+
 const EXAMPLE: &str =
     "Example:\n  printf '%s\\n' '{\"do\":\"open\",\"tenant\":\"a\",\"units\":[\"echo\"]}' | recall run";
 
-/// Reads the words, and prints help or what is wrong with them.
+/// Reads the words, and prints help or what is wrong with them. Help that can't be written is an output
+/// fault, of status 1.
 pub(crate) fn read_words<'a, R: Print + Eprint + AllocGlobal>(
     rt: &R,
     words: &'a [String],
@@ -54,13 +58,15 @@ pub(crate) fn read_words<'a, R: Print + Eprint + AllocGlobal>(
         Ok(asked) => asked,
         Err(error) => {
             let status = status_of(&error);
-            let _ = error.print(rt);
-            Asked::Ended(status)
+            match error.print(rt) {
+                Ok(()) => Asked::Ended(status),
+                Err(_) => Asked::Ended(status.max(1)),
+            }
         }
     }
 }
 
-/// 0 where help was asked for, 1 where there was no memory, 2 where the words are bad.
+/// 0 where help or the version was asked for, 1 where there was no memory, 2 where the words are bad.
 fn status_of(error: &Error) -> u8 {
     match error.kind() {
         ErrorKind::OutOfMemory => 1,
@@ -126,6 +132,7 @@ fn read_command<'a, R: AllocGlobal>(rt: &R, words: &'a [String]) -> Result<Asked
         .no_binary_name(true)
         .bin_name("recall")?
         .about("A multi-tenant optimistic recovery runtime")
+        .version(VERSION)
         .after_help(EXAMPLE)
         .subcommand_required(true)
         .subcommand(run_command(alloc)?)?
