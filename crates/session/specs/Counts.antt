@@ -1,5 +1,5 @@
 -- What a unit took from each source and sent to each unit.
-use Rattle.std.specs.Prelude.{ℕ, ◌+◌, ◌<◌, List, length, replicate, slice_index_or, slice_set}
+use Rattle.std.specs.Prelude.{ℕ, ◌+◌, ◌^◌, ◌<◌, List, length, replicate, slice_index_or, slice_set}
 use Rattle.model.specs.declared.names.Source.{Source}
 use Rattle.model.specs.declared.names.Source.TheVariants.{Outside, Unit as FromUnit}
 use Rattle.model.specs.Lists.{padded}
@@ -34,6 +34,12 @@ sent_to c unit = (exchanged c unit).sent
 abbrev pub IsCounted : Counts → Source → Type 0
 IsCounted c Outside = Unit {0}
 IsCounted c (FromUnit unit) = unit < length c.units
+
+-- one more receipt from the source can be counted, and so many letters to each unit
+pub record HasRoom (c : Counts) (source : Source) (letters : ℕ) : Type 0 where
+  pub counted : IsCounted c source
+  pub taken : taken_from c source + 1 < 2 ^ 64
+  pub sent : (unit : ℕ) → sent_to c unit + letters < 2 ^ 64
 
 -- after one more receipt from the source
 abbrev pub advanced : Counts → Source → Counts

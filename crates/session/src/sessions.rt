@@ -1,9 +1,9 @@
 //! The counts and their calls.
 
-ghost use Rattle.std.specs.Prelude.{◌≡◌, ◌+◌, ◌<◌, ◌≤◌, ◌^◌, IfOk, OnErr, length, slice_index_or};
+ghost use Rattle.std.specs.Prelude.{◌≡◌, ◌+◌, ◌<◌, ◌≤◌, ◌^◌, ◌↔◌, ℕ, IfOk, IsTrue, OnErr, length, slice_index_or};
 ghost use Rattle.session.specs.Arrivals.{arrival_of};
 ghost use Rattle.model.specs.Lists.{padded};
-ghost use Rattle.session.specs.Counts.{advanced, no_counts, nothing, sent_one, sent_to, taken_from, widened, IsCounted};
+ghost use Rattle.session.specs.Counts.{advanced, no_counts, nothing, sent_one, sent_to, taken_from, widened, HasRoom, IsCounted};
 
 use crate::arrival::Arrival;
 use crate::exchange::Exchange;
@@ -71,6 +71,28 @@ impl Sessions {
             Arrival::Repeat
         } else {
             Arrival::Gap
+        }
+    }
+
+    /// Whether one more receipt from the source and so many letters to each unit can be counted: the
+    /// source is the outside or has an entry, and no count passes the 64 bits that it has. Takes no
+    /// memory.
+    pub fn has_room(&self, source: Source, letters: usize) -> bool
+        ensures { IsTrue result ↔ HasRoom self.now source letters }
+    {
+        self.can_advance(source) && have_room(self.units.as_slice(), letters as u64)
+    }
+
+    /// Whether one more receipt from the source can be counted.
+    fn can_advance(&self, source: Source) -> bool
+        ensures { IsTrue result ↔ (IsCounted self.now source × (taken_from self.now source + 1 < 2 ^ 64)) }
+    {
+        match source {
+            Source::Outside => self.outside < u64::MAX,
+            Source::Unit(unit) => {
+                let unit = usize::from(unit.number());
+                unit < self.units.len() && self.units[unit].taken < u64::MAX
+            }
         }
     }
 
@@ -156,6 +178,18 @@ fn entry(units: &[Exchange], unit: usize) -> Exchange
         Some(exchange) => *exchange,
         None => Exchange::none(),
     }
+}
+
+/// Whether so many more letters to each unit can be counted.
+fn have_room(units: &[Exchange], letters: u64) -> bool
+    ensures { IsTrue result ↔ ((unit : ℕ) → (slice_index_or units.now unit nothing).sent + letters < 2 ^ 64) }
+{
+    for exchange in units {
+        if exchange.sent > u64::MAX - letters {
+            return false;
+        }
+    }
+    true
 }
 
 /// Cuts the entries back to these; behind them nothing is left.

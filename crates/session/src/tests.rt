@@ -7,6 +7,7 @@ fn tells_next_from_repeat_and_gap(rt: HostRuntime) -> Result<(), Fail> {
     let mut sessions = Sessions::new(rt.alloc(), 2)?;
     let from = Source::Unit(Unit::new(1));
     assert!(rt; sessions.len() == 2 && sessions.taken(from) == 0);
+    assert!(rt; sessions.has_room(from, 1) && !sessions.has_room(Source::Unit(Unit::new(2)), 1));
     sessions.advance(from);
     assert_eq!(rt; sessions.test(from, 0), Arrival::Repeat);
     assert_eq!(rt; sessions.test(from, 1), Arrival::Next);

@@ -12,8 +12,8 @@ use std::marker::Model;
 
 /// The records of a unit that are not on stable storage yet, in the order of their intervals.
 ///
-/// `reserve` makes room for records first, so that a `push` then takes no memory. `push` and `front`
-/// take a constant time; `mark_stable`, `clear` and `cut` take time by the records that they pass.
+/// `reserve` makes room for records first, so that a `push` then takes no memory. `push`, `front`
+/// and `at` take a constant time; `mark_stable`, `clear` and `cut` take time by the records that they pass.
 #[derive(Drop)]
 pub struct VolatileLog {
     records: VecDeque<Record>,
@@ -74,6 +74,14 @@ impl VolatileLog {
         ensures { MatchOption result (self.now.records ≡ []) (λ r. slice_get self.now.records 0 ≡ Some r.now) }
     {
         self.records.front()
+    }
+
+    /// The record at this place, the first at 0. Takes no memory, and a constant time.
+    pub fn at(&self, place: usize) -> &Record
+        requires { place < length self.now.records }
+        ensures { slice_get self.now.records place ≡ Some result.now }
+    {
+        &self.records[place]
     }
 
     /// Gives up the first `k` records, which are on stable storage now. Takes no memory.

@@ -36,6 +36,7 @@ fn keeps_records_in_order(rt: HostRuntime) -> Result<(), Fail> {
     assert_eq!(rt; log.front().map(|r| r.mark.index), Some(1));
     log.cut(3);
     assert_eq!(rt; log.len(), 2);
+    assert_eq!(rt; log.at(1).mark.index, 2);
     log.mark_stable(1);
     assert_eq!(rt; log.front().map(|r| r.mark.index), Some(2));
     assert_eq!(rt; log.clear(), 1);

@@ -1,0 +1,9 @@
+pub mod Outside
+pub mod Sends
+pub mod Replays
+pub mod Keeping
+pub mod Snapshots
+pub mod Tails
+pub mod Cuts
+pub mod Forgetting
+pub mod Restored

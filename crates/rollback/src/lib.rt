@@ -1,0 +1,27 @@
+//! One recovery unit of a tenant, by lists: what it keeps of its path, and how it goes back to an
+//! earlier interval by replay (checkpoints, logging and replay after Strom and Yemini 1985).
+//!
+//! - `RecoveryUnit`: seat, progress, the intervals from its base on, its volatile records, and its shelf of
+//!   snapshots. Contracts see it as `Recovering` of `specs/Units`.
+//! - `Progress`: state and sessions after an interval. A receipt and its replay are one function, `advance`.
+//! - `Interval`: what is kept of an interval, its vector and the letter that it received.
+//! - `Effects`: what the turn of a receipt sends and puts out.
+//!
+//! That what is kept is enough is said of the definitions in `compact`.
+#![tactic(auto)]
+
+mod effects;
+mod interval;
+mod path;
+mod progress;
+mod replay;
+mod shelving;
+mod unit;
+
+pub use effects::Effects;
+pub use interval::Interval;
+pub use progress::Progress;
+pub use unit::RecoveryUnit;
+
+#[cfg(test)]
+mod tests;

@@ -1,0 +1,389 @@
+//! The unit and its calls.
+
+ghost use Rattle.std.specs.Prelude.{◌≡◌, ◌+◌, ◌<◌, ◌≤◌, ◌^◌, ◌∷◌, [], ◌++◌, ◌-◌, IfOk, IsTrue, OnErr, Some, None, option_map, ℕ, List, length, drop, take, slice_get, slice_index_or, false};
+ghost use Rattle.std.specs.List.{position};
+ghost use Rattle.std.specs.Option.{is_some, option_copied};
+ghost use Rattle.model.specs.declared.records.Record.{Record as RecordOf};
+ghost use Rattle.checkpoint.specs.Shelves.{has_index, nearest_of};
+ghost use Rattle.handler.specs.Inputs.{turn_of};
+ghost use Rattle.orphan.specs.Tests.{is_orphan_by};
+ghost use Rattle.compact.specs.Compact.{Progress as ProgressOf};
+ghost use Rattle.compact.specs.Laws.{replayed};
+ghost use Rattle.compact.specs.Steps.{from_outside};
+ghost use Rattle.rollback.specs.Units.{asking, begun_unit, checkpointed, cut_behind, effects_of, forgotten, killed, marked_stable, places, records_to, restored, stable_places, took, widened_to, BeginsBy, CountsOutside, Fits, IsTarget, KeepsShelved, OrphansAreTail};
+
+use crate::effects::Effects;
+use crate::interval::Interval;
+use crate::progress::{self, Progress};
+use crate::{path, replay, shelving};
+use checkpoint::Shelf;
+use handler::{Ask, Done, Handler};
+use incarnation::StartTable;
+use model::{NoMemory, Record, Seat, Source, Text};
+use std::alloc::Global;
+use std::collections::VecDeque;
+use std::marker::Model;
+use volatile_log::VolatileLog;
+
+/// One unit of a tenant: what it needs to go on, and to go back to an earlier interval.
+///
+/// It keeps its path from its base on, which is a snapshot of a stable interval, and nothing from before.
+/// A path has at most 2^32 intervals, and its indices begin at 0. A unit that is down has no progress, and
+/// its path has no interval that is not stable.
+#[derive(Drop)]
+pub struct RecoveryUnit<H: Handler> {
+    seat: Seat,
+    progress: Option<Progress<H::State>>,
+    base: u32,
+    // How many receipts of the whole path were from outside.
+    outside: u64,
+    // From the base on.
+    intervals: VecDeque<Interval>,
+    volatile: VolatileLog,
+    shelf: Shelf<Progress<H::State>>,
+}
+
+impl<H: Handler> Model for RecoveryUnit<H> {
+    ghost use Rattle.rollback.specs.Units.{Recovering, IsKept};
+
+    ghost Value = { Recovering H.State };
+
+    ghost view = { λ u. record { seat = u.seat; progress = u.progress; base = u.base; outside = u.outside; shelf = u.shelf; intervals = u.intervals.items; volatile = u.volatile.records } };
+
+    ghost invariant = { λ u. IsKept (record { seat = u.seat; progress = u.progress; base = u.base; outside = u.outside; shelf = u.shelf; intervals = u.intervals.items; volatile = u.volatile.records }) };
+}
+
+impl<H: Handler> RecoveryUnit<H> {
+    /// A unit at its beginning, which is its base, in a tenant of `width` units.
+    ///
+    /// # Errors
+    ///
+    /// `NoMemory` where what it keeps finds no memory.
+    pub fn begin(
+        alloc: Global,
+        handler: &H,
+        seat: Seat,
+        width: usize,
+    ) -> Result<RecoveryUnit<H>, NoMemory>
+        requires { width ≤ 256 }
+        ensures unit { IfOk result (λ u. u ≡ begun_unit H.meaning width seat) }
+        ensures outside { IfOk result (λ u. CountsOutside 0 u) }
+    {
+        let shelf = shelving::based(alloc, progress::begin(alloc, handler, seat, width)?)?;
+        let progress = progress::begin(alloc, handler, seat, width)?;
+        let intervals = path::begun_path(alloc, width)?;
+        Ok(RecoveryUnit {
+            seat,
+            progress: Some(progress),
+            base: 0,
+            outside: 0,
+            intervals,
+            volatile: VolatileLog::new(alloc),
+            shelf,
+        })
+    }
+
+    /// Where it sits.
+    pub fn seat(&self) -> Seat
+        ensures { result ≡ self.now.seat }
+    {
+        self.seat
+    }
+
+    /// Whether the unit is up.
+    pub fn is_up(&self) -> bool
+        ensures { result ≡ is_some self.now.progress }
+    {
+        self.progress.is_some()
+    }
+
+    /// The progress, where the unit is up.
+    pub fn progress(&self) -> Option<&Progress<H::State>>
+        ensures { option_copied result ≡ self.now.progress }
+    {
+        self.progress.as_ref()
+    }
+
+    /// How many intervals the path has, with those before the base.
+    pub fn places(&self) -> u64
+        ensures { result ≡ places self.now }
+    {
+        u64::from(self.base) + self.intervals.len() as u64
+    }
+
+    /// The index of the base.
+    pub fn base(&self) -> u32
+        ensures { result ≡ self.now.base }
+    {
+        self.base
+    }
+
+    /// The index of the last interval, which is the base or behind it.
+    pub fn last_index(&self) -> u32
+        ensures last { result + 1 ≡ places self.now }
+        ensures base { self.now.base ≤ result }
+    {
+        path::last_index(self.base, &self.intervals)
+    }
+
+    /// The interval of this index, which is kept.
+    pub fn interval(&self, index: u32) -> &Interval
+        requires { IsTarget self.now index }
+        ensures { slice_get self.now.intervals (index - self.now.base) ≡ Some result.now }
+    {
+        &self.intervals[(index - self.base) as usize]
+    }
+
+    /// How many receipts of the whole path were from outside.
+    pub fn outside(&self) -> u64
+        ensures { result ≡ self.now.outside }
+    {
+        self.outside
+    }
+
+    /// How many intervals are volatile.
+    pub fn volatile_count(&self) -> usize
+        ensures { result ≡ length self.now.volatile }
+    {
+        self.volatile.len()
+    }
+
+    /// The volatile record at this place, the first at 0.
+    pub fn volatile_record(&self, place: usize) -> &Record
+        requires { place < length self.now.volatile }
+        ensures { slice_get self.now.volatile place ≡ Some result.now }
+    {
+        self.volatile.at(place)
+    }
+
+    /// Whether the interval of this index has a snapshot.
+    pub fn has_snapshot(&self, index: u32) -> bool
+        ensures { result ≡ has_index self.now.shelf index }
+    {
+        self.shelf.has(index)
+    }
+
+    /// The whole input of the unit's turn upon a receipt from this source, where the unit is up.
+    ///
+    /// # Errors
+    ///
+    /// `NoMemory` where a copy of the state finds no memory.
+    pub fn ask(
+        &self,
+        alloc: Global,
+        handler: &H,
+        source: Source,
+        text: Text,
+    ) -> Result<Option<Ask<H>>, NoMemory>
+        ensures { IfOk result (λ ask. ask ≡ asking self.now source text) }
+    {
+        match &self.progress {
+            Some(progress) => {
+                let state = handler.copy(alloc, &progress.state)?;
+                Ok(Some(Ask::new(self.seat, state, source, text)))
+            }
+            None => Ok(None),
+        }
+    }
+
+    /// Takes a receipt: its interval with its record, which is volatile, and the turn that was worked
+    /// for it. Gives what the turn sends and puts out. It takes memory for the interval's vector, and for
+    /// nothing else but that the lists of intervals and records grow now and then.
+    ///
+    /// # Errors
+    ///
+    /// `NoMemory` where interval or record find no memory, or where the receipt can't be counted: its
+    /// source or one of the record's units has no entry in the sessions, or a count would pass 64 bits.
+    /// The unit stays as it was.
+    pub fn take(&mut self, logged: Record, done: Done<H>) -> Result<Effects, NoMemory>
+        requires few { length logged.vector ≤ 256 }
+        requires room { places self.old < 2 ^ 32 }
+        requires mark { logged.mark.index ≡ places self.old }
+        requires asked { asking self.old logged.source logged.text ≡ Some done.input }
+        ensures ok { IfOk result (λ _. self.new ≡ took H.meaning self.old logged) }
+        ensures effects { IfOk result (λ e. e ≡ effects_of (turn_of H.meaning done.input)) }
+        ensures outside { IfOk result (λ _. (before : ℕ) → CountsOutside before self.old → CountsOutside before self.new) }
+        ensures err { OnErr result (self.new ≡ self.old) }
+    {
+        let source = logged.source;
+        let letter = logged.letter;
+        let more = path::one_from_outside(letter);
+        let width = logged.vector.as_slice().len();
+        let turn = done.into_turn();
+        if !self.has_room(&logged, turn.sends().len()) {
+            return Err(NoMemory);
+        }
+        path::append(&mut self.intervals, &mut self.volatile, logged)?;
+        let effects = progress::go_on(&mut self.progress, source, turn, width);
+        self.outside += more;
+        Ok(effects)
+    }
+
+    /// Whether the unit is up and can count the receipt of a record and so many sends.
+    fn has_room(&self, logged: &Record, sends: usize) -> bool
+        ensures { IsTrue result → (p : ProgressOf H.State) → self.now.progress ≡ Some p → Fits p.sessions logged.now.source (length logged.now.vector) sends }
+    {
+        let width = logged.vector.as_slice().len();
+        progress::has_room_in(&self.progress, logged.source, sends, width)
+    }
+
+    /// So many of the volatile records are on stable storage now. Takes no memory.
+    pub fn mark_stable(&mut self, count: usize)
+        requires { count ≤ length self.old.volatile }
+        ensures { self.new ≡ marked_stable self.old count }
+    {
+        self.volatile.mark_stable(count);
+    }
+
+    /// The unit fails: its progress and all that is not stable are gone. Tells how many intervals were
+    /// lost. Takes no memory, and time by the intervals that go.
+    pub fn kill(&mut self) -> u64
+        ensures lost { result ≡ length self.old.volatile }
+        ensures unit { self.new ≡ killed self.old }
+        ensures outside { (before : ℕ) → CountsOutside before self.old → CountsOutside before self.new }
+    {
+        let lost = self.volatile.clear();
+        let kept = self.intervals.len() - lost;
+        self.outside -= path::count_from_outside(&self.intervals, kept);
+        self.intervals.truncate(kept);
+        self.progress = None;
+        lost as u64
+    }
+
+    /// Adds to what the unit took and sent the entries of units that joined, up to `n` units in all.
+    ///
+    /// # Errors
+    ///
+    /// `NoMemory` where they find no memory; the unit stays as it was.
+    pub fn widen(&mut self, n: usize) -> Result<(), NoMemory>
+        ensures ok { IfOk result (λ _. self.new ≡ widened_to self.old n) }
+        ensures err { OnErr result (self.new ≡ self.old) }
+    {
+        progress::widen(&mut self.progress, n)
+    }
+
+    /// Shelves a snapshot of the last interval, which is stable. One that has a snapshot gets no other,
+    /// and a unit that is down gets none. Where there are 64 beside the base, the first goes.
+    ///
+    /// # Errors
+    ///
+    /// `NoMemory` where the snapshot finds no memory; the unit stays as it was.
+    pub fn checkpoint(&mut self, alloc: Global, handler: &H) -> Result<(), NoMemory>
+        requires { length self.old.volatile ≡ 0 }
+        ensures ok { IfOk result (λ _. self.new ≡ checkpointed self.old) }
+        ensures nearest { IfOk result (λ _. IsTrue (is_some self.old.progress) → option_map (λ s. s.index) (nearest_of self.new.shelf (places self.old - 1)) ≡ Some (places self.old - 1)) }
+        ensures state { IfOk result (λ _. (p : ProgressOf H.State) → self.old.progress ≡ Some p → has_index self.old.shelf (places self.old - 1) ≡ false → nearest_of self.new.shelf (places self.old - 1) ≡ Some (record { index = places self.old - 1; state = p })) }
+        ensures kept { IfOk result (λ _. KeepsShelved self.old.shelf self.new.shelf) }
+        ensures err { OnErr result (self.new ≡ self.old) }
+    {
+        let index = path::last_index(self.base, &self.intervals);
+        shelving::shelve(alloc, handler, &mut self.shelf, index, &self.progress)?;
+        Ok(())
+    }
+
+    /// The index of the first orphan that is kept, by all rows. Takes no memory, and looks at one vector
+    /// for each bit of the count of intervals that are kept.
+    pub fn first_orphan(&self, table: &StartTable) -> Option<u32>
+        requires { OrphansAreTail table.now self.now.intervals }
+        ensures { result ≡ option_map (λ i. self.now.base + i) (position (λ x. is_orphan_by table.now x.vector) self.now.intervals) }
+    {
+        let place = path::count_before_orphan(&self.intervals, table);
+        if place < self.intervals.len() {
+            Some(self.base + place as u32)
+        } else {
+            None
+        }
+    }
+
+    /// The index of the snapshot from which the unit goes back to the target. The stable records that
+    /// `restore` needs are those behind it, up to the target.
+    pub fn restart_index(&self, target: u32) -> Option<u32>
+        ensures { result ≡ option_map (λ s. s.index) (nearest_of self.now.shelf target) }
+    {
+        self.shelf.nearest(target).map(|snapshot| snapshot.index)
+    }
+
+    /// Goes back to the target, the index of the last interval that is kept, by replay from the nearest
+    /// snapshot, in a tenant that has `width` units now: first of these records, the stable ones between
+    /// snapshot and target, and then of the unit's own up to the target, which are still volatile. The
+    /// unit is up then.
+    ///
+    /// # Errors
+    ///
+    /// `NoMemory` where the replay finds no memory, or where a receipt can't be counted, as for `take`;
+    /// the unit stays as it was.
+    pub fn restore(
+        &mut self,
+        alloc: Global,
+        handler: &H,
+        target: u32,
+        width: usize,
+        records: &[Record],
+    ) -> Result<(), NoMemory>
+        requires { IsTarget self.old target }
+        ensures ok { IfOk result (λ _. self.new ≡ restored H.meaning self.old target width records.now) }
+        ensures up { IfOk result (λ _. IsTrue (is_some self.new.progress)) }
+        ensures last { IfOk result (λ _. places self.new ≡ target + 1) }
+        ensures fold { IfOk result (λ _. (p : ProgressOf H.State) (before : List RecordOf) → BeginsBy H.meaning self.old target width p before → self.new.progress ≡ Some (replayed H.meaning self.old.seat p (before ++ records_to self.old target records.now))) }
+        ensures outside { IfOk result (λ _. (before : ℕ) → CountsOutside before self.old → CountsOutside before self.new) }
+        ensures err { OnErr result (self.new ≡ self.old) }
+    {
+        let progress = self.rebuilt(alloc, handler, target, width, records)?;
+        self.cut(target);
+        self.progress = progress;
+        Ok(())
+    }
+
+    /// The progress at the target, by replay.
+    fn rebuilt(
+        &self,
+        alloc: Global,
+        handler: &H,
+        target: u32,
+        width: usize,
+        records: &[Record],
+    ) -> Result<Option<Progress<H::State>>, NoMemory>
+        requires { IsTarget self.now target }
+        ensures progress { IfOk result (λ p. p ≡ (restored H.meaning self.now target width records.now).progress) }
+        ensures up { IfOk result (λ p. IsTrue (is_some p)) }
+        ensures fold { IfOk result (λ p. (from : ProgressOf H.State) (before : List RecordOf) → BeginsBy H.meaning self.now target width from before → p ≡ Some (replayed H.meaning self.now.seat from (before ++ records_to self.now target records.now))) }
+    {
+        let count = path::count_to(self.places(), self.volatile.len(), target);
+        let nearest = self.shelf.nearest(target);
+        let seat = &self.seat;
+        let volatile = &self.volatile;
+        let progress = replay::rebuild(
+            alloc, handler, seat, nearest, width, records, volatile, count,
+        )?;
+        Ok(progress)
+    }
+
+    /// Gives up the intervals, records and snapshots behind the target. Takes no memory.
+    fn cut(&mut self, target: u32)
+        requires { IsTarget self.old target }
+        ensures unit { self.new ≡ cut_behind self.old target }
+        ensures outside { (before : ℕ) → CountsOutside before self.old → CountsOutside before self.new }
+    {
+        if target < path::last_index(self.base, &self.intervals) {
+            let kept = (target - self.base) as usize + 1;
+            self.outside -= path::count_from_outside(&self.intervals, kept);
+            self.intervals.truncate(kept);
+            self.volatile.cut(target + 1);
+            self.shelf.cut(target + 1);
+        }
+    }
+
+    /// Makes the snapshot of this index the base, and gives up the intervals and snapshots before it.
+    /// Takes no memory, and time by what goes.
+    pub fn forget(&mut self, base: u32)
+        requires { IsTrue (has_index self.old.shelf base) }
+        ensures unit { self.new ≡ forgotten self.old base }
+        ensures outside { (before : ℕ) → CountsOutside before self.old → CountsOutside (before + from_outside (take (base - self.old.base) (drop 1 self.old.intervals))) self.new }
+    {
+        if base != self.base {
+            self.shelf.move_base(base);
+            path::pop_fronts(&mut self.intervals, base.saturating_sub(self.base) as usize);
+            self.base = base;
+        }
+    }
+}
