@@ -56,7 +56,10 @@ fn bad_words(error: &io::Error) -> (&'static str, u8) {
     if error.kind() == ErrorKind::InvalidData {
         ("a word is not UTF-8: see `recall --help`", 2)
     } else {
-        ("there is no memory for the words: free some, and run again", 1)
+        (
+            "there is no memory for the words: free some, and run again",
+            1,
+        )
     }
 }
 

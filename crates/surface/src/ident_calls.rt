@@ -1,4 +1,7 @@
-use ident::{Kind, Letter, Letters, MAX_CHECKPOINTS, Mark, Marks, Move, NoMemory, Quota, Refusal, Row, Seat, Source, Start, TenantName, Text, Texts, Unit};
+use ident::{
+    Kind, Letter, Letters, MAX_CHECKPOINTS, Mark, Marks, Move, NoMemory, Quota, Refusal, Row, Seat,
+    Source, Start, TenantName, Text, Texts, Unit,
+};
 use std::test::Fail;
 
 const REFUSALS: [(u8, &str, Refusal); 19] = [

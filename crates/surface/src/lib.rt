@@ -29,9 +29,15 @@ mod orphan_calls;
 #[cfg(test)]
 mod output_commit_calls;
 #[cfg(test)]
+mod rollback_calls;
+#[cfg(test)]
+mod session_calls;
+#[cfg(test)]
 mod shared_log_calls;
 #[cfg(test)]
 mod stable_log_calls;
+#[cfg(test)]
+mod volatile_log_calls;
 #[cfg(test)]
 mod whole_runs;
 #[cfg(test)]

@@ -1,6 +1,9 @@
-use lines::{Counted, LineFault, ServeFault, fault_reply, memory_aside, put_reply, read_feed, read_step, serve, write_reply};
 use book::Book;
 use handler::Sample;
+use lines::{
+    Counted, LineFault, ServeFault, fault_reply, memory_aside, put_reply, read_feed, read_step,
+    serve, write_reply,
+};
 use shared_log::MemoryStore;
 use std::io;
 use std::io::{BufRead, ErrorKind, Read, Write};

@@ -1,9 +1,9 @@
 ghost use Rattle.std.specs.Prelude.{◌≡◌, ◌∷◌, [], IfOk};
 
-use orphan::{first_orphan, is_blind, is_orphan, unstable_units};
 use depvector::DepVector;
 use incarnation::StartTable;
 use model::{Mark, Row, Unit};
+use orphan::{first_orphan, is_blind, is_orphan, unstable_units};
 use std::alloc::{AllocError, Global};
 use std::test::Fail;
 

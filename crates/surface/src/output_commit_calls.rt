@@ -1,5 +1,5 @@
-use output_commit::{Hold, Outlet, StableView};
 use model::{Mark, Text, Unit};
+use output_commit::{Hold, Outlet, StableView};
 use std::test::Fail;
 
 const MARK: Mark = Mark {

@@ -1,5 +1,5 @@
-use shared_log::{MemoryStore, Records, SharedLog, Store, StoreFault};
 use model::{Letter, Mark, Marks, NoMemory, Record, Source, TenantName, Text, Unit};
+use shared_log::{MemoryStore, Records, SharedLog, Store, StoreFault};
 use std::alloc::Global;
 use std::test::Fail;
 

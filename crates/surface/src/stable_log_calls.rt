@@ -1,5 +1,5 @@
-use stable_log::{FuseStore, FuseWriter, MemoryStore, SharedLog, Store, StoreFault, WriterStore};
 use model::{Letter, Mark, Marks, Record, Source, TenantName, Text, Unit};
+use stable_log::{FuseStore, FuseWriter, MemoryStore, SharedLog, Store, StoreFault, WriterStore};
 use std::alloc::Global;
 use std::test::Fail;
 

@@ -1,7 +1,7 @@
-use written::{Failed, flush_all, is_interrupted, put_all};
 use std::io;
 use std::io::{ErrorKind, Write};
 use std::test::Fail;
+use written::{Failed, flush_all, is_interrupted, put_all};
 
 /// Takes one byte a call, and is interrupted at every second call.
 #[derive(Drop)]
