@@ -4,8 +4,8 @@
 //! reply as an entry of its history. It is the replay of that history: for each tenant, what the
 //! book keeps stands for the world that the tenant's own entries make, the replies to the tenant
 //! are those that it would get alone, and the records of the store are those that the entries
-//! acknowledged. Contracts see a book as a `Ledger`, its history and its log, and this stands in
-//! the book's invariant.
+//! acknowledged, but for those that were forgotten. Contracts see a book as a `Ledger`, its history
+//! and its log, and this stands in the book's invariant.
 //!
 //! - `Book::step`, `step_as` and `run` do steps. A step is entered with the reply that is given,
 //!   or there was no memory for it, and then nothing changed. Both copies of a reply are made
