@@ -20,3 +20,6 @@ mod outputs;
 mod verdict;
 
 pub use verdict::{Verdict, check};
+
+#[cfg(test)]
+mod tests;

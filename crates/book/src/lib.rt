@@ -31,3 +31,6 @@ mod committed;
 
 pub use book::{Book, headline, isolated};
 pub use committed::Committed;
+
+#[cfg(test)]
+mod tests;

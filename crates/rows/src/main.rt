@@ -12,6 +12,8 @@
 mod answers;
 mod beside;
 mod failing;
+#[cfg(test)]
+mod tests;
 mod turned;
 
 use beside::{every, with_noise};

@@ -9,3 +9,6 @@ mod log;
 
 pub use log::VolatileLog;
 pub use model::Record;
+
+#[cfg(test)]
+mod tests;

@@ -25,3 +25,6 @@ pub use closed::Closed;
 pub use fault::RunFault;
 pub use gate::Gate;
 pub use run::run_feeds;
+
+#[cfg(test)]
+mod tests;

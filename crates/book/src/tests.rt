@@ -1,7 +1,7 @@
 //! Each public call once, with ample memory. The expected replies are worked out by hand from what
 //! the steps mean.
 
-use book::{Book, isolated};
+use crate::{Book, isolated};
 use handler::Sample;
 use model::{
     End, Mark, Quota, Refusal, Reply, Row, Said, Start, Step, TenantName, Text, Texts, Unit, Who,

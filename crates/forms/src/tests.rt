@@ -1,4 +1,4 @@
-use forms::{LineFault, read_step, write_record, write_reply};
+use super::*;
 use ident::{Letter, Letters, Mark, Refusal, Start, Text, Texts, Unit};
 use model::{Reply, Step};
 use std::test::Fail;

@@ -1,10 +1,10 @@
 ghost use Rattle.std.specs.Prelude.{◌≡◌, ◌∷◌, [], ◌++◌, IfOk, None};
 ghost use Rattle.compact.specs.Compact.{Interval as IntervalOf};
 
+use crate::RecoveryUnit;
 use handler::Sample;
 use incarnation::StartTable;
 use model::{Kind, Mark, Marks, NoMemory, Record, Row, Seat, Source, TenantName, Text, Unit};
-use rollback::RecoveryUnit;
 use std::alloc::Global;
 use std::process::Abort;
 use std::test::Fail;

@@ -1,5 +1,5 @@
+use super::*;
 use audit::Verdict;
-use auditor::{audit_line, audit_tenant, can_check};
 use book::Book;
 use handler::Sample;
 use model::{Flaw, Kind, Move, NoMemory, Quota, Seat, Step, TenantName, Text, Texts, Unit};

@@ -1,9 +1,6 @@
+use super::*;
 use book::Book;
 use handler::Sample;
-use lines::{
-    Counted, LineFault, ServeFault, fault_reply, memory_aside, put_reply, read_feed, read_step,
-    serve, write_reply,
-};
 use shared_log::MemoryStore;
 use std::io;
 use std::io::{BufRead, ErrorKind, Read, Write};
@@ -20,7 +17,7 @@ fn book(rt: &HostRuntime) -> Book<Sample, MemoryStore> {
 }
 
 /// What a new book's replies to this input are.
-pub(crate) fn served(rt: &HostRuntime, input: &[u8]) -> Result<String, Fail> {
+fn served(rt: &HostRuntime, input: &[u8]) -> Result<String, Fail> {
     let mut reader = Counted::new(input);
     let mut writer = Counted::new(Vec::new(rt.alloc()));
     serve(rt.alloc(), &mut reader, &mut writer, &mut book(rt))?;

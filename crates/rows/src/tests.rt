@@ -1,4 +1,4 @@
-use crate::lines_calls::served;
+use crate::served;
 use audit::{Verdict, check};
 use auditor::can_check;
 use book::Book;
@@ -102,8 +102,8 @@ fn a_unit_goes_back_65535_times(rt: HostRuntime) -> Result<(), Fail> {
         steps.extend_from_slice(RESTART.as_bytes())?;
     }
     steps.extend_from_slice(STATUS.as_bytes())?;
-    let replies = served(&rt, steps.as_slice())?;
-    assert!(rt; replies.as_str().ends_with(LAST_REPLIES));
+    let replies = served(alloc, steps.as_slice())?;
+    assert!(rt; replies.as_slice().ends_with(LAST_REPLIES.as_bytes()));
     Ok(())
 }
 

@@ -2,7 +2,7 @@ ghost use Rattle.std.specs.Prelude.{◌≡◌, IfOk, length};
 ghost use Rattle.model.specs.declared.moves.Move.TheVariants.{Outside, Letter, Join};
 ghost use Rattle.audit.specs.Audits.{joins};
 
-use audit::{Verdict, check};
+use super::*;
 use handler::Sample;
 use model::{Flaw, Kind, Move, NoMemory, Seat, Text, Texts, Unit};
 use std::alloc::Global;

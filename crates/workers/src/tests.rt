@@ -5,6 +5,7 @@ ghost use Rattle.std.specs.Prelude.{◌<◌, ◌^◌, IfOk, vec_len};
 ghost use Rattle.handler.specs.States.{states_equal};
 ghost use Rattle.model.specs.Sample.{sample};
 
+use crate::{Gate, run_feeds};
 use handler::{Handler, Sample, Turn};
 use ident::Kind;
 use model::{
@@ -15,7 +16,6 @@ use std::alloc::Global;
 use std::hint;
 use std::sync::atomic::{AtomicBool, Ordering};
 use std::test::Fail;
-use workers::{Gate, run_feeds};
 
 /// How many turns of a loop a test waits at most.
 const TURNS: u64 = 100_000_000;
