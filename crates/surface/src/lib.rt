@@ -1,7 +1,7 @@
-//! The public calls of the crates, each called once on its happy path, and what no clause says: printed
-//! texts, want of memory, readers and writers that fail, feeds that work at once.
+//! Tests of the small crates: each public call once on its happy path, and what no clause says.
 //!
-//! They stand in one crate since a crate with tests is proved twice. `rows` has the worked rows.
+//! They stand in one crate since a crate with tests is proved twice. Larger crates have their own, and
+//! `rows` has the worked rows.
 #![tactic(auto)]
 
 #[cfg(test)]
