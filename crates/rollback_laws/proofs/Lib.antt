@@ -1,0 +1,9 @@
+pub mod Lists
+pub mod Places
+pub mod Failures
+pub mod Receipts
+pub mod Joins
+pub mod Checkpoints
+pub mod Orphans
+pub mod Restores
+pub mod Forgetting

@@ -1,0 +1,83 @@
+//! A recovery unit keeps a unit of the compact state: what its calls make of it is what the steps of a tenant make of
+//! that unit. Each law is the contract of a function that does nothing, for every handler. What both have in common
+//! stands in `specs/Seen`, the laws in `specs/Laws`.
+#![tactic(auto)]
+
+ghost use Rattle.rollback_laws.specs.Laws.{BeginningsAreSeen, CheckpointsAreSeen, FirstOrphansAreSeen, FlushesAreSeen, ForgettingIsSeen, FrontiersAreSeen, JoinsAreSeen, KillsAreSeen, LastVectorsAreSeen, MarksAreSeen, OrphansAreSeen, PlacesAreSeen, ReceiptsAreSeen, RestoresAreSeen, TurnsAreSeen};
+
+use handler::Handler;
+
+/// A unit at its beginning is seen.
+pub fn beginnings_are_seen<H: Handler>()
+    ensures { BeginningsAreSeen H.meaning }
+{}
+
+/// So it is with entries for the units that joined.
+pub fn joins_are_seen<H: Handler>()
+    ensures { JoinsAreSeen H.meaning }
+{}
+
+/// A unit that is seen has the same places.
+pub fn places_are_seen<H: Handler>()
+    ensures { PlacesAreSeen H.meaning }
+{}
+
+/// After a kill it is seen.
+pub fn kills_are_seen<H: Handler>()
+    ensures { KillsAreSeen H.meaning }
+{}
+
+/// So it is after a flush.
+pub fn flushes_are_seen<H: Handler>()
+    ensures { FlushesAreSeen H.meaning }
+{}
+
+/// And where its frontier goes on.
+pub fn frontiers_are_seen<H: Handler>()
+    ensures { FrontiersAreSeen H.meaning }
+{}
+
+/// So it is after a receipt.
+pub fn receipts_are_seen<H: Handler>()
+    ensures { ReceiptsAreSeen H.meaning }
+{}
+
+/// The record of a receipt is of the place after the last.
+pub fn marks_are_seen<H: Handler>()
+    ensures { MarksAreSeen H.meaning }
+{}
+
+/// The interval at the last place has the last vector.
+pub fn last_vectors_are_seen<H: Handler>()
+    ensures { LastVectorsAreSeen H.meaning }
+{}
+
+/// The turn of the input that is asked for upon a receipt is the receipt's.
+pub fn turns_are_seen<H: Handler>()
+    ensures { TurnsAreSeen H.meaning }
+{}
+
+/// So it is after a checkpoint, by which the first snapshot of the shelf may go.
+pub fn checkpoints_are_seen<H: Handler>()
+    ensures { CheckpointsAreSeen H.meaning }
+{}
+
+/// As much of the path is kept as comes before the first orphan.
+pub fn orphans_are_seen<H: Handler>()
+    ensures { OrphansAreSeen H.meaning }
+{}
+
+/// So it is as the search for the first orphan says.
+pub fn first_orphans_are_seen<H: Handler>()
+    ensures { FirstOrphansAreSeen H.meaning }
+{}
+
+/// A unit that goes back begins at a snapshot of its own, is rebuilt as by replay, and is seen then.
+pub fn restores_are_seen<H: Handler>()
+    ensures { RestoresAreSeen H.meaning }
+{}
+
+/// A unit is seen after its base moved.
+pub fn forgetting_is_seen<H: Handler>()
+    ensures { ForgettingIsSeen H.meaning }
+{}
