@@ -7,3 +7,4 @@ pub mod Checkpoints
 pub mod Orphans
 pub mod Restores
 pub mod Forgetting
+pub mod Standing

@@ -5,14 +5,16 @@ use Rattle.model.specs.declared.names.Row.{Row}
 use Rattle.model.specs.declared.names.Seat.{Seat}
 use Rattle.model.specs.declared.records.Record.{Record}
 use Rattle.model.specs.Handler.{Meaning}
+use Rattle.model.specs.World.{World}
 use Rattle.handler.specs.Inputs.{Input, turn_of}
 use Rattle.checkpoint.specs.Shelves.{has_index}
 use Rattle.orphan.specs.Tests.{is_orphan_by}
 use Rattle.compact.specs.Compact.{Compact, Interval, Progress, Snapshot, Unit}
 use Rattle.compact.specs.Steps.{Receipt, first_unit, fitted_unit, flushed_unit, going_on, kept_places, killed_unit, last_vector, next_record, places as all_of, receiving_unit, shelved_unit, turn_of_receipt}
+use Rattle.compact.specs.StepLaws.{Stands}
 use Rattle.compact.specs.Forgetting.{rebased}
 use Rattle.rollback.specs.Units.{Recovering, IsKept, IsTarget, asking, begun_unit, checkpointed, forgotten, killed, marked_stable, places, took, widened_to}
-use Rattle.rollback_laws.specs.Seen.{BeginsAt, HasPlaces, IsRead, IsRestored, IsSeen}
+use Rattle.rollback_laws.specs.Seen.{BeginsAt, HasPlaces, IsRead, IsReady, IsRestored, IsSeen}
 
 -- ---- beginning and joins
 
@@ -34,7 +36,7 @@ KillsAreSeen {S} M = (r : Recovering S) (x : Unit S) → IsKept r → IsSeen r x
 abbrev pub FlushesAreSeen : {S : Type 0} → Meaning S → Type 0
 FlushesAreSeen {S} M = (r : Recovering S) (x : Unit S) → IsKept r → IsSeen r x → (place count : ℕ) → count ≤ length r.volatile → IsSeen (marked_stable r count) (flushed_unit place count x)
 
--- a frontier that goes on is not seen
+-- as its frontier goes on it is still seen
 abbrev pub FrontiersAreSeen : {S : Type 0} → Meaning S → Type 0
 FrontiersAreSeen {S} M = (r : Recovering S) (x : Unit S) → IsSeen r x → (rows : List Row) (stable_lengths : List ℕ) → IsSeen r (going_on rows stable_lengths x)
 
@@ -63,6 +65,13 @@ TurnsAreSeen {S} M = (r : Recovering S) (x : Unit S) → IsSeen r x → (q : Rec
 abbrev pub CheckpointsAreSeen : {S : Type 0} → Meaning S → Type 0
 CheckpointsAreSeen {S} M = (r : Recovering S) (x : Unit S) → IsKept r → IsSeen r x → r.volatile ≡ [] → (p : Progress S) → r.progress ≡ Some p
     → (n : ℕ) × (n ≤ 1) × IsSeen (checkpointed r) (record (shelved_unit x) { shelf = drop n (shelved_unit x).shelf })
+
+-- ---- what holds of a unit of a tenant
+
+-- Where the compact state stands for a world, what the laws below ask for holds.
+abbrev pub UnitsAreReady : {S : Type 0} → Meaning S → Type 0
+UnitsAreReady {S} M = (name : List ℕ) (k : Compact S) (w : World) (log : List Record) → Stands M name k w log
+    → (u : ℕ) (x : Unit S) → slice_get k.units u ≡ Some x → (r : Recovering S) → IsKept r → IsSeen r x → IsReady r k x
 
 -- ---- orphans
 

@@ -1,14 +1,15 @@
 -- What a recovery unit and the unit of the compact state that it keeps have in common.
-use Rattle.std.specs.Prelude.{◌≡◌, ◌⊎◌, ℕ, ◌-◌, ◌<◌, List, Some, drop, length, map, min, slice_get, take}
+use Rattle.std.specs.Prelude.{◌≡◌, ◌⊎◌, ℕ, ◌+◌, ◌-◌, ◌<◌, ◌≤◌, false, List, Some, drop, length, map, min, slice_get, take}
 use Rattle.std.specs.Option.{is_some}
 use Rattle.model.specs.declared.records.Record.{Record}
 use Rattle.model.specs.Handler.{Meaning}
 use Rattle.checkpoint.specs.declared.snapshot.Snapshot.{Snapshot as Shelf}
 use Rattle.checkpoint.specs.Shelves.{nearest_of}
-use Rattle.compact.specs.Compact.{Compact, Progress, Snapshot, Unit}
+use Rattle.orphan.specs.Tests.{is_orphan_by}
+use Rattle.compact.specs.Compact.{Compact, Interval, Progress, Snapshot, Unit}
 use Rattle.compact.specs.Steps.{back_unit, kept_places, places as all_of}
 use Rattle.compact.specs.StepLaws.{IsRebuilt}
-use Rattle.rollback.specs.Units.{Recovering, places as all_places, restored, stable_places}
+use Rattle.rollback.specs.Units.{Recovering, IsTarget, OrphansAreTail, places as all_places, restored, stable_places}
 
 -- a snapshot of the compact state, as a shelf has it
 abbrev pub shelved_as : {S : Type 0} → Snapshot S → Shelf (Progress S)
@@ -51,3 +52,15 @@ pub record IsRestored {S : Type 0} (M : Meaning S) (r : Recovering S) (k : Compa
   pub there : (restored M r target (length k.units) fetched).progress ≡ Some progress
   pub rebuilt : IsRebuilt M k x log progress
   pub seen : IsSeen (restored M r target (length k.units) fetched) (back_unit k x progress)
+
+-- ---- what holds of a unit of a tenant
+
+-- what the search for the first orphan, going back, and the laws of both ask for
+pub record IsReady {S : Type 0} (r : Recovering S) (k : Compact S) (x : Unit S) : Type 0 where
+  pub firm_base : x.base.index < x.frontier
+  pub front : x.frontier ≤ all_of x
+  pub clean : (i : ℕ) (v : Interval) → i < x.frontier - x.base.index → slice_get r.intervals i ≡ Some v → is_orphan_by k.table v.vector ≡ false
+  pub tail : OrphansAreTail k.table r.intervals
+  pub live : length x.live ≡ x.stable - 1 - x.base.index
+  pub target : IsTarget r (kept_places k x - 1)
+  pub last : kept_places k x - 1 + 1 ≡ kept_places k x

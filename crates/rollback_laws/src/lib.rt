@@ -3,7 +3,7 @@
 //! stands in `specs/Seen`, the laws in `specs/Laws`.
 #![tactic(auto)]
 
-ghost use Rattle.rollback_laws.specs.Laws.{BeginningsAreSeen, CheckpointsAreSeen, FirstOrphansAreSeen, FlushesAreSeen, ForgettingIsSeen, FrontiersAreSeen, JoinsAreSeen, KillsAreSeen, LastVectorsAreSeen, MarksAreSeen, OrphansAreSeen, PlacesAreSeen, ReceiptsAreSeen, RestoresAreSeen, TurnsAreSeen};
+ghost use Rattle.rollback_laws.specs.Laws.{BeginningsAreSeen, CheckpointsAreSeen, FirstOrphansAreSeen, FlushesAreSeen, ForgettingIsSeen, FrontiersAreSeen, JoinsAreSeen, KillsAreSeen, LastVectorsAreSeen, MarksAreSeen, OrphansAreSeen, PlacesAreSeen, ReceiptsAreSeen, RestoresAreSeen, TurnsAreSeen, UnitsAreReady};
 
 use handler::Handler;
 
@@ -60,6 +60,11 @@ pub fn turns_are_seen<H: Handler>()
 /// So it is after a checkpoint, by which the first snapshot of the shelf may go.
 pub fn checkpoints_are_seen<H: Handler>()
     ensures { CheckpointsAreSeen H.meaning }
+{}
+
+/// Where the compact state stands for a world, what the laws of orphans and of going back ask for holds.
+pub fn units_are_ready<H: Handler>()
+    ensures { UnitsAreReady H.meaning }
 {}
 
 /// As much of the path is kept as comes before the first orphan.
