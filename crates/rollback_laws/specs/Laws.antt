@@ -81,11 +81,11 @@ OrphansAreSeen {S} M = (r : Recovering S) (x : Unit S) → IsKept r → IsSeen r
     → ((i : ℕ) (v : Interval) → i < x.frontier - x.base.index → slice_get r.intervals i ≡ Some v → is_orphan_by k.table v.vector ≡ false)
     → kept_places k x ≡ r.base + position_or_len (λ v. is_orphan_by k.table v.vector) r.intervals
 
--- So it is as the search for the first orphan says.
+-- What the search for the first orphan finds is how much is kept, and where it finds none all is.
 abbrev pub FirstOrphansAreSeen : {S : Type 0} → Meaning S → Type 0
 FirstOrphansAreSeen {S} M = (r : Recovering S) (x : Unit S) → IsKept r → IsSeen r x → (k : Compact S) → x.base.index ≤ x.frontier → x.frontier ≤ all_of x
     → ((i : ℕ) (v : Interval) → i < x.frontier - x.base.index → slice_get r.intervals i ≡ Some v → is_orphan_by k.table v.vector ≡ false)
-    → (o : Option ℕ) → o ≡ option_map (λ i. r.base + i) (position (λ v. is_orphan_by k.table v.vector) r.intervals) → MatchOption o (kept_places k x ≡ all_of x) (λ target. kept_places k x ≡ target)
+    → (o : Option ℕ) → o ≡ option_map (λ i. r.base + i) (position (λ v. is_orphan_by k.table v.vector) r.intervals) → MatchOption o (kept_places k x ≡ all_of x) (λ first. kept_places k x ≡ first)
 
 -- ---- going back
 

@@ -12,17 +12,17 @@ pub fn beginnings_are_seen<H: Handler>()
     ensures { BeginningsAreSeen H.meaning }
 {}
 
-/// So it is with entries for the units that joined.
+/// It is still seen when units joined, for which it has entries then.
 pub fn joins_are_seen<H: Handler>()
     ensures { JoinsAreSeen H.meaning }
 {}
 
-/// A unit that is seen has the same places.
+/// A unit that is seen has the same base and as many places, and as many of them are not stable.
 pub fn places_are_seen<H: Handler>()
     ensures { PlacesAreSeen H.meaning }
 {}
 
-/// After a kill it is seen.
+/// A unit is seen after a kill.
 pub fn kills_are_seen<H: Handler>()
     ensures { KillsAreSeen H.meaning }
 {}
@@ -32,32 +32,32 @@ pub fn flushes_are_seen<H: Handler>()
     ensures { FlushesAreSeen H.meaning }
 {}
 
-/// And where its frontier goes on.
+/// It is still seen as its frontier goes on.
 pub fn frontiers_are_seen<H: Handler>()
     ensures { FrontiersAreSeen H.meaning }
 {}
 
-/// So it is after a receipt.
+/// A unit is seen after a receipt, with the record that the compact state makes of it.
 pub fn receipts_are_seen<H: Handler>()
     ensures { ReceiptsAreSeen H.meaning }
 {}
 
-/// The record of a receipt is of the place after the last.
+/// That record is of the place after the last, as `take` asks.
 pub fn marks_are_seen<H: Handler>()
     ensures { MarksAreSeen H.meaning }
 {}
 
-/// The interval at the last place has the last vector.
+/// The vector of the interval at the last index is the one that the record's is made of.
 pub fn last_vectors_are_seen<H: Handler>()
     ensures { LastVectorsAreSeen H.meaning }
 {}
 
-/// The turn of the input that is asked for upon a receipt is the receipt's.
+/// The turn of the input that is asked for upon a receipt is the turn of the receipt.
 pub fn turns_are_seen<H: Handler>()
     ensures { TurnsAreSeen H.meaning }
 {}
 
-/// So it is after a checkpoint, by which the first snapshot of the shelf may go.
+/// A unit is seen after a checkpoint, by which the first snapshot of its shelf may go.
 pub fn checkpoints_are_seen<H: Handler>()
     ensures { CheckpointsAreSeen H.meaning }
 {}
@@ -72,7 +72,7 @@ pub fn orphans_are_seen<H: Handler>()
     ensures { OrphansAreSeen H.meaning }
 {}
 
-/// So it is as the search for the first orphan says.
+/// What `first_orphan` gives is how much is kept, and where it gives none all is.
 pub fn first_orphans_are_seen<H: Handler>()
     ensures { FirstOrphansAreSeen H.meaning }
 {}
@@ -82,7 +82,7 @@ pub fn restores_are_seen<H: Handler>()
     ensures { RestoresAreSeen H.meaning }
 {}
 
-/// A unit is seen after its base moved.
+/// A unit is seen after its base moved to another snapshot of its shelf.
 pub fn forgetting_is_seen<H: Handler>()
     ensures { ForgettingIsSeen H.meaning }
 {}
