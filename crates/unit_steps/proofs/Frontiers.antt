@@ -1,0 +1,62 @@
+-- How far a path is firm.
+use Rattle.std.proofs.Common.{◌≡◌, refl, sym, ◌∙◌, ℕ, zero, suc, ◌+◌, ◌-◌, ◌<◌, ◌≤◌, Bool, true, false, List, [], ◌∷◌, length, drop, map, arith}
+use Rattle.std.specs.Prelude.{Some, slice_get}
+use Rattle.std.proofs.lemmas.Option.{same_Some}
+use Rattle.std.proofs.lemmas.List.Sums.{take_while-cons}
+use Rattle.model.specs.declared.names.Row.{Row}
+use Rattle.compact.specs.Compact.{Interval}
+use Rattle.compact.specs.Laws.{FirmByCount, firm_front, is_firm_by}
+use Rattle.model.proofs.Places.{get_below}
+use Rattle.rollback.specs.Units.{Recovering, places}
+use Rattle.unit_steps.specs.Receipts.{frontier_of}
+use Rattle.compact.proofs.Tails as tails
+
+-- a vector is firm where none of its entries is counted as unstable
+pub firm_by_count : FirmByCount
+firm_by_count rows stable_lengths vector = tails.firm_by_count rows stable_lengths vector
+
+-- the element at a place stands before those behind it
+drop_at : {X : Type 0} (xs : List X) (k : ℕ) (x : X) → slice_get xs k ≡ Some x → drop k xs ≡ x ∷ drop (suc k) xs
+drop_at [] k x e = cc
+drop_at (y ∷ ys) zero x e = let q = same_Some y x e in rw q refl
+drop_at (y ∷ ys) (suc k) x e = drop_at ys k x e
+
+drop_past : {X : Type 0} (xs : List X) (k : ℕ) → length xs ≤ k → drop k xs ≡ []
+drop_past [] zero h = refl
+drop_past [] (suc k) h = refl
+drop_past (x ∷ xs) zero h = absurd (omega (arith, h))
+drop_past (x ∷ xs) (suc k) h = drop_past xs k (omega (arith, h))
+
+module _ (rows : List Row) (stable_lengths : List ℕ) (intervals : List Interval) (k : ℕ) where
+  -- how many from this place on are firm
+  abbrev front : ℕ → ℕ
+  front n = firm_front rows stable_lengths (map (λ i. i.vector) (drop n intervals))
+
+  pub front_goes_on : (x : Interval) → slice_get intervals k ≡ Some x → is_firm_by rows stable_lengths x.vector ≡ true → front k ≡ suc (front (suc k))
+  front_goes_on x at firm = rw (drop_at intervals k x at, take_while-cons (is_firm_by rows stable_lengths) x.vector (map (λ i. i.vector) (drop (suc k) intervals)), firm) refl
+
+  pub front_ends : (x : Interval) → slice_get intervals k ≡ Some x → is_firm_by rows stable_lengths x.vector ≡ false → front k ≡ 0
+  front_ends x at firm = rw (drop_at intervals k x at, take_while-cons (is_firm_by rows stable_lengths) x.vector (map (λ i. i.vector) (drop (suc k) intervals)), firm) refl
+
+  pub front_ends_past : length intervals ≤ k → front k ≡ 0
+  front_ends_past h = rw (drop_past intervals k h) refl
+
+module _ {S : Type 0} (rows : List Row) (stable_lengths : List ℕ) (r : Recovering S) (k : ℕ) (base : r.base ≤ k) where
+  abbrev test : Interval → Bool
+  test x = is_firm_by rows stable_lengths x.vector
+
+  pub goes_on : k < places r → (b : Bool) → b ≡ true → ((x : Interval) → slice_get r.intervals (k - r.base) ≡ Some x → b ≡ test x) → frontier_of rows stable_lengths r (k + 1) ≡ frontier_of rows stable_lengths r k
+  goes_on within b firm same =
+      let x = get_below r.intervals (k - r.base) (omega (arith, within, base)) in
+      let one = front_goes_on rows stable_lengths r.intervals (k - r.base) x.0 x.1 (sym (same x.0 x.1) ∙ firm) in
+      let next : (k + 1) - r.base ≡ suc (k - r.base) = omega (arith, base) in
+      rw next (omega (arith, one))
+
+  pub ends : k < places r → (b : Bool) → b ≡ false → ((x : Interval) → slice_get r.intervals (k - r.base) ≡ Some x → b ≡ test x) → k ≡ frontier_of rows stable_lengths r k
+  ends within b left same =
+      let x = get_below r.intervals (k - r.base) (omega (arith, within, base)) in
+      let none = front_ends rows stable_lengths r.intervals (k - r.base) x.0 x.1 (sym (same x.0 x.1) ∙ left) in
+      omega (arith, none)
+
+  pub ends_past : places r ≤ k → k ≡ frontier_of rows stable_lengths r k
+  ends_past past = let none = front_ends_past rows stable_lengths r.intervals (k - r.base) (omega (arith, past, base)) in omega (arith, none)

@@ -1,0 +1,57 @@
+//! How far a path is firm.
+
+ghost use Rattle.std.specs.Prelude.{◌≡◌, ◌<◌, ◌≤◌, ◌-◌, Some, length, slice_get};
+ghost use Rattle.compact.specs.Laws.{is_firm_by};
+ghost use Rattle.rollback.specs.Units.{places};
+ghost use Rattle.compact.specs.Compact.{Interval as IntervalOf};
+ghost use Rattle.unit_steps.specs.Receipts.{frontier_of, IsFrontier, NoLonger};
+
+use depvector::DepVector;
+use handler::Handler;
+use incarnation::StartTable;
+use orphan::unstable_units;
+use rollback::RecoveryUnit;
+
+/// Whether all that an interval of this vector depends on is stable. A vector of more units than there are is not firm.
+#[tactic(auto, using(crate::proofs::Frontiers::firm_by_count))]
+fn is_firm(table: &StartTable, stable_lengths: &[u64], vector: &DepVector) -> bool
+    ensures { length vector.now ≤ length stable_lengths.now → result ≡ is_firm_by table.now stable_lengths.now vector.now }
+{
+    vector.len() <= stable_lengths.len() && unstable_units(vector, table, stable_lengths) == 0
+}
+
+/// Whether the interval at this index is firm.
+fn is_firm_at<H: Handler>(
+    table: &StartTable,
+    stable_lengths: &[u64],
+    recovering: &RecoveryUnit<H>,
+    index: u32,
+) -> bool
+    requires base { recovering.now.base ≤ index }
+    requires path { index < places recovering.now }
+    ensures { NoLonger (length stable_lengths.now) recovering.now.intervals → (x : IntervalOf) → slice_get recovering.now.intervals (index - recovering.now.base) ≡ Some x → result ≡ is_firm_by table.now stable_lengths.now x.vector }
+{
+    let interval = recovering.interval(index);
+    is_firm(table, stable_lengths, &interval.vector)
+}
+
+/// How many intervals at the front of a path are firm, where so many were before the last flush. Takes no memory, and
+/// time by the intervals that became firm.
+pub fn frontier_after<H: Handler>(
+    table: &StartTable,
+    stable_lengths: &[u64],
+    recovering: &RecoveryUnit<H>,
+    frontier: u64,
+) -> u64
+    ensures { IsFrontier (length stable_lengths.now) recovering.now frontier → result ≡ frontier_of table.now stable_lengths.now recovering.now frontier }
+{
+    if frontier < u64::from(recovering.base()) {
+        return frontier;
+    }
+    let last = u64::from(recovering.last_index());
+    let mut firm = frontier;
+    while firm <= last && is_firm_at(table, stable_lengths, recovering, firm as u32) {
+        firm += 1;
+    }
+    firm
+}

@@ -1,0 +1,131 @@
+//! Letters that units sent.
+
+ghost use Rattle.std.specs.Prelude.{◌≡◌, ◌<◌, ◌≤◌, ◌^◌, ◌++◌, [], ◌∷◌, IfOk, length, nat_lt, Some};
+ghost use Rattle.std.specs.Prelude.{ℕ, ◌+◌};
+ghost use Rattle.std.specs.List.{filter};
+ghost use Rattle.session.specs.Counts.{advanced, sent_to};
+ghost use Rattle.compact.specs.Steps.{letters_by as letters_of};
+
+use depvector::DepVector;
+use model::{NoMemory, Source, Text, Unit};
+use session::Sessions;
+use std::alloc::Global;
+use std::marker::Model;
+
+/// What is forgotten of a letter once its receipt is firm for good.
+#[derive(Drop)]
+pub struct Content {
+    pub text: Text,
+    pub vector: DepVector,
+}
+
+impl Model for Content {
+    ghost use Rattle.compact.specs.Compact.{Content as ContentOf};
+
+    ghost Value = { ContentOf };
+
+    ghost view = { λ c. record { text = c.text; vector = c.vector } };
+}
+
+/// A letter: its sender's unit and its receiver, its number in their session, and its content where that is not forgotten.
+#[derive(Drop)]
+pub struct SentLetter {
+    pub source: Unit,
+    pub receiver: Unit,
+    pub number: u64,
+    pub content: Option<Content>,
+}
+
+impl Model for SentLetter {
+    ghost use Rattle.compact.specs.Compact.{Letter as LetterOf};
+
+    ghost Value = { LetterOf };
+
+    ghost view = { λ l. record { source = l.source; receiver = l.receiver; number = l.number; content = l.content } };
+}
+
+/// The letter of a send, of which the sender had sent so many to the receiver before.
+fn letter_of(
+    unit: Unit,
+    vector: &DepVector,
+    receiver: Unit,
+    text: Text,
+    number: u64,
+) -> Result<SentLetter, NoMemory>
+    ensures { IfOk result (λ l. l ≡ record { source = unit; receiver = receiver; number = number; content = Some (record { text = text; vector = vector.now }) }) }
+{
+    let vector = vector.copy()?;
+    Ok(SentLetter {
+        source: unit,
+        receiver,
+        number,
+        content: Some(Content { text, vector }),
+    })
+}
+
+/// The letters of those sends that are to units within the width, where the sender has these counts.
+#[tactic(auto, using(rollback::proofs::Sends::room_left))]
+fn letters_from(
+    alloc: Global,
+    unit: Unit,
+    vector: &DepVector,
+    counts: &mut Sessions,
+    sends: &[(Unit, Text)],
+    width: usize,
+) -> Result<Vec<SentLetter>, NoMemory>
+    requires within { width ≤ length counts.old.units }
+    requires room { (u : ℕ) → sent_to counts.old u + length sends.now < 2 ^ 64 }
+    ensures { IfOk result (λ made. made.items ≡ letters_of unit vector.now counts.old (filter (λ s. nat_lt s.0 width) sends.now)) }
+{
+    let mut made = Vec::new(alloc);
+    for send in sends {
+        if usize::from(send.0.number()) < width {
+            let number = counts.number_to(send.0);
+            let text = send.1.copy(alloc)?;
+            made.push(letter_of(unit, vector, send.0, text, number)?)?;
+            counts.sent(send.0);
+        }
+    }
+    Ok(made)
+}
+
+/// The counts after a receipt from the source, which have room for so many sends.
+#[tactic(auto, using(rollback::proofs::Sends::room_after_receipt))]
+fn counts_after(sessions: &Sessions, source: &Source, sends: usize) -> Result<Sessions, NoMemory>
+    ensures counts { IfOk result (λ c. c ≡ advanced sessions.now source.now) }
+    ensures room { IfOk result (λ c. (u : ℕ) → sent_to c u + sends < 2 ^ 64) }
+{
+    if !sessions.has_room(*source, sends) {
+        return Err(NoMemory);
+    }
+    let mut counts = sessions.copy()?;
+    counts.advance(*source);
+    Ok(counts)
+}
+
+/// The letters that a unit sends by the turn of a receipt, of which those to units within the width count. `sessions`
+/// are the unit's before the receipt; they stay.
+///
+/// # Errors
+///
+/// `NoMemory` where the letters find no memory, or can't be counted.
+pub fn letters_by(
+    alloc: Global,
+    unit: Unit,
+    vector: &DepVector,
+    sessions: &Sessions,
+    source: Source,
+    sends: &[(Unit, Text)],
+    width: usize,
+) -> Result<Vec<SentLetter>, NoMemory>
+    ensures { IfOk result (λ made. made.items ≡ letters_of unit vector.now (advanced sessions.now source) (filter (λ s. nat_lt s.0 width) sends.now)) }
+{
+    if sends.is_empty() {
+        return Ok(Vec::new(alloc));
+    }
+    let mut counts = counts_after(sessions, &source, sends.len())?;
+    if counts.len() < width {
+        return Err(NoMemory);
+    }
+    letters_from(alloc, unit, vector, &mut counts, sends, width)
+}

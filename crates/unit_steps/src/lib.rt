@@ -1,0 +1,21 @@
+//! What the steps of a tenant compute at one unit, by what its recovery unit keeps.
+//!
+//! - `refusals`: the tests of a receipt, before its turn and after it.
+//! - `receipt`: the mark, vector and record of the interval that a receipt makes.
+//! - `letters`: letters, with text and vector as long as they may be needed, and those that a receipt sends.
+//! - `frontier`: how far a path is firm.
+//! - `laws`: these are what the steps of a tenant's compact state compute.
+//!
+//! The definitions by lists stand in `specs/Receipts`.
+#![tactic(auto)]
+
+mod frontier;
+pub mod laws;
+mod letters;
+mod receipt;
+mod refusals;
+
+pub use frontier::frontier_after;
+pub use letters::{Content, SentLetter, letters_by};
+pub use receipt::{mark_upon, record_upon, vector_upon};
+pub use refusals::{Known, letter_refusal, post_refusal, turn_refusal};

@@ -1,0 +1,92 @@
+//! The interval that a receipt makes.
+
+ghost use Rattle.std.specs.Prelude.{◌≡◌, ◌<◌, ◌≤◌, ◌^◌, IfOk, length};
+ghost use Rattle.rollback.specs.Units.{places};
+ghost use Rattle.unit_steps.specs.Receipts.{last_vector_of, mark_upon as mark_upon_of, vector_upon as vector_upon_of};
+
+use depvector::DepVector;
+use handler::Handler;
+use incarnation::StartTable;
+use model::{Letter, Mark, NoMemory, Record, Source, TenantName, Text, Unit};
+use rollback::RecoveryUnit;
+use std::alloc::Global;
+
+/// The mark of the interval that a receipt makes, where the path isn't full.
+pub fn mark_upon<H: Handler>(table: &StartTable, unit: Unit, recovering: &RecoveryUnit<H>) -> Mark
+    ensures { places recovering.now < 2 ^ 32 → result ≡ mark_upon_of table.now unit recovering.now }
+{
+    Mark {
+        incarnation: table.latest(unit),
+        index: recovering.last_index().saturating_add(1),
+    }
+}
+
+/// The vector of the last interval.
+fn last_vector<H: Handler>(recovering: &RecoveryUnit<H>) -> &DepVector
+    ensures { result.now ≡ last_vector_of recovering.now }
+{
+    let last = recovering.last_index();
+    &recovering.interval(last).vector
+}
+
+/// The vector of the interval that a receipt makes: the last one, with an entry for each unit, joined with that of the
+/// letter, and its own mark set.
+///
+/// # Errors
+///
+/// `NoMemory` where the vector finds no memory, or where it has no entry for the unit, or the letter's has more.
+pub fn vector_upon<H: Handler>(
+    table: &StartTable,
+    width: usize,
+    unit: Unit,
+    recovering: &RecoveryUnit<H>,
+    letter: &DepVector,
+) -> Result<DepVector, NoMemory>
+    requires { width ≤ 256 }
+    ensures { IfOk result (λ v. places recovering.now < 2 ^ 32 → v ≡ vector_upon_of table.now width unit recovering.now letter.now) }
+{
+    let mut vector = last_vector(recovering).copy()?;
+    vector.widen(width)?;
+    if letter.len() > vector.len() {
+        return Err(NoMemory);
+    }
+    vector.join(letter);
+    if usize::from(unit.number()) >= vector.len() {
+        return Err(NoMemory);
+    }
+    vector.set_own(unit, mark_upon(table, unit, recovering));
+    Ok(vector)
+}
+
+/// The record of a receipt.
+///
+/// # Errors
+///
+/// `NoMemory` where name, text or vector find no memory.
+pub fn record_upon(
+    alloc: Global,
+    tenant: &TenantName,
+    unit: Unit,
+    mark: Mark,
+    source: Source,
+    letter: Option<Letter>,
+    number: u64,
+    text: &Text,
+    vector: &DepVector,
+) -> Result<Record, NoMemory>
+    ensures { IfOk result (λ r. r ≡ record { tenant = tenant.now; unit = unit; mark = mark; source = source; letter = letter; number = number; text = text.now; vector = vector.now }) }
+{
+    let tenant = tenant.copy(alloc)?;
+    let text = text.copy(alloc)?;
+    let vector = vector.to_marks()?;
+    Ok(Record {
+        tenant,
+        unit,
+        mark,
+        source,
+        letter,
+        number,
+        text,
+        vector,
+    })
+}
