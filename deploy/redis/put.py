@@ -1,0 +1,135 @@
+#!/usr/bin/python3 -B
+"""Puts step lines into their partitions, and writes the replies in the order of the lines.
+
+    put.py PARTITIONS [--redis URL] [--name NAME] [--producer NAME] < LINES
+
+A line goes to the partition of its tenant; one without a tenant that can be read goes to partition 0, since it is answered
+`bad-line` wherever it is. The producer numbers its lines in each partition from 0, and the server takes none twice and
+leaves none out: each put answers the number that it waits for. So a put that had no answer, or that a crash of the server
+lost, is made good by going on from that number, and the same producer can be run again on the same lines.
+"""
+
+import argparse
+import json
+import secrets
+import sys
+import time
+import zlib
+
+import redis
+
+import worker
+
+BATCH = 100
+
+
+def partition_of(line, partitions):
+    """The partition of a line: by the hash of its tenant."""
+    try:
+        step = json.loads(line)
+    except (ValueError, RecursionError):
+        step = None
+    tenant = step.get("tenant") if isinstance(step, dict) else None
+    return zlib.crc32(tenant.encode(errors="surrogatepass")) % partitions if isinstance(tenant, str) else 0
+
+
+def partitions_of(server, name, count):
+    """The partitions of this name. Their count is fixed by who comes first, since tenants would lie elsewhere by another."""
+    fixed = int(server.set(f"{name}:partitions", count, nx=True, get=True) or count)
+    if fixed != count:
+        raise ValueError(f"{name} has {fixed} partitions, not {count}")
+    return [worker.Partition(server, name, number) for number in range(count)]
+
+
+class Producer:
+    """Puts lines of its own, in order, each once. It keeps them all, to give those again that were lost."""
+
+    def __init__(self, server, partitions, name):
+        self.server, self.partitions, self.name = server, partitions, name
+        self.epochs = [partition.epoch() for partition in partitions]
+        self.lines = [[] for _ in partitions]
+        self.next = [0] * len(partitions)
+
+    def add(self, line):
+        """Takes a line to be put; gives its partition and its number there."""
+        at = partition_of(line, len(self.partitions))
+        self.lines[at].append(line)
+        return at, len(self.lines[at]) - 1
+
+    def send(self):
+        """Puts the next lines of each partition, and learns from which number on to go on. Gives whether all are there. It
+        is to be asked again after a lost connection, also where all were there before."""
+        calls = self.server.pipeline(transaction=False)
+        asked = []
+        for at, (partition, lines, next) in enumerate(zip(self.partitions, self.lines, self.next)):
+            epoch = self.epochs[at]
+            keys = partition.key("epoch"), partition.key("steps", epoch), partition.key("producers")
+            for number, line in [*enumerate(lines[next : next + BATCH], next), (-1, b"")]:
+                asked.append(at)
+                calls.fcall("recall_put", 3, *keys, epoch, self.name, number, line)
+        for at, next in zip(asked, calls.execute(raise_on_error=False)):
+            if isinstance(next, Exception):
+                raise next
+            self.next[at] = next
+        return all(next == len(lines) for next, lines in zip(self.next, self.lines))
+
+
+class Replies:
+    """Reads the replies of partitions, each step's once."""
+
+    def __init__(self, server, partitions):
+        self.server = server
+        self.last = {partition.key("replies", partition.epoch()).encode(): b"0" for partition in partitions}
+        self.at = {stream: at for at, stream in enumerate(self.last)}
+        self.next = {}
+
+    def read(self, milliseconds):
+        """The next replies, waiting so long for one: partition, producer, number, reply. A number that came before is of a
+        step that was put again after a loss: its reply is the same, and is left out."""
+        for stream, entries in self.server.xread(self.last, count=1000, block=milliseconds):
+            for id, entry in entries:
+                self.last[stream] = id
+                who, number = (self.at[stream], entry[b"from"]), int(entry[b"number"] or 0)
+                if number >= self.next.get(who, 0):
+                    self.next[who] = number + 1
+                    yield *who, number, entry[b"reply"]
+
+
+def put(producer, replies, lines):
+    """Puts these lines, and gives their replies in order."""
+    places = [producer.add(line) for line in lines]
+    found, at, is_sent = {}, 0, False
+    while at < len(places):
+        try:
+            is_sent = is_sent or producer.send()
+            for partition, name, number, reply in replies.read(100 if is_sent else 1):
+                if name == producer.name.encode():
+                    found[partition, number] = reply
+        except redis.ConnectionError:
+            is_sent = False
+            time.sleep(0.2)
+        while at < len(places) and places[at] in found:
+            yield found.pop(places[at])
+            at += 1
+
+
+def main():
+    reader = argparse.ArgumentParser(description=__doc__, formatter_class=argparse.RawDescriptionHelpFormatter)
+    reader.add_argument("partitions", type=int)
+    reader.add_argument("--redis", default="redis://127.0.0.1:6379")
+    reader.add_argument("--name", default="recall")
+    reader.add_argument("--producer", default=secrets.token_hex(8))
+    words = reader.parse_args()
+    server = redis.Redis.from_url(words.redis)
+    partitions = partitions_of(server, words.name, words.partitions)
+    lines = [line[:-1] if line.endswith(b"\n") else line for line in sys.stdin.buffer]
+    try:
+        for reply in put(Producer(server, partitions, words.producer), Replies(server, partitions), lines):
+            sys.stdout.buffer.write(reply + b"\n")
+            sys.stdout.buffer.flush()
+    except redis.ResponseError as refused:
+        sys.exit(f"put: {refused}")
+
+
+if __name__ == "__main__":
+    main()
