@@ -3,10 +3,9 @@
 
     worker.py PROGRAM PARTITION [--redis URL] [--name NAME] [--lease MILLISECONDS]
 
-It waits for the partition's lease, starts PROGRAM, and gives it the steps of the present epoch from the first one. As many
-replies as the stream of replies has are dropped; those behind them are appended. Each write carries the lease with its
-fencing number, and the server refuses it where that is over (recall.lua). Whatever goes wrong ends the worker; it is to be
-started anew, and begins from what the streams have.
+It waits for the partition's lease, starts PROGRAM, and gives it the steps of the epoch from the first one. As many replies
+as the stream of replies has are dropped; those behind them are appended. Each write carries the lease with its fencing
+number, and the server refuses it where that is over (recall.lua). Whatever goes wrong ends the worker: start it anew.
 
 Status 0: ended by SIGTERM, and the lease given back. 1: a fault. 2: bad words. 3: fenced: a write was refused. 4: the server
 can't be reached. 5: the program ended.
@@ -103,8 +102,7 @@ class Worker:
         self.streams = [partition.key(stream, partition.epoch()) for stream in ("steps", "replies")]
         self.drop = self.count = self.server.xlen(self.streams[1])
         self.last = self.server.xrevrange(self.streams[1], count=1)
-        self.batches = queue.Queue(AHEAD)
-        self.run = Run(program)
+        self.batches, self.run = queue.Queue(AHEAD), Run(program)
 
     def feed(self):
         """Gives the run the steps from the first one on, batch by batch, for ever. A fault is passed on as a batch."""
@@ -146,6 +144,8 @@ class Worker:
             try:
                 batch = self.batches.get(timeout=PAUSE)
             except queue.Empty:
+                if self.run.process.poll() is not None:
+                    self.run.reply()  # (it has none, and that is the fault)
                 continue
             if isinstance(batch, Exception):
                 raise batch
@@ -153,7 +153,7 @@ class Worker:
 
 
 def words_of(page):
-    """The words of a program that works on one partition."""
+    """The words of a script that works on one partition."""
     reader = argparse.ArgumentParser(description=page, formatter_class=argparse.RawDescriptionHelpFormatter)
     reader.add_argument("program")
     reader.add_argument("partition", type=int)
@@ -186,7 +186,7 @@ def main():
     try:
         serve(words, stopping, say)
         status, why = 0, "ended"
-    except redis.ConnectionError as gone:
+    except (redis.ConnectionError, redis.TimeoutError) as gone:
         status, why = 4, f"the server can't be reached: {gone}"
     except redis.ResponseError as refused:
         status, why = 3 if str(refused).startswith("FENCED") else 1, f"refused: {refused}"
