@@ -121,13 +121,13 @@ def main():
     reader.add_argument("--producer", default=secrets.token_hex(8))
     words = reader.parse_args()
     server = redis.Redis.from_url(words.redis)
-    partitions = partitions_of(server, words.name, words.partitions)
     lines = [line[:-1] if line.endswith(b"\n") else line for line in sys.stdin.buffer]
     try:
+        partitions = partitions_of(server, words.name, words.partitions)
         for reply in put(Producer(server, partitions, words.producer), Replies(server, partitions), lines):
             sys.stdout.buffer.write(reply + b"\n")
             sys.stdout.buffer.flush()
-    except redis.ResponseError as refused:
+    except (redis.ResponseError, ValueError) as refused:
         sys.exit(f"put: {refused}")
 
 
