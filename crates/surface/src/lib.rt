@@ -19,4 +19,8 @@ mod orphan_calls;
 #[cfg(test)]
 mod output_commit_calls;
 #[cfg(test)]
+mod shared_log_calls;
+#[cfg(test)]
+mod stable_log_calls;
+#[cfg(test)]
 mod written_calls;
