@@ -4,7 +4,7 @@
 use crate::{Book, isolated};
 use handler::Sample;
 use model::{
-    End, Mark, Quota, Refusal, Reply, Row, Said, Start, Step, TenantName, Text, Texts, Unit, Who,
+    End, Entry, Mark, Quota, Refusal, Reply, Row, Start, Step, TenantName, Text, Texts, Unit, Who,
 };
 use shared_log::MemoryStore;
 use std::alloc::Global;
@@ -16,14 +16,15 @@ fn name(alloc: Global, text: &str) -> Result<TenantName, Fail> {
     Ok(TenantName::new(String::from_str(alloc, text)?).ok_or("not a name")?)
 }
 
-fn open(alloc: Global, tenant: &str, kinds: &[&str]) -> Result<Step, Fail> {
-    let mut texts = Vec::new(alloc);
-    for kind in kinds {
-        texts.push(Text::of(alloc, kind)?)?;
-    }
+/// What a step of unit 0 does, the tenant that it names, and a post's number.
+type Line = (&'static str, &'static str, u32);
+
+fn open(alloc: Global, tenant: TenantName, kind: &str) -> Result<Step, Fail> {
+    let mut kinds = Vec::new(alloc);
+    kinds.push(Text::of(alloc, kind)?)?;
     Ok(Step::Open {
-        tenant: name(alloc, tenant)?,
-        kinds: Texts::new(texts),
+        tenant,
+        kinds: Texts::new(kinds),
         quota: Quota {
             volatile: 1024,
             held: 1024,
@@ -33,61 +34,55 @@ fn open(alloc: Global, tenant: &str, kinds: &[&str]) -> Result<Step, Fail> {
     })
 }
 
-fn post(alloc: Global, tenant: &str, number: u32, text: &str) -> Result<Step, Fail> {
+fn post(alloc: Global, tenant: TenantName, number: u32) -> Result<Step, Fail> {
+    let text = Text::of(alloc, "x")?;
     Ok(Step::Post {
-        tenant: name(alloc, tenant)?,
+        tenant,
         unit: Unit::new(0),
         number,
-        text: Text::of(alloc, text)?,
+        text,
     })
 }
 
-fn flush(alloc: Global, tenant: &str) -> Result<Step, Fail> {
-    Ok(Step::Flush {
-        tenant: name(alloc, tenant)?,
-        unit: Unit::new(0),
-    })
-}
-
-fn release(alloc: Global, tenant: &str) -> Result<Step, Fail> {
-    Ok(Step::Release {
-        tenant: name(alloc, tenant)?,
-        unit: Unit::new(0),
-    })
-}
-
-fn kill(alloc: Global, tenant: &str) -> Result<Step, Fail> {
-    Ok(Step::Kill {
-        tenant: name(alloc, tenant)?,
-        unit: Unit::new(0),
-    })
-}
-
-fn restart(alloc: Global, tenant: &str) -> Result<Step, Fail> {
-    Ok(Step::Restart {
-        tenant: name(alloc, tenant)?,
-        unit: Unit::new(0),
-    })
+/// The step of a line: a post where it is none of the others, and an open where it has a kind's name.
+fn step_of(alloc: Global, line: Line) -> Result<Step, Fail> {
+    let (what, named, number) = line;
+    let tenant = name(alloc, named)?;
+    let unit = Unit::new(0);
+    match what {
+        "post" => post(alloc, tenant, number),
+        "flush" => Ok(Step::Flush { tenant, unit }),
+        "release" => Ok(Step::Release { tenant, unit }),
+        "kill" => Ok(Step::Kill { tenant, unit }),
+        "restart" => Ok(Step::Restart { tenant, unit }),
+        kind => open(alloc, tenant, kind),
+    }
 }
 
 /// A tenant `echoes` of one echo and a tenant `counts` of one count, side by side.
-fn side_by_side(alloc: Global) -> Result<Vec<Step>, Fail> {
-    Ok(vec![in alloc;
-        open(alloc, "echoes", &["echo"])?,
-        open(alloc, "counts", &["count"])?,
-        post(alloc, "echoes", 0, "x")?,
-        post(alloc, "counts", 0, "x")?,
-        release(alloc, "echoes")?,
-        flush(alloc, "echoes")?,
-        release(alloc, "echoes")?,
-        flush(alloc, "counts")?,
-        post(alloc, "echoes", 0, "x")?,
-        post(alloc, "echoes", 2, "x")?,
-        release(alloc, "counts")?,
-        post(alloc, "counts", 1, "y")?,
-        kill(alloc, "counts")?,
-        restart(alloc, "counts")?,
-    ]?)
+const SIDE_BY_SIDE: [Line; 14] = [
+    ("echo", "echoes", 0),
+    ("count", "counts", 0),
+    ("post", "echoes", 0),
+    ("post", "counts", 0),
+    ("release", "echoes", 0),
+    ("flush", "echoes", 0),
+    ("release", "echoes", 0),
+    ("flush", "counts", 0),
+    ("post", "echoes", 0),
+    ("post", "echoes", 2),
+    ("release", "counts", 0),
+    ("post", "counts", 1),
+    ("kill", "counts", 0),
+    ("restart", "counts", 0),
+];
+
+fn steps_of(alloc: Global, lines: &[Line]) -> Result<Vec<Step>, Fail> {
+    let mut steps = Vec::new(alloc);
+    for line in lines {
+        steps.push(step_of(alloc, *line)?)?;
+    }
+    Ok(steps)
 }
 
 fn are_texts(texts: &[Text], want: &[&str]) -> bool {
@@ -159,131 +154,130 @@ fn are_replies_of_counts(replies: &[Reply]) -> bool {
         && is_restarted(&replies[6])
 }
 
-fn text_of(alloc: Global, reply: &Reply) -> Result<String, Fail> {
-    Ok(format!(in alloc; "{reply:?}")?)
+fn are_replies_to_openings(replies: &[Reply]) -> bool {
+    replies.len() == 5
+        && is_refused(&replies[0], Refusal::NoTenant)
+        && matches!(&replies[1], Reply::Opened { units: 1 })
+        && is_refused(&replies[2], Refusal::BadOpen)
+        && matches!(&replies[3], Reply::Opened { units: 1 })
+        && is_refused(&replies[4], Refusal::AlreadyOpen)
+}
+
+fn are_names(names: &[TenantName], want: &[&str]) -> bool {
+    names.len() == want.len()
+        && names
+            .iter()
+            .zip(want.iter())
+            .all(|(name, want)| name.as_str() == *want)
+}
+
+fn is_only_row(rows: &[Row], want: Row) -> bool {
+    rows.len() == 1 && rows[0] == want
+}
+
+/// Whether the entry at this place is of this one, where the store took so many records and the step was whole.
+fn is_entry(history: &[Entry], at: usize, who: Who, appended: u64) -> bool {
+    match history.get(at) {
+        Some(entry) => {
+            entry.who == who && entry.said.appended == appended && entry.said.end == End::Whole
+        }
+        None => false,
+    }
+}
+
+/// Whether the unit 0 of the tenant has released these.
+fn has_released(book: &Books, tenant: &TenantName, want: &[&str]) -> bool {
+    match book.released(tenant, Unit::new(0)) {
+        Some(texts) => are_texts(texts, want),
+        None => false,
+    }
+}
+
+/// Whether the tenant has no row, or just this one.
+fn has_rows(book: &Books, tenant: &TenantName, want: Option<Row>) -> bool {
+    match (book.rollbacks(tenant), want) {
+        (Some(rows), Some(want)) => is_only_row(rows, want),
+        (Some(rows), None) => rows.is_empty(),
+        (None, _) => false,
+    }
+}
+
+/// Whether nothing is known of the tenant.
+fn is_unknown(book: &Books, tenant: &TenantName) -> bool {
+    book.released(tenant, Unit::new(0)).is_none() && book.rollbacks(tenant).is_none()
+}
+
+/// A book that has done these steps, and its replies.
+fn done(alloc: Global, lines: &[Line]) -> Result<(Books, Vec<Reply>), Fail> {
+    let steps = steps_of(alloc, lines)?;
+    let mut book: Books = Book::new(alloc, Sample, MemoryStore::new(alloc));
+    let replies = book.run(steps.as_slice())?;
+    Ok((book, replies))
 }
 
 #[test]
 fn tenants_are_answered_as_alone(rt: HostRuntime) -> Result<(), Fail> {
     let alloc = rt.alloc();
-    let mut book: Books = Book::new(alloc, Sample, MemoryStore::new(alloc));
-    let steps = side_by_side(alloc)?;
-    let replies = book.run(steps.as_slice())?;
+    let (echoes, counts) = (name(alloc, "echoes")?, name(alloc, "counts")?);
+    let (book, replies) = done(alloc, &SIDE_BY_SIDE)?;
     assert_eq!(rt; replies.len(), 14);
-    let echoes = book.replies_of(alloc, &name(alloc, "echoes")?)?;
-    let counts = book.replies_of(alloc, &name(alloc, "counts")?)?;
-    assert!(rt; are_replies_of_echoes(echoes.as_slice()));
-    assert!(rt; are_replies_of_counts(counts.as_slice()));
-    assert!(rt; book.replies_of(alloc, &name(alloc, "others")?)?.is_empty());
-    Ok(())
-}
-
-#[test]
-fn run_answers_as_step_by_step(rt: HostRuntime) -> Result<(), Fail> {
-    let alloc = rt.alloc();
-    let mut book: Books = Book::new(alloc, Sample, MemoryStore::new(alloc));
-    let mut other: Books = Book::new(alloc, Sample, MemoryStore::new(alloc));
-    let replies = book.run(side_by_side(alloc)?.as_slice())?;
-    assert_eq!(rt; replies.len(), 14);
-    for (step, had) in side_by_side(alloc)?.into_iter().zip(replies.iter()) {
-        let reply = other.step(step);
-        let entry = other.history().last().ok_or("no entry")?;
-        assert!(rt; !is_refused(&reply, Refusal::Memory));
-        assert!(rt; text_of(alloc, had)?.as_str() == text_of(alloc, &reply)?.as_str());
-        assert!(rt; text_of(alloc, &entry.reply)?.as_str() == text_of(alloc, &reply)?.as_str());
-    }
     assert_eq!(rt; book.history().len(), 14);
-    assert_eq!(rt; other.history().len(), 14);
+    let of_echoes = book.replies_of(alloc, &echoes)?;
+    assert!(rt; are_replies_of_echoes(of_echoes.as_slice()));
+    let of_counts = book.replies_of(alloc, &counts)?;
+    assert!(rt; are_replies_of_counts(of_counts.as_slice()));
     Ok(())
 }
 
 #[test]
 fn reads_are_of_the_tenant(rt: HostRuntime) -> Result<(), Fail> {
     let alloc = rt.alloc();
-    let mut book: Books = Book::new(alloc, Sample, MemoryStore::new(alloc));
-    book.run(side_by_side(alloc)?.as_slice())?;
-    let (echoes, counts, others) = (
-        name(alloc, "echoes")?,
-        name(alloc, "counts")?,
-        name(alloc, "others")?,
-    );
-    let released = book.released(&echoes, Unit::new(0)).ok_or("not open")?;
-    assert!(rt; are_texts(released, &["x"]));
-    let released = book.released(&counts, Unit::new(0)).ok_or("not open")?;
-    assert!(rt; are_texts(released, &["1"]));
-    assert!(rt; book.released(&echoes, Unit::new(1)).is_none());
-    assert!(rt; book.released(&others, Unit::new(0)).is_none());
-    assert!(rt; book.rollbacks(&echoes).ok_or("not open")?.is_empty());
+    let (echoes, counts) = (name(alloc, "echoes")?, name(alloc, "counts")?);
+    let others = name(alloc, "others")?;
     let row = Row {
         unit: Unit::new(0),
         incarnation: 1,
         start: 2,
     };
-    let rows = book.rollbacks(&counts).ok_or("not open")?;
-    assert_eq!(rt; rows.len(), 1);
-    assert_eq!(rt; rows[0], row);
-    assert!(rt; book.rollbacks(&others).is_none());
+    let (book, _) = done(alloc, &SIDE_BY_SIDE)?;
+    assert!(rt; has_released(&book, &echoes, &["x"]));
+    assert!(rt; has_released(&book, &counts, &["1"]));
+    assert!(rt; has_rows(&book, &echoes, None));
+    assert!(rt; has_rows(&book, &counts, Some(row)));
+    assert!(rt; is_unknown(&book, &others));
     Ok(())
 }
 
 #[test]
 fn tenants_are_in_the_order_of_opening(rt: HostRuntime) -> Result<(), Fail> {
     let alloc = rt.alloc();
-    let mut book: Books = Book::new(alloc, Sample, MemoryStore::new(alloc));
-    assert!(rt; is_refused(&book.step(post(alloc, "b", 0, "x")?), Refusal::NoTenant));
-    assert!(rt;
-        matches!(
-            book.step(open(alloc, "b", &["tee", "echo"])?),
-            Reply::Opened { units: 2 }
-        )
-    );
-    assert!(rt; is_refused(&book.step(open(alloc, "c", &["clock"])?), Refusal::BadOpen));
-    assert!(rt;
-        matches!(
-            book.step(open(alloc, "a", &["relay"])?),
-            Reply::Opened { units: 1 }
-        )
-    );
-    assert!(rt;
-        is_refused(
-            &book.step(open(alloc, "b", &["adder"])?),
-            Refusal::AlreadyOpen
-        )
-    );
+    let lines = [
+        ("post", "b", 0),
+        ("tee", "b", 0),
+        ("clock", "c", 0),
+        ("relay", "a", 0),
+        ("adder", "b", 0),
+    ];
+    let (book, replies) = done(alloc, &lines)?;
+    assert!(rt; are_replies_to_openings(replies.as_slice()));
     let names = book.tenants(alloc)?;
-    assert_eq!(rt; names.len(), 2);
-    assert!(rt; names[0].as_str() == "b");
-    assert!(rt; names[1].as_str() == "a");
-    assert_eq!(rt; book.history().len(), 5);
+    assert!(rt; are_names(names.as_slice(), &["b", "a"]));
     Ok(())
 }
 
 #[test]
 fn entries_tell_who_and_what_the_store_said(rt: HostRuntime) -> Result<(), Fail> {
     let alloc = rt.alloc();
+    let opening = step_of(alloc, ("echo", "a", 0))?;
+    let post = step_of(alloc, ("post", "a", 0))?;
+    let flush = step_of(alloc, ("flush", "a", 0))?;
     let mut book: Books = Book::new(alloc, Sample, MemoryStore::new(alloc));
-    book.step(open(alloc, "a", &["echo"])?);
-    book.step_as(Who::Feed { feed: 3, at: 5 }, post(alloc, "a", 0, "x")?);
-    book.step_as(Who::Logger, flush(alloc, "a")?);
-    let history = book.history();
-    assert_eq!(rt; history.len(), 3);
-    assert_eq!(rt; history[0].who, Who::Caller);
-    assert_eq!(rt; history[1].who, Who::Feed { feed: 3, at: 5 });
-    assert_eq!(rt; history[2].who, Who::Logger);
-    assert_eq!(rt;
-        history[1].said,
-        Said {
-            appended: 0,
-            end: End::Whole
-        }
-    );
-    assert_eq!(rt;
-        history[2].said,
-        Said {
-            appended: 1,
-            end: End::Whole
-        }
-    );
+    book.step(opening);
+    book.step_as(Who::Feed { feed: 3, at: 5 }, post);
+    book.step_as(Who::Logger, flush);
+    assert!(rt; is_entry(book.history(), 0, Who::Caller, 0));
+    assert!(rt; is_entry(book.history(), 1, Who::Feed { feed: 3, at: 5 }, 0));
+    assert!(rt; is_entry(book.history(), 2, Who::Logger, 1));
     Ok(())
 }
 
