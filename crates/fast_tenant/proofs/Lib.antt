@@ -1,0 +1,4 @@
+pub mod Found
+pub mod Follow
+pub mod Killing
+pub mod Telling

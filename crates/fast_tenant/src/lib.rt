@@ -1,0 +1,17 @@
+//! One tenant without a graph: its units, letters, table of rows and quotas, of whose history it keeps no more than
+//! its next steps need.
+//!
+//! - `tenant`: the struct, and what is read off it; `member`: one unit.
+//! - `statuses`, `kills`: the steps.
+//!
+//! Contracts see the tenant as `Kept` of `specs/Kept`. Each step says by `specs/Stands`: for every world that the
+//! tenant stands for, the reply is that of the definitions, and the tenant then stands for the world after the step.
+#![tactic(auto)]
+
+mod kills;
+mod member;
+mod statuses;
+mod tenant;
+
+pub use member::Member;
+pub use tenant::FastTenant;

@@ -1,0 +1,81 @@
+//! An open tenant.
+
+ghost use Rattle.std.specs.Prelude.{◌≡◌, ◌<◌, IfOk, IfErr, MatchOption, None, Some, length, slice_get, true};
+ghost use Rattle.std.specs.Option.{is_some};
+ghost use Rattle.output_commit.specs.Holds.{texts_of};
+ghost use Rattle.fast_tenant.specs.Kept.{up_refusal};
+
+use crate::member::Member;
+use handler::Handler;
+use incarnation::StartTable;
+use model::{Quota, Refusal, Unit};
+use output_commit::Outlet;
+use std::marker::Model;
+use unit_steps::SentLetter;
+
+/// An open tenant: its units with the counts of their stable and of their firm intervals, what they released, the
+/// letters, and the table of rows.
+#[derive(Drop)]
+pub struct FastTenant<H: Handler> {
+    pub(crate) quota: Quota,
+    pub(crate) optimism: u32,
+    pub(crate) table: StartTable,
+    pub(crate) members: Vec<Member<H>>,
+    pub(crate) stable_lengths: Vec<u64>,
+    pub(crate) frontiers: Vec<u64>,
+    pub(crate) outlet: Outlet,
+    pub(crate) letters: Vec<SentLetter>,
+}
+
+impl<H: Handler> Model for FastTenant<H> {
+    ghost use Rattle.fast_tenant.specs.Kept.{Kept};
+
+    ghost Value = { Kept H.State };
+
+    ghost view = { λ t. record { quota = t.quota; optimism = t.optimism; table = t.table; members = t.members.items; stable_lengths = t.stable_lengths.items; frontiers = t.frontiers.items; outlet = t.outlet; letters = t.letters.items } };
+}
+
+impl<H: Handler> FastTenant<H> {
+    /// The unit of this number.
+    pub(crate) fn member(&self, unit: Unit) -> Option<&Member<H>>
+        ensures { MatchOption result (slice_get self.now.members unit ≡ None) (λ m. slice_get self.now.members unit ≡ Some m.now) }
+    {
+        self.members.get(usize::from(unit.number()))
+    }
+
+    /// The unit of this number, if it is there and up.
+    pub(crate) fn up_member(&self, unit: Unit) -> Result<&Member<H>, Refusal>
+        ensures found { IfOk result (λ m. slice_get self.now.members unit ≡ Some m.now) }
+        ensures up { IfOk result (λ m. is_some m.now.recovering.progress ≡ true) }
+        ensures refused { IfErr result (λ r. up_refusal (slice_get self.now.members unit) ≡ Some r) }
+    {
+        match self.member(unit) {
+            None => Err(Refusal::NoUnit),
+            Some(member) => {
+                if member.is_up() {
+                    Ok(member)
+                } else {
+                    Err(Refusal::Down)
+                }
+            }
+        }
+    }
+
+    /// How many rows there are.
+    pub(crate) fn rows(&self) -> usize
+        ensures { result ≡ length self.now.table }
+    {
+        self.table.len()
+    }
+
+    /// How many outputs the unit released.
+    pub(crate) fn released_count(&self, unit: Unit) -> usize
+        ensures { unit < length self.now.outlet → result ≡ length (texts_of self.now.outlet unit) }
+    {
+        if usize::from(unit.number()) < self.outlet.len() {
+            self.outlet.released(unit).len()
+        } else {
+            0
+        }
+    }
+}
