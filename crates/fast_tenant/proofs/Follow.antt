@@ -14,22 +14,27 @@ use Rattle.model.specs.World.{World}
 use Rattle.model.specs.Steps.{Outcome, first_refusal}
 use Rattle.model.specs.Alone.{Reachable}
 use Rattle.model.proofs.Places.{get_below}
-use Rattle.theory.proofs.ListLaws.{get_set}
+use Rattle.theory.proofs.ListLaws.{get_set, set_get_other}
 use Rattle.compact.specs.Compact.{Compact, Represents, Unit}
 use Rattle.compact.specs.Steps.{Done, at_unit_of, at_up_of, or_refused, with_unit_at}
-use Rattle.compact.specs.StepLaws.{Answers}
+use Rattle.compact.specs.StepLaws.{Answers, Stands}
 use Rattle.fast_tenant.specs.Kept.{Kept, Member, up_refusal}
 use Rattle.fast_tenant.specs.Stands.{IsCompact, IsMember, Leaves}
 
--- what the compact state answers and leaves, a tenant does that keeps what it leaves
-pub leaves : {S : Type 0} (M : Meaning S) (name : List ℕ) (live : ℕ → List ℕ) (log : List Record) (outcome : Outcome) → ((z : World) → outcome.world ≡ Some z → Reachable M z) → (done given : Done S)
-    → Answers M name outcome done log → done ≡ given → (t : Kept S) → IsCompact t live given.state → Leaves M name live outcome given.reply t log
-leaves {S} M name live log outcome reach done given a same t is =
+-- What the compact state answers, a tenant does, and it keeps a compact state that stands for the same world as the one left.
+pub leaves_on : {S : Type 0} (M : Meaning S) (name : List ℕ) (live : ℕ → List ℕ) (log : List Record) (outcome : Outcome) → ((z : World) → outcome.world ≡ Some z → Reachable M z) → (done given : Done S)
+    → Answers M name outcome done log → done ≡ given → (k : Compact S) → ((z : World) → Stands M name given.state z log → Represents M name k z log) → (t : Kept S) → IsCompact t live k → Leaves M name live outcome given.reply t log
+leaves_on {S} M name live log outcome reach done given a same k goes t is =
     let z = a.after.0 in
     let there : outcome.world ≡ Some z = a.after.1 in
     let reply : outcome.reply ≡ given.reply = a.reply ∙ ap (λ (d : Done S). d.reply) same in
-    let stands : Represents M name given.state z log = subst (λ (d : Done S). Represents M name d.state z log) same a.after.2 in
-    (z, (λ i. record { reply = reply i; world = there i }), (given.state, is, record { reached = reach z there; represents = stands }))
+    let represents : Represents M name given.state z log = subst (λ (d : Done S). Represents M name d.state z log) same a.after.2 in
+    (z, (λ i. record { reply = reply i; world = there i }), (k, is, record { reached = reach z there; represents = goes z (record { reached = reach z there; represents = represents }) }))
+
+-- or the very one
+pub leaves : {S : Type 0} (M : Meaning S) (name : List ℕ) (live : ℕ → List ℕ) (log : List Record) (outcome : Outcome) → ((z : World) → outcome.world ≡ Some z → Reachable M z) → (done given : Done S)
+    → Answers M name outcome done log → done ≡ given → (t : Kept S) → IsCompact t live given.state → Leaves M name live outcome given.reply t log
+leaves M name live log outcome reach done given a same t is = leaves_on M name live log outcome reach done given a same given.state (λ z stands. stands.represents) t is
 
 -- ---- one unit
 
@@ -90,9 +95,33 @@ module _ {S : Type 0} (t : Kept S) (live : ℕ → List ℕ) (k : Compact S) (is
   pub is_up : (h : Unit S → Done S) (m : Member S) (x : Keeps t live k u m) → is_some m.recovering.progress ≡ true → at_up_of k h (slice_get k.units u) ≡ h x.unit
   is_up h m x e = ap (at_up_of k h) x.at ∙ up (h x.unit) x.unit.up (x.is.seen.up ∙ e)
 
-  -- what a unit keeps beside its members is the same
-  beside : (members : List (Member S)) (v : ℕ) (m : Member S) (x : Unit S) → IsMember t live v m x → IsMember (record t { members = members }) live v m x
-  beside members v m x i = record { kept = i.kept; seen = i.seen; own = i.own; outputs = i.outputs; known = i.known; stable = i.stable; frontier = i.frontier; released = i.released; places = i.places }
+  -- what a unit keeps is the same beside other units and where as much is released of it
+  beside : (members : List (Member S)) (released : List (List (List ℕ))) (v : ℕ) (m : Member S) (x : Unit S) → slice_get released v ≡ slice_get t.released v → IsMember t live v m x → IsMember (record t { members = members; released = released }) live v m x
+  beside members released v m x same i = record { kept = i.kept; seen = i.seen; own = i.own; outputs = i.outputs; known = i.known; stable = i.stable; frontier = i.frontier; released = same ∙ i.released; places = i.places }
+
+  -- one unit changes, and what it released
+  pub with_one_out : (m : Member S) (x : Unit S) (texts : List (List ℕ)) → IsMember (record t { members = slice_set t.members u m; released = slice_set t.released u texts }) live u m x
+      → IsCompact (record t { members = slice_set t.members u m; released = slice_set t.released u texts }) live (with_unit_at k u x)
+  with_one_out m x texts i = record {
+    quota = is.quota;
+    optimism = is.optimism;
+    table = is.table;
+    width = length-set t.members u m ∙ is.width ∙ sym (length-set k.units u x);
+    stables = is.stables ∙ sym (length-set k.units u x);
+    fronts = is.fronts ∙ sym (length-set k.units u x);
+    lines = length-set t.released u texts ∙ is.lines ∙ sym (length-set k.units u x);
+    members = λ v n y atn aty. elim (get_set t.members u v m n atn) [
+      | inl a ↦ elim (get_set k.units u v x y aty) [
+        | inl b ↦ rw (a.0, a.1, b.1) i
+        | inr b ↦ absurd (b.0 a.0)
+      ]
+      | inr a ↦ elim (get_set k.units u v x y aty) [
+        | inl b ↦ absurd (a.0 b.0)
+        | inr b ↦ beside (slice_set t.members u m) (slice_set t.released u texts) v n y (set_get_other t.released u v texts a.0) (is.members v n y a.1 b.1)
+      ]
+    ];
+    letters = is.letters;
+  }
 
   -- one unit changes
   pub with_one : (m : Member S) (x : Unit S) → IsMember t live u m x → IsCompact (record t { members = slice_set t.members u m }) live (with_unit_at k u x)
@@ -104,7 +133,7 @@ module _ {S : Type 0} (t : Kept S) (live : ℕ → List ℕ) (k : Compact S) (is
     stables = is.stables ∙ sym (length-set k.units u x);
     fronts = is.fronts ∙ sym (length-set k.units u x);
     lines = is.lines ∙ sym (length-set k.units u x);
-    members = λ v n y atn aty. beside (slice_set t.members u m) v n y (elim (get_set t.members u v m n atn) [
+    members = λ v n y atn aty. beside (slice_set t.members u m) t.released v n y refl (elim (get_set t.members u v m n atn) [
       | inl a ↦ elim (get_set k.units u v x y aty) [
         | inl b ↦ rw (a.0, a.1, b.1) i
         | inr b ↦ absurd (b.0 a.0)

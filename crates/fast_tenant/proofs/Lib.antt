@@ -1,4 +1,10 @@
+pub mod Results
 pub mod Found
+pub mod Lines
 pub mod Follow
 pub mod Killing
 pub mod Telling
+pub mod Shelving
+pub mod Leaving
+pub mod Outgoing
+pub mod Beginning

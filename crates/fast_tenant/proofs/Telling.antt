@@ -1,8 +1,7 @@
 -- The step `status`.
-use Rattle.std.proofs.Common.{◌≡◌, sym, ◌∙◌, ap, ℕ, ◌-◌, ◌<◌, Bool, List, length, arith}
+use Rattle.std.proofs.Common.{◌≡◌, sym, ◌∙◌, ap, ℕ, ◌-◌, Bool, List, length}
 use Rattle.std.specs.Prelude.{Some, None, slice_get}
 use Rattle.std.specs.Option.{is_some}
-use Rattle.std.proofs.lemmas.Option.{slice_get_within}
 use Rattle.model.specs.declared.names.Mark.{Mark}
 use Rattle.model.specs.declared.records.Record.{Record}
 use Rattle.model.specs.declared.refusals.Refusal.TheVariants.{NoUnit}
@@ -13,7 +12,6 @@ use Rattle.model.specs.Handler.{Meaning}
 use Rattle.model.specs.World.{World}
 use Rattle.model.specs.Steps.{status}
 use Rattle.model.specs.Alone.Reachable.{stepped}
-use Rattle.output_commit.specs.Holds.{texts_of}
 use Rattle.compact.specs.Compact.{Compact, Unit}
 use Rattle.compact.specs.Steps.{at_unit_of, last_mark, status_of}
 use Rattle.compact.proofs.Releases.{statuses_follow}
@@ -34,7 +32,7 @@ module _ {S : Type 0} (M : Meaning S) (name : List ℕ) (live : ℕ → List ℕ
 
   pub status_done : (m : Member S) → slice_get t.members u ≡ Some m → (at : Mark) (held known outside released rows stable : ℕ) (up : Bool) (volatile : ℕ)
       → ((x : Unit S) → IsKept m.recovering → IsSeen m.recovering x → at ≡ last_mark u x) → held ≡ length m.outputs → known ≡ m.known → outside ≡ m.recovering.outside
-      → (u < length t.outlet → released ≡ length (texts_of t.outlet u)) → rows ≡ length t.table → stable ≡ stable_places m.recovering - 1 → up ≡ is_some m.recovering.progress → volatile ≡ length m.recovering.volatile
+      → ((texts : List (List ℕ)) → slice_get t.released u ≡ Some texts → released ≡ length texts) → rows ≡ length t.table → stable ≡ stable_places m.recovering - 1 → up ≡ is_some m.recovering.progress → volatile ≡ length m.recovering.volatile
       → Leaves M name live (status M w u) (Status at held known outside released rows stable up volatile) t log
   status_done m found at held known outside released rows stable up volatile a b c d e f g h v =
       let x = keeps t live k s.1 u m found in
@@ -44,10 +42,7 @@ module _ {S : Type 0} (M : Meaning S) (name : List ℕ) (live : ℕ → List ℕ
       let b' : length x.unit.hold ≡ held = ap length i.outputs ∙ sym b in
       let c' : x.unit.known ≡ known = i.known ∙ sym c in
       let d' : x.unit.outside ≡ outside = i.seen.outside ∙ sym d in
-      let within = slice_get_within t.members u m found in
-      let lines = s.1.lines in
-      let width = s.1.width in
-      let e' : length x.unit.released ≡ released = ap length i.released ∙ sym (e (omega (arith, within, lines, width))) in
+      let e' : length x.unit.released ≡ released = sym (e x.unit.released i.released) in
       let f' : length k.table ≡ rows = ap length s.1.table ∙ sym f in
       let g' : x.unit.stable - 1 ≡ stable = ap (λ n. n - 1) i.seen.stable ∙ sym g in
       let h' : x.unit.up ≡ up = i.seen.up ∙ sym h in

@@ -1,14 +1,18 @@
 -- What a tenant keeps, by lists.
-use Rattle.std.specs.Prelude.{ℕ, cond, nat_lt, List, Option, Some, None}
+use Rattle.std.specs.Prelude.{◌≡◌, [], ◌∷◌, replicate, length, ◌++◌, drop, map, slice_set, ℕ, cond, nat_lt, List, Option, Some, None}
+use Rattle.std.specs.List.{fold}
 use Rattle.std.specs.Option.{is_some}
 use Rattle.model.specs.declared.names.Quota.{Quota}
 use Rattle.model.specs.declared.names.Row.{Row}
+use Rattle.model.specs.declared.names.Seat.{Seat}
 use Rattle.model.specs.declared.refusals.Refusal.{Refusal}
 use Rattle.model.specs.declared.refusals.Refusal.TheVariants.{Down, NoUnit}
+use Rattle.model.specs.Handler.{Meaning}
+use Rattle.model.specs.Steps.{kind_or_0}
 use Rattle.output_commit.specs.declared.held.Held.{Held}
 use Rattle.output_commit.specs.Holds.{Line, below}
 use Rattle.compact.specs.Compact.{Letter}
-use Rattle.rollback.specs.Units.{Recovering, checkpointed, killed, places}
+use Rattle.rollback.specs.Units.{Recovering, begun_unit, checkpointed, killed, places}
 
 -- One unit: what it needs to go on and to go back, its held outputs, and how many rows it knows.
 pub record Member (S : Type 0) : Type 0 where
@@ -25,7 +29,7 @@ pub record Kept (S : Type 0) : Type 0 where
   pub members : List (Member S)
   pub stable_lengths : List ℕ
   pub frontiers : List ℕ
-  pub outlet : List Line
+  pub released : List (List (List ℕ))
   pub letters : List Letter
 
 -- ---- a unit that is there and up
@@ -34,6 +38,35 @@ pub record Kept (S : Type 0) : Type 0 where
 abbrev pub up_refusal : {S : Type 0} → Option (Member S) → Option Refusal
 up_refusal None = Some NoUnit
 up_refusal (Some m) = cond (is_some m.recovering.progress) None (Some Down)
+
+-- ---- release
+
+-- what the units released
+abbrev pub released_of : List Line → List (List (List ℕ))
+released_of lines = map (λ l. l.texts) lines
+
+-- the texts of the outputs at the front that are of the first so many intervals
+abbrev pub firm_texts : List Held → ℕ → List (List ℕ)
+firm_texts outputs frontier = map (λ o. o.text) (below outputs frontier)
+
+-- and the outputs behind them
+abbrev pub unfirm : List Held → ℕ → List Held
+unfirm outputs frontier = drop (length (below outputs frontier)) outputs
+
+-- Some of a unit's firm outputs moved to what it released. As many firm outputs are left of them together.
+pub record AreMoved (frontier : ℕ) (outputs : List Held) (texts : List (List ℕ)) (left : List Held) (more : List (List ℕ)) : Type 0 where
+  pub all : more ++ firm_texts left frontier ≡ texts ++ firm_texts outputs frontier
+  pub rest : unfirm left frontier ≡ unfirm outputs frontier
+
+abbrev pub released_member : {S : Type 0} → Member S → ℕ → Member S
+released_member m frontier = record m { outputs = unfirm m.outputs frontier }
+
+-- the firm outputs of this unit left: the units then, and what they released
+abbrev pub with_firm_out : {S : Type 0} → List (Member S) → ℕ → Member S → ℕ → List (Member S)
+with_firm_out members u m frontier = slice_set members u (released_member m frontier)
+
+abbrev pub firm_of : {S : Type 0} → List (List (List ℕ)) → ℕ → Member S → ℕ → List (List ℕ) → List (List (List ℕ))
+firm_of released u m frontier texts = slice_set released u (texts ++ firm_texts m.outputs frontier)
 
 -- ---- kill
 
@@ -48,3 +81,26 @@ killed_member m = record m { recovering = killed m.recovering; outputs = outputs
 
 abbrev pub checkpointed_member : {S : Type 0} → Member S → Member S
 checkpointed_member m = record m { recovering = checkpointed m.recovering }
+
+-- ---- open
+
+-- a unit at its beginning, in a tenant of so many units, when there are so many rows
+abbrev pub begun_member : {S : Type 0} → Meaning S → ℕ → Seat → ℕ → Member S
+begun_member M width seat known = record { recovering = begun_unit M width seat; unit = seat.unit; outputs = []; known = known }
+
+-- one unit more, at its beginning
+abbrev pub with_begun : {S : Type 0} → Meaning S → ℕ → List (Member S) → ℕ → List (Member S)
+with_begun M width members kind = members ++ begun_member M width (record { unit = length members; kind = kind; home = width }) 0 ∷ []
+
+-- a tenant with units of these kinds, each at its beginning
+abbrev pub opened_kept : {S : Type 0} → Meaning S → List (List ℕ) → Quota → ℕ → Kept S
+opened_kept M kinds quota optimism = record {
+  quota = quota;
+  optimism = optimism;
+  table = [];
+  members = fold (λ ms n. with_begun M (length kinds) ms (kind_or_0 (M.kind n))) [] kinds;
+  stable_lengths = replicate (length kinds) 1;
+  frontiers = replicate (length kinds) 1;
+  released = replicate (length kinds) [];
+  letters = [];
+}

@@ -1,11 +1,13 @@
 -- Which world a tenant stands for.
-use Rattle.std.specs.Prelude.{◌≡◌, ℕ, List, length, Some, slice_get}
+use Rattle.std.specs.Prelude.{◌≡◌, ℕ, List, [], drop, length, Option, Some, None, Result, Ok, Err, slice_get}
+use Rattle.model.specs.declared.names.Quota.{Quota}
 use Rattle.model.specs.declared.records.Record.{Record}
+use Rattle.model.specs.declared.refusals.Refusal.{Refusal}
 use Rattle.model.specs.declared.replies.Reply.{Reply}
+use Rattle.model.specs.declared.replies.Reply.TheVariants.{Refused, Released}
 use Rattle.model.specs.Handler.{Meaning}
 use Rattle.model.specs.World.{World}
-use Rattle.model.specs.Steps.{Outcome}
-use Rattle.output_commit.specs.Holds.{texts_of}
+use Rattle.model.specs.Steps.{Outcome, open_new, release}
 use Rattle.compact.specs.Compact.{Compact, Unit}
 use Rattle.compact.specs.StepLaws.{Stands}
 use Rattle.rollback.specs.Units.{IsKept}
@@ -21,7 +23,7 @@ pub record IsMember {S : Type 0} (t : Kept S) (live : ℕ → List ℕ) (u : ℕ
   pub known : x.known ≡ m.known
   pub stable : slice_get t.stable_lengths u ≡ Some x.stable
   pub frontier : slice_get t.frontiers u ≡ Some x.frontier
-  pub released : x.released ≡ texts_of t.outlet u
+  pub released : slice_get t.released u ≡ Some x.released
   pub places : x.live ≡ live u
 
 -- the tenant keeps this compact state
@@ -32,7 +34,7 @@ pub record IsCompact {S : Type 0} (t : Kept S) (live : ℕ → List ℕ) (k : Co
   pub width : length t.members ≡ length k.units
   pub stables : length t.stable_lengths ≡ length k.units
   pub fronts : length t.frontiers ≡ length k.units
-  pub lines : length t.outlet ≡ length k.units
+  pub lines : length t.released ≡ length k.units
   pub members : (u : ℕ) (m : Member S) (x : Unit S) → slice_get t.members u ≡ Some m → slice_get k.units u ≡ Some x → IsMember t live u m x
   pub letters : k.letters ≡ t.letters
 
@@ -48,3 +50,14 @@ Leaves M name live outcome reply t log = (z : World) × (outcome ≡ record { re
 abbrev pub Does : {S : Type 0} → Meaning S → (World → Outcome) → Kept S → Reply → Kept S → Type 0
 Does M step before reply after =
     (name : List ℕ) (live : ℕ → List ℕ) (w : World) (log : List Record) → StandsFor M name live before w log → Leaves M name live (step w) reply after log
+
+-- What a release gives: a refusal, or how many outputs the unit had released before, behind which those stand that are the reply.
+abbrev pub Releases : {S : Type 0} → Meaning S → ℕ → Kept S → Result ℕ Refusal → Kept S → Type 0
+Releases M u before (Err r) after = Does M (λ w. release M w u) before (Refused r) after
+Releases M u before (Ok n) after = (texts : List (List ℕ)) → slice_get after.released u ≡ Some texts → Does M (λ w. release M w u) before (Released (drop n texts)) after
+
+-- A tenant was opened with these, or not. It has no record in the log yet.
+abbrev pub IsOpened : {S : Type 0} → Meaning S → List (List ℕ) → Quota → ℕ → Reply → Option (Kept S) → Type 0
+IsOpened M kinds quota optimism reply None = open_new M kinds quota optimism ≡ record { reply = reply; world = None }
+IsOpened M kinds quota optimism reply (Some t) =
+    (name : List ℕ) (live : ℕ → List ℕ) (log : List Record) → ((u : ℕ) → live u ≡ []) → Leaves M name live (open_new M kinds quota optimism) reply t log

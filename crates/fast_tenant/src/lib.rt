@@ -2,14 +2,17 @@
 //! its next steps need.
 //!
 //! - `tenant`: the struct, and what is read off it; `member`: one unit.
-//! - `statuses`, `kills`: the steps.
+//! - `statuses`, `kills`, `checkpoints`, `releases`: the steps; `releasing`: the outputs of one unit on their way out.
 //!
 //! Contracts see the tenant as `Kept` of `specs/Kept`. Each step says by `specs/Stands`: for every world that the
 //! tenant stands for, the reply is that of the definitions, and the tenant then stands for the world after the step.
 #![tactic(auto)]
 
+mod checkpoints;
 mod kills;
 mod member;
+mod releases;
+mod releasing;
 mod statuses;
 mod tenant;
 

@@ -1,33 +1,40 @@
 //! One unit of a tenant.
 
-ghost use Rattle.std.specs.Prelude.{◌≡◌, ◌-◌, ◌+◌, length};
+ghost use Rattle.std.specs.Prelude.{◌≡◌, ◌≢◌, ◌++◌, ◌<◌, ◌≤◌, ℕ, IfOk, OnErr, length, slice_index};
 ghost use Rattle.std.specs.Option.{is_some};
+ghost use Rattle.output_commit.specs.Holds.{room_of, texts_of};
 ghost use Rattle.compact.specs.Compact.{Unit as UnitOf};
 ghost use Rattle.compact.specs.Steps.{last_mark as last_mark_of};
-ghost use Rattle.rollback.specs.Units.{IsKept, places, stable_places};
+ghost use Rattle.rollback.specs.Units.{IsKept, stable_places};
 ghost use Rattle.rollback_laws.specs.Seen.{IsSeen};
-ghost use Rattle.fast_tenant.specs.Kept.{killed_member, outputs_to};
+ghost use Rattle.fast_tenant.specs.Kept.{begun_member, checkpointed_member, firm_texts, killed_member, outputs_to, released_member};
 
+use crate::releasing;
 use handler::Handler;
-use model::{Mark, Unit};
-use output_commit::Hold;
+use model::{Mark, NoMemory, Seat, Unit};
+use output_commit::{Hold, Outlet};
 use rollback::RecoveryUnit;
+use std::alloc::Global;
 use std::marker::Model;
 
 /// What it needs to go on and to go back, its held outputs, and how many rows of the table it knows.
 #[derive(Drop)]
 pub struct Member<H: Handler> {
     recovering: RecoveryUnit<H>,
+    unit: Unit,
     hold: Hold,
     known: usize,
 }
 
 impl<H: Handler> Model for Member<H> {
+    ghost use Rattle.std.specs.Prelude.{◌≡◌};
     ghost use Rattle.fast_tenant.specs.Kept.{Member as MemberOf};
 
     ghost Value = { MemberOf H.State };
 
-    ghost view = { λ m. record { recovering = m.recovering; unit = m.hold.unit; outputs = m.hold.outputs; known = m.known } };
+    ghost view = { λ m. record { recovering = m.recovering; unit = m.unit; outputs = m.hold.outputs; known = m.known } };
+
+    ghost invariant = { λ m. m.hold.unit ≡ m.unit };
 }
 
 /// Gives up the outputs that are not of the first so many intervals.
@@ -41,11 +48,44 @@ fn cut_hold(hold: &mut Hold, places: u64)
 }
 
 impl<H: Handler> Member<H> {
+    /// A unit at its beginning, in a tenant of `width` units, which knows so many rows.
+    ///
+    /// # Errors
+    ///
+    /// `NoMemory` where what it keeps finds no memory.
+    pub(crate) fn begin(
+        alloc: Global,
+        handler: &H,
+        seat: Seat,
+        width: usize,
+        known: usize,
+    ) -> Result<Member<H>, NoMemory>
+        requires { width ≤ 256 }
+        ensures { IfOk result (λ m. m ≡ begun_member H.meaning width seat known) }
+    {
+        let unit = seat.unit;
+        let hold = Hold::new(alloc, unit);
+        let recovering = RecoveryUnit::begin(alloc, handler, seat, width)?;
+        Ok(Member {
+            recovering,
+            unit,
+            hold,
+            known,
+        })
+    }
+
     /// Whether the unit is up.
     pub(crate) fn is_up(&self) -> bool
         ensures { result ≡ is_some self.now.recovering.progress }
     {
         self.recovering.is_up()
+    }
+
+    /// Which unit it is.
+    pub(crate) fn unit(&self) -> Unit
+        ensures { result ≡ self.now.unit }
+    {
+        self.unit
     }
 
     /// How many outputs are held.
@@ -102,5 +142,32 @@ impl<H: Handler> Member<H> {
         let places = self.recovering.places();
         cut_hold(&mut self.hold, places);
         lost
+    }
+
+    /// Shelves a snapshot of the last interval, which is stable.
+    ///
+    /// # Errors
+    ///
+    /// `NoMemory` where the snapshot finds no memory; the unit stays as it was.
+    pub(crate) fn checkpoint(&mut self, alloc: Global, handler: &H) -> Result<(), NoMemory>
+        requires { length self.old.recovering.volatile ≡ 0 }
+        ensures ok { IfOk result (λ _. self.new ≡ checkpointed_member self.old) }
+        ensures err { OnErr result (self.new ≡ self.old) }
+    {
+        self.recovering.checkpoint(alloc, handler)?;
+        Ok(())
+    }
+
+    /// Lets the firm outputs at the front out, for which the outlet has room.
+    pub(crate) fn release(&mut self, outlet: &mut Outlet, frontiers: &[u64])
+        requires front { self.old.unit < length frontiers.now }
+        requires line { self.old.unit < length outlet.old }
+        requires room { length self.old.outputs ≤ room_of outlet.old self.old.unit }
+        ensures member { self.new ≡ released_member self.old (slice_index frontiers.now self.old.unit) }
+        ensures texts { texts_of outlet.new self.old.unit ≡ texts_of outlet.old self.old.unit ++ firm_texts self.old.outputs (slice_index frontiers.now self.old.unit) }
+        ensures others { (u : ℕ) → u ≢ self.old.unit → texts_of outlet.new u ≡ texts_of outlet.old u }
+        ensures len { length outlet.new ≡ length outlet.old }
+    {
+        releasing::release_all(&mut self.hold, outlet, frontiers);
     }
 }

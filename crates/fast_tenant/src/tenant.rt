@@ -1,8 +1,7 @@
 //! An open tenant.
 
-ghost use Rattle.std.specs.Prelude.{◌≡◌, ◌<◌, IfOk, IfErr, MatchOption, None, Some, length, slice_get, true};
+ghost use Rattle.std.specs.Prelude.{◌≡◌, ℕ, List, IfOk, IfErr, MatchOption, None, Some, length, slice_get, true};
 ghost use Rattle.std.specs.Option.{is_some};
-ghost use Rattle.output_commit.specs.Holds.{texts_of};
 ghost use Rattle.fast_tenant.specs.Kept.{up_refusal};
 
 use crate::member::Member;
@@ -28,11 +27,11 @@ pub struct FastTenant<H: Handler> {
 }
 
 impl<H: Handler> Model for FastTenant<H> {
-    ghost use Rattle.fast_tenant.specs.Kept.{Kept};
+    ghost use Rattle.fast_tenant.specs.Kept.{Kept, released_of};
 
     ghost Value = { Kept H.State };
 
-    ghost view = { λ t. record { quota = t.quota; optimism = t.optimism; table = t.table; members = t.members.items; stable_lengths = t.stable_lengths.items; frontiers = t.frontiers.items; outlet = t.outlet; letters = t.letters.items } };
+    ghost view = { λ t. record { quota = t.quota; optimism = t.optimism; table = t.table; members = t.members.items; stable_lengths = t.stable_lengths.items; frontiers = t.frontiers.items; released = released_of t.outlet; letters = t.letters.items } };
 }
 
 impl<H: Handler> FastTenant<H> {
@@ -70,7 +69,7 @@ impl<H: Handler> FastTenant<H> {
 
     /// How many outputs the unit released.
     pub(crate) fn released_count(&self, unit: Unit) -> usize
-        ensures { unit < length self.now.outlet → result ≡ length (texts_of self.now.outlet unit) }
+        ensures { (texts : List (List ℕ)) → slice_get self.now.released unit ≡ Some texts → result ≡ length texts }
     {
         if usize::from(unit.number()) < self.outlet.len() {
             self.outlet.released(unit).len()
