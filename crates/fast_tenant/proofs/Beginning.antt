@@ -1,7 +1,8 @@
 -- The step `open`.
-use Rattle.std.proofs.Common.{◌≡◌, inl, inr, refl, sym, ◌∙◌, ap, subst, ℕ, zero, suc, ◌+◌, ◌<◌, Bool, true, false, cond, List, [], ◌∷◌, length, replicate, arith, length-append}
+use Rattle.std.proofs.Common.{◌≡◌, inl, inr, refl, sym, ◌∙◌, ap, subst, ℕ, zero, suc, ◌+◌, ◌<◌, Bool, true, false, cond, List, [], ◌∷◌, length, replicate, take, get_or, arith, length-append}
 use Rattle.std.specs.Prelude.{Some, None, slice_get}
 use Rattle.std.specs.List.{fold}
+use Rattle.std.proofs.lemmas.List.Sums.{fold_more}
 use Rattle.std.proofs.lemmas.Option.{slice_get_within}
 use Rattle.model.specs.declared.names.Quota.{Quota}
 use Rattle.model.specs.declared.names.Seat.{Seat}
@@ -109,6 +110,18 @@ module _ {S : Type 0} (M : Meaning S) (width : ℕ) (quota : Quota) (optimism : 
       let a = count_all names (with_begun M width ms (kind_or_0 (M.kind n))) in
       let b = length-append ms (begun_member M width (record { unit = length ms; kind = kind_or_0 (M.kind n); home = width }) 0 ∷ []) in
       omega (arith, a, b)
+
+-- one name more
+pub more_begun : {S : Type 0} (M : Meaning S) (width : ℕ) (names : List (List ℕ)) (i : ℕ) (ms new : List (Member S)) (n : List ℕ) (kind home : ℕ) → i < length names → n ≡ get_or names i n → length ms ≡ i
+    → ms ≡ fold (λ ms n. with_begun M width ms (kind_or_0 (M.kind n))) [] (take i names) → home ≡ width → kind ≡ kind_or_0 (M.kind n) → new ≡ with_begun M home ms kind
+    → (length new ≡ i + 1) × (new ≡ fold (λ ms n. with_begun M width ms (kind_or_0 (M.kind n))) [] (take (i + 1) names))
+more_begun {S} M width names i ms new n kind home within at long so_far wide is made =
+    let a = ap length made in
+    let b = length-append ms (begun_member M home (record { unit = length ms; kind = kind; home = home }) 0 ∷ []) in
+    let f : List (Member S) → List ℕ → List (Member S) = λ ms n. with_begun M width ms (kind_or_0 (M.kind n)) in (
+      omega (arith, a, b, long),
+      made ∙ (λ j. with_begun M (wide j) (so_far j) ((is ∙ ap (λ n. kind_or_0 (M.kind n)) at) j)) ∙ sym (fold_more f [] names i n within),
+    )
 
 module _ {S : Type 0} (M : Meaning S) (kinds : List (List ℕ)) (quota : Quota) (optimism : ℕ) where
   abbrev width : ℕ
