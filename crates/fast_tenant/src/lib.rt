@@ -19,3 +19,6 @@ mod tenant;
 
 pub use member::Member;
 pub use tenant::FastTenant;
+
+#[cfg(test)]
+mod tests;
