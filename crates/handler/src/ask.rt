@@ -100,6 +100,13 @@ impl<H: Handler> Done<H> {
         &self.input
     }
 
+    /// The turn, which is what the input means, to be looked at. It takes no memory.
+    pub fn turn(&self) -> &Turn<H::State>
+        ensures { result.now ≡ turn_of H.meaning self.now.input }
+    {
+        &self.turn
+    }
+
     /// The turn, which is what the input means.
     pub fn into_turn(self) -> Turn<H::State>
         ensures { result ≡ turn_of H.meaning self.input }

@@ -1,6 +1,6 @@
 //! The outputs of a unit that wait.
 
-ghost use Rattle.std.specs.Prelude.{◌≡◌, ◌+◌, ◌-◌, ◌<◌, ◌≤◌, ◌∷◌, [], ◌++◌, IfOk, MatchOption, OnErr, Some, true, false, length, drop, nat_lt, slice_get};
+ghost use Rattle.std.specs.Prelude.{◌≡◌, ◌+◌, ◌-◌, ◌<◌, ◌≤◌, ◌∷◌, [], ◌++◌, IfOk, MatchOption, OnErr, Some, true, false, length, drop, nat_lt, slice_get, None};
 ghost use Rattle.std.specs.List.{prefix_len};
 ghost use Rattle.std.specs.VecDeque.{deque_capacity, deque_len};
 ghost use Rattle.output_commit.specs.Holds.{below, front_is_firm as is_front_firm, held_of};
@@ -62,6 +62,13 @@ impl Hold {
         self.outputs.reserve(texts.len())?;
         push_all(&mut self.outputs, mark, texts);
         Ok(())
+    }
+
+    /// The output at this place, the first at 0. Takes no memory, and a constant time.
+    pub fn at(&self, place: usize) -> Option<&Held>
+        ensures { MatchOption result (slice_get self.now.outputs place ≡ None) (λ held. slice_get self.now.outputs place ≡ Some held.now) }
+    {
+        self.outputs.get(place)
     }
 
     /// Whether there is a first output and its interval is firm. Takes no memory, and one comparison.
