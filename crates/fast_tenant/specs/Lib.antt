@@ -1,2 +1,4 @@
 pub mod Kept
+pub mod Needs
+pub mod Outcomes
 pub mod Stands

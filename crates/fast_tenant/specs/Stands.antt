@@ -46,7 +46,12 @@ StandsFor {S} M name live t w log = (k : Compact S) × IsCompact t live k × Sta
 abbrev pub Leaves : {S : Type 0} → Meaning S → List ℕ → (ℕ → List ℕ) → Outcome → Reply → Kept S → List Record → Type 0
 Leaves M name live outcome reply t log = (z : World) × (outcome ≡ record { reply = reply; world = Some z }) × StandsFor M name live t z log
 
--- For each world that the tenant stands for, the reply is that of the step of the definitions, and the tenant then stands for the world after it.
+-- For each world that the tenant of this name stands for, the reply is that of the step of the definitions, and the tenant then stands for the world after it.
+abbrev pub DoesAs : {S : Type 0} → Meaning S → List ℕ → (World → Outcome) → Kept S → Reply → Kept S → Type 0
+DoesAs M name step before reply after =
+    (live : ℕ → List ℕ) (w : World) (log : List Record) → StandsFor M name live before w log → Leaves M name live (step w) reply after log
+
+-- So it is whatever the tenant's name.
 abbrev pub Does : {S : Type 0} → Meaning S → (World → Outcome) → Kept S → Reply → Kept S → Type 0
 Does M step before reply after =
     (name : List ℕ) (live : ℕ → List ℕ) (w : World) (log : List Record) → StandsFor M name live before w log → Leaves M name live (step w) reply after log

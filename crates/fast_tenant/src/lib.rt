@@ -1,13 +1,14 @@
 //! One tenant without a graph: its units, letters, table of rows and quotas, of whose history it keeps no more than
 //! its next steps need.
 //!
-//! - `tenant`: the struct, and what is read off it; `member`: one unit.
+//! - `tenant`: the struct, and what is read off it; `member`: one unit; `answer`: what a step is answered.
 //! - `opens`, `statuses`, `kills`, `checkpoints`, `releases`: the steps; `releasing`: the outputs of one unit on their way out.
 //!
 //! Contracts see the tenant as `Kept` of `specs/Kept`. Each step says by `specs/Stands`: for every world that the
 //! tenant stands for, the reply is that of the definitions, and the tenant then stands for the world after the step.
 #![tactic(auto)]
 
+mod answer;
 mod checkpoints;
 mod kills;
 mod member;
@@ -17,6 +18,7 @@ mod releasing;
 mod statuses;
 mod tenant;
 
+pub use answer::Answer;
 pub use member::Member;
 pub use tenant::FastTenant;
 
