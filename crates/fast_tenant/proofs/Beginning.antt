@@ -164,6 +164,7 @@ module _ {S : Type 0} (M : Meaning S) (kinds : List (List ℕ)) (quota : Quota) 
           places = sym (none u);
         }));
     letters = begun.letters;
+    beyond = λ u out. none u;
   }
 
   pub open_done : can_open M kinds quota optimism ≡ true → (name : List ℕ) (live : ℕ → List ℕ) (log : List Record) → ((u : ℕ) → live u ≡ []) → Leaves M name live (open_new M kinds quota optimism) (Opened (length kinds)) t log

@@ -1,5 +1,5 @@
 -- Which world a tenant stands for.
-use Rattle.std.specs.Prelude.{◌≡◌, ℕ, List, [], drop, length, Option, Some, None, Result, Ok, Err, slice_get}
+use Rattle.std.specs.Prelude.{◌≡◌, ◌≤◌, ℕ, List, [], drop, length, Option, Some, None, Result, Ok, Err, slice_get}
 use Rattle.model.specs.declared.names.Quota.{Quota}
 use Rattle.model.specs.declared.records.Record.{Record}
 use Rattle.model.specs.declared.refusals.Refusal.{Refusal}
@@ -26,7 +26,7 @@ pub record IsMember {S : Type 0} (t : Kept S) (live : ℕ → List ℕ) (u : ℕ
   pub released : slice_get t.released u ≡ Some x.released
   pub places : x.live ≡ live u
 
--- the tenant keeps this compact state
+-- The tenant keeps this compact state. No record is live of a unit that is not there.
 pub record IsCompact {S : Type 0} (t : Kept S) (live : ℕ → List ℕ) (k : Compact S) : Type 0 where
   pub quota : k.quota ≡ t.quota
   pub optimism : k.optimism ≡ t.optimism
@@ -37,6 +37,7 @@ pub record IsCompact {S : Type 0} (t : Kept S) (live : ℕ → List ℕ) (k : Co
   pub lines : length t.released ≡ length k.units
   pub members : (u : ℕ) (m : Member S) (x : Unit S) → slice_get t.members u ≡ Some m → slice_get k.units u ≡ Some x → IsMember t live u m x
   pub letters : k.letters ≡ t.letters
+  pub beyond : (u : ℕ) → length k.units ≤ u → live u ≡ []
 
 -- The tenant of this name stands for a world that it can come to, where the log has these records.
 abbrev pub StandsFor : {S : Type 0} → Meaning S → List ℕ → (ℕ → List ℕ) → Kept S → World → List Record → Type 0
