@@ -93,10 +93,10 @@ pub(crate) fn count_to(places: u64, volatile: usize, target: u32) -> usize
     (u64::from(target) + 1).saturating_sub(places - volatile as u64) as usize
 }
 
-/// How many intervals stand before the first orphan, of which there is a tail.
+/// How many intervals stand before the first orphan, where orphans are a tail.
 pub(crate) fn count_before_orphan(intervals: &VecDeque<Interval>, table: &StartTable) -> usize
-    requires { OrphansAreTail table.now intervals.now.items }
-    ensures { result ≡ position_or_len (λ x. is_orphan_by table.now x.vector) intervals.now.items }
+    ensures within { result ≤ length intervals.now.items }
+    ensures position { OrphansAreTail table.now intervals.now.items → result ≡ position_or_len (λ x. is_orphan_by table.now x.vector) intervals.now.items }
 {
     let mut low = 0;
     let mut high = intervals.len();

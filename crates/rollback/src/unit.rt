@@ -1,6 +1,6 @@
 //! The unit and its calls.
 
-ghost use Rattle.std.specs.Prelude.{◌≡◌, ◌+◌, ◌<◌, ◌≤◌, ◌^◌, ◌∷◌, [], ◌++◌, ◌-◌, IfOk, IsTrue, OnErr, Some, None, option_map, ℕ, List, length, drop, take, slice_get, slice_index_or, false};
+ghost use Rattle.std.specs.Prelude.{◌≡◌, ◌+◌, ◌<◌, ◌≤◌, ◌^◌, ◌∷◌, [], ◌++◌, ◌-◌, IfOk, IfSome, IsTrue, OnErr, Some, None, option_map, ℕ, List, length, drop, take, slice_get, slice_index_or, false};
 ghost use Rattle.std.specs.List.{position};
 ghost use Rattle.std.specs.Option.{is_some, option_copied};
 ghost use Rattle.model.specs.declared.records.Record.{Record as RecordOf};
@@ -281,11 +281,12 @@ impl<H: Handler> RecoveryUnit<H> {
         Ok(())
     }
 
-    /// The index of the first orphan that is kept, by all rows. Takes no memory, and looks at one vector
-    /// for each bit of the count of intervals that are kept.
+    /// The index of the first orphan that is kept, by all rows, where orphans are a tail of the path, as
+    /// they are in every world. Takes no memory, and looks at one vector for each bit of the count of
+    /// intervals that are kept.
     pub fn first_orphan(&self, table: &StartTable) -> Option<u32>
-        requires { OrphansAreTail table.now self.now.intervals }
-        ensures { result ≡ option_map (λ i. self.now.base + i) (position (λ x. is_orphan_by table.now x.vector) self.now.intervals) }
+        ensures kept { IfSome result (λ first. IsTarget self.now first) }
+        ensures first { OrphansAreTail table.now self.now.intervals → result ≡ option_map (λ i. self.now.base + i) (position (λ x. is_orphan_by table.now x.vector) self.now.intervals) }
     {
         let place = path::count_before_orphan(&self.intervals, table);
         if place < self.intervals.len() {
@@ -329,13 +330,27 @@ impl<H: Handler> RecoveryUnit<H> {
         ensures err { OnErr result (self.new ≡ self.old) }
     {
         let progress = self.rebuilt(alloc, handler, target, width, records)?;
-        self.cut(target);
-        self.progress = progress;
+        self.return_to(target, progress);
         Ok(())
     }
 
-    /// The progress at the target, by replay.
-    fn rebuilt(
+    /// Goes back to the target, the index of the last interval that is kept, where this is the progress
+    /// there, as `rebuilt` gives it. Takes no memory.
+    pub fn return_to(&mut self, target: u32, progress: Option<Progress<H::State>>)
+        requires { IsTarget self.old target }
+        ensures unit { self.new ≡ record (cut_behind self.old target) { progress = progress } }
+        ensures outside { (before : ℕ) → CountsOutside before self.old → CountsOutside before self.new }
+    {
+        self.cut(target);
+        self.progress = progress;
+    }
+
+    /// The progress at the target, by replay, as `restore` gives it to the unit.
+    ///
+    /// # Errors
+    ///
+    /// `NoMemory` where the replay finds no memory, or where a receipt can't be counted, as for `take`.
+    pub fn rebuilt(
         &self,
         alloc: Global,
         handler: &H,
