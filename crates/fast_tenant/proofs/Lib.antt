@@ -8,3 +8,9 @@ pub mod Shelving
 pub mod Leaving
 pub mod Outgoing
 pub mod Beginning
+mod Places
+mod Logging
+mod Others
+mod Flushing
+mod Fronts
+mod Widths

@@ -1,5 +1,5 @@
 -- What a tenant keeps, by lists.
-use Rattle.std.specs.Prelude.{◌≡◌, [], ◌∷◌, replicate, length, ◌++◌, drop, map, slice_set, ℕ, cond, nat_lt, List, Option, Some, None}
+use Rattle.std.specs.Prelude.{◌≡◌, [], ◌∷◌, replicate, length, ◌++◌, drop, map, slice_get, slice_set, ℕ, cond, nat_lt, List, Option, Some, None}
 use Rattle.std.specs.List.{fold}
 use Rattle.std.specs.Option.{is_some}
 use Rattle.model.specs.declared.names.Quota.{Quota}
@@ -12,7 +12,8 @@ use Rattle.model.specs.Steps.{kind_or_0}
 use Rattle.output_commit.specs.declared.held.Held.{Held}
 use Rattle.output_commit.specs.Holds.{Line, below}
 use Rattle.compact.specs.Compact.{Letter}
-use Rattle.rollback.specs.Units.{Recovering, begun_unit, checkpointed, killed, places}
+use Rattle.rollback.specs.Units.{Recovering, begun_unit, checkpointed, killed, marked_stable, places, stable_places}
+use Rattle.unit_steps.specs.Receipts.{IsFrontier, frontier_of}
 
 -- One unit: what it needs to go on and to go back, its held outputs, and how many rows it knows.
 pub record Member (S : Type 0) : Type 0 where
@@ -104,3 +105,27 @@ opened_kept M kinds quota optimism = record {
   released = replicate (length kinds) [];
   letters = [];
 }
+
+-- ---- flush
+
+-- so many more of a unit's intervals are stable
+abbrev pub flushed_member : {S : Type 0} → Member S → ℕ → Member S
+flushed_member m count = record m { recovering = marked_stable m.recovering count }
+
+-- Each unit's frontier goes on as far as the vectors behind it are firm.
+abbrev pub GoOn : {S : Type 0} → List Row → List ℕ → List (Member S) → List ℕ → List ℕ → Type 0
+GoOn {S} table stable_lengths members before after =
+    (u : ℕ) (m : Member S) (f : ℕ) → slice_get members u ≡ Some m → slice_get before u ≡ Some f → IsFrontier (length stable_lengths) m.recovering f
+    → slice_get after u ≡ Some (frontier_of table stable_lengths m.recovering f)
+
+-- So many more intervals of the unit are stable, and the frontiers have gone on. All else is as it was.
+pub record IsFlushed {S : Type 0} (before : Kept S) (u count : ℕ) (m : Member S) (after : Kept S) : Type 0 where
+  pub quota : after.quota ≡ before.quota
+  pub optimism : after.optimism ≡ before.optimism
+  pub table : after.table ≡ before.table
+  pub members : after.members ≡ slice_set before.members u (flushed_member m count)
+  pub stable_lengths : after.stable_lengths ≡ slice_set before.stable_lengths u (stable_places (flushed_member m count).recovering)
+  pub fronts : length after.frontiers ≡ length before.frontiers
+  pub frontiers : GoOn before.table after.stable_lengths after.members before.frontiers after.frontiers
+  pub released : after.released ≡ before.released
+  pub letters : after.letters ≡ before.letters

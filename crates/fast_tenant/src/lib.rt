@@ -10,6 +10,7 @@
 
 mod answer;
 mod checkpoints;
+mod flushes;
 mod kills;
 mod member;
 mod opens;

@@ -7,7 +7,7 @@ ghost use Rattle.compact.specs.Compact.{Unit as UnitOf};
 ghost use Rattle.compact.specs.Steps.{last_mark as last_mark_of};
 ghost use Rattle.rollback.specs.Units.{IsKept, stable_places};
 ghost use Rattle.rollback_laws.specs.Seen.{IsSeen};
-ghost use Rattle.fast_tenant.specs.Kept.{begun_member, checkpointed_member, firm_texts, killed_member, outputs_to, released_member};
+ghost use Rattle.fast_tenant.specs.Kept.{begun_member, checkpointed_member, firm_texts, flushed_member, killed_member, outputs_to, released_member};
 
 use crate::releasing;
 use handler::Handler;
@@ -169,5 +169,20 @@ impl<H: Handler> Member<H> {
         ensures len { length outlet.new ≡ length outlet.old }
     {
         releasing::release_all(&mut self.hold, outlet, frontiers);
+    }
+
+    /// What it needs to go on and to go back.
+    pub(crate) fn recovering(&self) -> &RecoveryUnit<H>
+        ensures { result.now ≡ self.now.recovering }
+    {
+        &self.recovering
+    }
+
+    /// So many more of its intervals are stable. Takes no memory.
+    pub(crate) fn mark_stable(&mut self, count: usize)
+        requires { count ≤ length self.old.recovering.volatile }
+        ensures { self.new ≡ flushed_member self.old count }
+    {
+        self.recovering.mark_stable(count);
     }
 }

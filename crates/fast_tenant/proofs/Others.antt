@@ -1,0 +1,52 @@
+-- What a tenant stands for stays where the log changes beside it.
+use Rattle.std.proofs.Common.{◌≡◌, sym, ◌∙◌, ap, subst, ℕ, ◌+◌, ◌<◌, true, false, List, [], ◌++◌, length, take, append-nil, arith, map}
+use Rattle.std.specs.Prelude.{Option, Some, None, slice_get, bytes_eq}
+use Rattle.std.proofs.lemmas.Option.{slice_get_within}
+use Rattle.std.proofs.lemmas.List.{length-take}
+use Rattle.std.proofs.lemmas.Slice.Eq.{bytes_eq-Decides}
+use Rattle.model.specs.declared.records.Record.{Record}
+use Rattle.model.specs.Handler.{Meaning}
+use Rattle.model.specs.World.{World}
+use Rattle.theory.proofs.ListLaws.{get_take}
+use Rattle.shared_log.specs.Logged.{Grows, IsLeftOf, places_from}
+use Rattle.shared_log.proofs.LeftLaws.{appended_grows}
+use Rattle.compact.proofs.Flushes.{logs_may_grow}
+use Rattle.fast_tenant.specs.Kept.{Kept}
+use Rattle.fast_tenant.specs.Standing.{Stands, live_in}
+use Rattle.fast_tenant.specs.Stands.{IsCompact}
+use Rattle.fast_tenant.proofs.Logging.{AreOf}
+use Rattle.fast_tenant.proofs.Places.{other_places, owns_not, places_behind}
+
+-- Its records are live as they were.
+pub stands_beside : {S : Type 0} (M : Meaning S) (name : List ℕ) (t : Kept S) (w : World) (before after : List (Option Record)) (grown : List Record) → Grows before grown after
+    → ((u : ℕ) → live_in name after u ≡ live_in name before u) → Stands M name t w before → Stands M name t w after
+stands_beside M name t w before after grown grows same s = record {
+  whole = s.whole ++ grown;
+  left = grows s.whole s.left;
+  stands = (
+    s.stands.0,
+    subst (λ (live : ℕ → List ℕ). IsCompact t live s.stands.0) (λ i u. sym (same u) i) s.stands.1,
+    record { reached = s.stands.2.reached; represents = logs_may_grow M name s.stands.0 w s.whole grown s.stands.2.represents },
+  );
+}
+
+-- Records of one tenant are live of no other.
+pub appended_beside : {S : Type 0} (M : Meaning S) (name other : List ℕ) (t : Kept S) (w : World) (before after : List (Option Record)) (records : List Record) (n : ℕ) → after ≡ before ++ map Some (take n records)
+    → AreOf name records n → bytes_eq other name ≡ false → Stands M other t w before → Stands M other t w after
+appended_beside M name other t w before after records n logged of_name differs s = stands_beside M other t w before after (take n records) (appended_grows before after (take n records) logged) same s
+  where
+    not_own : (i : ℕ) (r : Record) → slice_get (take n records) i ≡ Some r → r.tenant ≡ other → ⊥
+    not_own i r e own =
+        let f = get_take records n i r e in
+        let within = slice_get_within (take n records) i r e in
+        let long = length-take n records in
+        let is_name : r.tenant ≡ name = (bytes_eq-Decides r.tenant name).0 (of_name i r (omega (arith, within, long)) f.0) in
+        let is : bytes_eq other name ≡ true = (bytes_eq-Decides other name).1 (sym own ∙ is_name) in
+        cc (is, differs)
+
+    same : (u : ℕ) → live_in other after u ≡ live_in other before u
+    same u =
+        ap (places_from other u 0) logged
+        ∙ places_behind other u 0 before (map Some (take n records))
+        ∙ ap (λ ps. places_from other u 0 before ++ ps) (other_places other u (0 + length before) (take n records) (λ i r e. owns_not other u r (λ own unit. not_own i r e own)))
+        ∙ append-nil (places_from other u 0 before)
