@@ -8,3 +8,4 @@ pub mod Shelving
 pub mod Leaving
 pub mod Outgoing
 pub mod Beginning
+pub mod Joining
