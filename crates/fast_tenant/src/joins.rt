@@ -121,7 +121,7 @@ impl<H: Handler> FastTenant<H> {
             return Ok(Answer::refused(Refusal::Limit));
         }
         let unit = Unit::new(count as u8);
-        let answer = Answer::plain(alloc, Reply::Joined { unit })?;
+        let answer = Answer::twice(Reply::Joined { unit }, Reply::Joined { unit });
         self.enter(alloc, handler, kind)?;
         Ok(answer)
     }

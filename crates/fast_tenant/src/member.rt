@@ -12,7 +12,7 @@ ghost use Rattle.fast_tenant.specs.Kept.{begun_member, checkpointed_member, firm
 
 use crate::releasing;
 use handler::Handler;
-use model::{Mark, NoMemory, Seat, Unit};
+use model::{Mark, NoMemory, Seat, Text, Unit};
 use output_commit::{Hold, Outlet};
 use rollback::RecoveryUnit;
 use session::Sessions;
@@ -172,6 +172,13 @@ impl<H: Handler> Member<H> {
         ensures { (n : ℕ) → sessions ≡ option_map (λ p. widened p.sessions n) self.old.recovering.progress → self.new ≡ fitted_member n self.old }
     {
         self.recovering.fit(sessions);
+    }
+
+    /// Copies of the texts of the outputs at the front that are of the first so many intervals.
+    pub(crate) fn firm_texts(&self, alloc: Global, frontier: u64) -> Result<Vec<Text>, NoMemory>
+        ensures { IfOk result (λ texts. texts.items ≡ firm_texts self.now.outputs frontier) }
+    {
+        releasing::copy_firm(alloc, &self.hold, frontier)
     }
 
     /// Lets the firm outputs at the front out, for which the outlet has room.
