@@ -1,11 +1,17 @@
 -- Outputs that leave.
-use Rattle.std.proofs.Common.{◌≡◌, refl, sym, ◌∙◌, ap, ℕ, true, false, cond, List, [], ◌∷◌, ◌++◌, length, drop, map}
-use Rattle.std.specs.Prelude.{nat_lt}
+use Rattle.std.proofs.Common.{◌≡◌, refl, sym, ◌∙◌, ap, ℕ, zero, suc, ◌+◌, ◌<◌, ◌≤◌, true, false, cond, List, [], ◌∷◌, ◌++◌, length, drop, map, arith}
+use Rattle.std.specs.Prelude.{Some, nat_lt, slice_get}
+use Rattle.std.proofs.lemmas.Bool.Decides.{nat_tests}
 use Rattle.std.proofs.lemmas.List.{append-nil, append_assoc}
 use Rattle.std.proofs.lemmas.List.Sums.{take_while-cons}
+use Rattle.std.proofs.lemmas.Option.{same_Some}
+use Rattle.theory.proofs.ListLaws.{true_lt}
 use Rattle.output_commit.specs.declared.held.Held.{Held}
 use Rattle.output_commit.specs.Holds.{below, first_is_firm}
 use Rattle.fast_tenant.specs.Kept.{AreMoved, firm_texts, unfirm}
+
+not_lt : (a b : ℕ) → b ≤ a → nat_lt a b ≡ false
+not_lt a b h = grind (arith, nat_tests)
 
 -- the first of them is firm
 below_one : (f : ℕ) (o : Held) (left : List Held) → nat_lt o.mark.index f ≡ true → below (o ∷ left) f ≡ o ∷ below left f
@@ -45,3 +51,24 @@ all_moved f outputs left texts more m e =
 pub none_firm : (f : ℕ) (left : List Held) → length left ≡ 0 → first_is_firm f left ≡ false
 none_firm f [] e = refl
 none_firm f (o ∷ left) e = absurd (cc e)
+
+-- ---- the texts at the front, one by one
+
+dropped : (outputs : List Held) (i : ℕ) (o : Held) → slice_get outputs i ≡ Some o → drop i outputs ≡ o ∷ drop (suc i) outputs
+dropped [] i o e = absurd (cc e)
+dropped (p ∷ outputs) zero o e = ap (λ q. q ∷ outputs) (same_Some p o e)
+dropped (p ∷ outputs) (suc i) o e = dropped outputs i o e
+
+-- the next one is firm
+pub firm_next : (f : ℕ) (outputs : List Held) (i : ℕ) (o : Held) → slice_get outputs i ≡ Some o → o.mark.index < f → firm_texts (drop i outputs) f ≡ o.text ∷ firm_texts (drop (i + 1) outputs) f
+firm_next f outputs i o e h =
+    let next : suc i ≡ i + 1 = omega arith in
+    ap (λ os. firm_texts os f) (dropped outputs i o e)
+    ∙ ap (λ (os : List Held). map (λ (h : Held). h.text) os) (below_one f o (drop (suc i) outputs) (true_lt o.mark.index f h))
+    ∙ ap (λ (n : ℕ). o.text ∷ firm_texts (drop n outputs) f) next
+
+-- or not
+pub firm_end : (f : ℕ) (outputs : List Held) (i : ℕ) (o : Held) → slice_get outputs i ≡ Some o → f ≤ o.mark.index → firm_texts (drop i outputs) f ≡ []
+firm_end f outputs i o e h =
+    ap (λ os. firm_texts os f) (dropped outputs i o e)
+    ∙ ap (λ (os : List Held). map (λ (h : Held). h.text) os) (below_none f o (drop (suc i) outputs) (not_lt o.mark.index f h))

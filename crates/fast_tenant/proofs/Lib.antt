@@ -14,3 +14,4 @@ mod Others
 mod Flushing
 mod Fronts
 mod Widths
+pub mod Joining

@@ -1,6 +1,7 @@
 -- What the units released, as lists.
-use Rattle.std.proofs.Common.{◌≡◌, ◌≢◌, refl, sym, ◌∙◌, ap, ℕ, zero, suc, ◌<◌, List, [], ◌∷◌, ◌++◌, length, replicate, arith}
+use Rattle.std.proofs.Common.{◌≡◌, ◌≢◌, refl, sym, ◌∙◌, ap, ℕ, zero, suc, ◌+◌, ◌<◌, List, [], ◌∷◌, ◌++◌, length, replicate, arith}
 use Rattle.std.specs.Prelude.{Some, slice_get, slice_index, slice_set}
+use Rattle.std.proofs.lemmas.List.{nil_from_length}
 use Rattle.std.proofs.lemmas.Option.{get_or_from_slice_get, same_Some}
 use Rattle.output_commit.specs.Holds.{Line, texts_of}
 use Rattle.fast_tenant.specs.Kept.{Member, firm_of, firm_texts, released_member, released_of, with_firm_out}
@@ -38,6 +39,18 @@ one_text (l ∷ lines) (m ∷ others) zero texts h within is same =
 one_text (l ∷ lines) (m ∷ others) (suc u) texts h within is same =
     let head : l.texts ≡ m.texts = same 0 (λ e. absurd (omega (arith, e))) in
     let tail = one_text lines others u texts (omega (arith, h)) (omega (arith, within)) is (λ v d. same (suc v) (λ e. d (omega (arith, e)))) in
+    λ i. head i ∷ tail i
+
+-- and one line more, of which nothing was released
+pub one_line : (lines others : List Line) → length lines ≡ length others + 1 → ((u : ℕ) → texts_of lines u ≡ texts_of others u) → released_of lines ≡ released_of others ++ [] ∷ []
+one_line [] others h same = absurd (omega (arith, h))
+one_line (l ∷ lines) [] h same =
+    let head : l.texts ≡ [] = same 0 in
+    let none = nil_from_length lines (omega (arith, h)) in
+    λ i. head i ∷ released_of (none i)
+one_line (l ∷ lines) (m ∷ others) h same =
+    let head : l.texts ≡ m.texts = same 0 in
+    let tail = one_line lines others (omega (arith, h)) (λ u. same (suc u)) in
     λ i. head i ∷ tail i
 
 -- ---- the firm outputs of one unit left

@@ -1,9 +1,7 @@
 -- The step `release`.
-use Rattle.std.proofs.Common.{◌≡◌, sym, ◌∙◌, ap, subst, ℕ, true, List, ◌++◌, length, drop, map}
+use Rattle.std.proofs.Common.{◌≡◌, sym, ◌∙◌, ap, subst, ℕ, true, List, ◌++◌, map}
 use Rattle.std.specs.Prelude.{Some, slice_get}
 use Rattle.std.specs.Option.{is_some}
-use Rattle.std.proofs.Math.Seq.{drop-append_seam}
-use Rattle.std.proofs.lemmas.Option.{same_Some}
 use Rattle.model.specs.declared.records.Record.{Record}
 use Rattle.model.specs.declared.refusals.Refusal.{Refusal}
 use Rattle.model.specs.declared.replies.End.TheVariants.{Whole}
@@ -38,23 +36,21 @@ module _ {S : Type 0} (M : Meaning S) (name : List ℕ) (live : ℕ → List ℕ
     abbrev after : ℕ → List (List ℕ) → Kept S
     after frontier texts = record t { members = with_firm_out t.members u m frontier; released = firm_of t.released u m frontier texts }
 
-    pub release_done : (v : Kept S) (n : ℕ)
-        → ((frontier : ℕ) (texts : List (List ℕ)) → m.unit ≡ u → slice_get t.frontiers u ≡ Some frontier → slice_get t.released u ≡ Some texts → v ≡ after frontier texts)
-        → ((texts : List (List ℕ)) → slice_get t.released u ≡ Some texts → n ≡ length texts)
-        → (now : List (List ℕ)) → slice_get v.released u ≡ Some now → Leaves M name live (release M w u) (Released (drop n now)) v log
-    release_done v n is count now there =
+    pub release_done : (v : Kept S) (texts : List (List ℕ))
+        → ((frontier : ℕ) (had : List (List ℕ)) → m.unit ≡ u → slice_get t.frontiers u ≡ Some frontier → slice_get t.released u ≡ Some had → v ≡ after frontier had)
+        → ((frontier : ℕ) → slice_get t.frontiers u ≡ Some frontier → texts ≡ firm_texts m.outputs frontier)
+        → Leaves M name live (release M w u) (Released texts) v log
+    release_done v texts is are =
         let x = keeps t live k s.1 u m found in
         let i = x.is in
         let f = x.unit.frontier in
-        let texts = x.unit.released in
-        let same : v ≡ after f texts = is f texts i.own i.frontier i.released in
-        let all : List (List ℕ) = texts ++ firm_texts m.outputs f in
-        let put : slice_get (firm_of t.released u m f texts) u ≡ Some all = set_get_same t.released u all texts i.released in
-        let now_is : now ≡ all = same_Some now all (sym there ∙ ap (λ (q : Kept S). slice_get q.released u) same ∙ put) in
-        let left : drop n now ≡ firm_texts m.outputs f = (λ j. drop (count texts i.released j) (now_is j)) ∙ drop-append_seam texts (firm_texts m.outputs f) in
-        let given : Done S = record { reply = Released (drop n now); state = (release_of k u x.unit).state } in
-        let reply : map (λ (h : Held). h.text) (below x.unit.hold f) ≡ drop n now = ap (λ os. firm_texts os f) i.outputs ∙ sym left in
-        let one : IsMember (after f texts) live u (released_member m f) (released_unit x.unit) = record {
+        let had = x.unit.released in
+        let same : v ≡ after f had = is f had i.own i.frontier i.released in
+        let all : List (List ℕ) = had ++ firm_texts m.outputs f in
+        let put : slice_get (firm_of t.released u m f had) u ≡ Some all = set_get_same t.released u all had i.released in
+        let given : Done S = record { reply = Released texts; state = (release_of k u x.unit).state } in
+        let reply : map (λ (h : Held). h.text) (below x.unit.hold f) ≡ texts = ap (λ os. firm_texts os f) i.outputs ∙ sym (are f i.frontier) in
+        let one : IsMember (after f had) live u (released_member m f) (released_unit x.unit) = record {
           kept = i.kept;
           seen = record { seat = i.seen.seat; up = i.seen.up; now = i.seen.now; stable = i.seen.stable; outside = i.seen.outside; base = i.seen.base; shelf = i.seen.shelf; intervals = i.seen.intervals; volatile = i.seen.volatile };
           own = i.own;
@@ -62,7 +58,7 @@ module _ {S : Type 0} (M : Meaning S) (name : List ℕ) (live : ℕ → List ℕ
           known = i.known;
           stable = i.stable;
           frontier = i.frontier;
-          released = put ∙ ap (λ os. Some (texts ++ firm_texts os f)) (sym i.outputs);
+          released = put ∙ ap (λ os. Some (had ++ firm_texts os f)) (sym i.outputs);
           places = i.places;
         } in
         leaves M name live log (release M w u) reach _ given (releases_follow M name k w log s.2 u)

@@ -1,5 +1,5 @@
 -- What a tenant keeps, by lists.
-use Rattle.std.specs.Prelude.{◌≡◌, [], ◌∷◌, replicate, length, ◌++◌, drop, map, slice_get, slice_set, ℕ, cond, nat_lt, List, Option, Some, None}
+use Rattle.std.specs.Prelude.{◌≡◌, [], ◌∷◌, replicate, length, ◌++◌, drop, map, slice_get, slice_set, ℕ, cond, nat_lt, List, Option, Some, None, ◌+◌, take}
 use Rattle.std.specs.List.{fold}
 use Rattle.std.specs.Option.{is_some}
 use Rattle.model.specs.declared.names.Quota.{Quota}
@@ -12,7 +12,7 @@ use Rattle.model.specs.Steps.{kind_or_0}
 use Rattle.output_commit.specs.declared.held.Held.{Held}
 use Rattle.output_commit.specs.Holds.{Line, below}
 use Rattle.compact.specs.Compact.{Letter}
-use Rattle.rollback.specs.Units.{Recovering, begun_unit, checkpointed, killed, marked_stable, places, stable_places}
+use Rattle.rollback.specs.Units.{Recovering, begun_unit, checkpointed, killed, marked_stable, places, stable_places, widened_to}
 use Rattle.unit_steps.specs.Receipts.{IsFrontier, frontier_of}
 
 -- One unit: what it needs to go on and to go back, its held outputs, and how many rows it knows.
@@ -129,3 +129,24 @@ pub record IsFlushed {S : Type 0} (before : Kept S) (u count : ℕ) (m : Member 
   pub frontiers : GoOn before.table after.stable_lengths after.members before.frontiers after.frontiers
   pub released : after.released ≡ before.released
   pub letters : after.letters ≡ before.letters
+
+-- ---- join
+
+-- with an entry for each of n units in what it took and sent
+abbrev pub fitted_member : {S : Type 0} → ℕ → Member S → Member S
+fitted_member n m = record m { recovering = widened_to m.recovering n }
+
+-- so are the units from this place on
+abbrev pub fitted_from : {S : Type 0} → ℕ → List (Member S) → ℕ → List (Member S)
+fitted_from n members at = take at members ++ map (fitted_member n) (drop at members)
+
+-- one unit more, at its beginning, and the others fitted for it
+abbrev pub joined_kept : {S : Type 0} → Meaning S → Kept S → ℕ → Kept S
+joined_kept M t kind =
+    let width = length t.members + 1 in
+    record t {
+      members = map (fitted_member width) t.members ++ begun_member M width (record { unit = length t.members; kind = kind; home = width }) (length t.table) ∷ [];
+      stable_lengths = t.stable_lengths ++ 1 ∷ [];
+      frontiers = t.frontiers ++ 1 ∷ [];
+      released = t.released ++ [] ∷ [];
+    }

@@ -1,13 +1,11 @@
 -- Which world a tenant stands for.
-use Rattle.std.specs.Prelude.{◌≡◌, ◌≤◌, ℕ, List, [], drop, length, Option, Some, None, Result, Ok, Err, slice_get}
+use Rattle.std.specs.Prelude.{◌≡◌, ◌≤◌, ℕ, List, [], length, Option, Some, None, slice_get}
 use Rattle.model.specs.declared.names.Quota.{Quota}
 use Rattle.model.specs.declared.records.Record.{Record}
-use Rattle.model.specs.declared.refusals.Refusal.{Refusal}
 use Rattle.model.specs.declared.replies.Reply.{Reply}
-use Rattle.model.specs.declared.replies.Reply.TheVariants.{Refused, Released}
 use Rattle.model.specs.Handler.{Meaning}
 use Rattle.model.specs.World.{World}
-use Rattle.model.specs.Steps.{Outcome, open_new, release}
+use Rattle.model.specs.Steps.{Outcome, open_new}
 use Rattle.compact.specs.Compact.{Compact, Unit}
 use Rattle.compact.specs.StepLaws.{Stands}
 use Rattle.rollback.specs.Units.{IsKept}
@@ -56,11 +54,6 @@ DoesAs M name step before reply after =
 abbrev pub Does : {S : Type 0} → Meaning S → (World → Outcome) → Kept S → Reply → Kept S → Type 0
 Does M step before reply after =
     (name : List ℕ) (live : ℕ → List ℕ) (w : World) (log : List Record) → StandsFor M name live before w log → Leaves M name live (step w) reply after log
-
--- What a release gives: a refusal, or how many outputs the unit had released before, behind which those stand that are the reply.
-abbrev pub Releases : {S : Type 0} → Meaning S → ℕ → Kept S → Result ℕ Refusal → Kept S → Type 0
-Releases M u before (Err r) after = Does M (λ w. release M w u) before (Refused r) after
-Releases M u before (Ok n) after = (texts : List (List ℕ)) → slice_get after.released u ≡ Some texts → Does M (λ w. release M w u) before (Released (drop n texts)) after
 
 -- A tenant was opened with these, or not. It has no record in the log yet.
 abbrev pub IsOpened : {S : Type 0} → Meaning S → List (List ℕ) → Quota → ℕ → Reply → Option (Kept S) → Type 0

@@ -40,6 +40,19 @@ impl Answer {
         })
     }
 
+    /// The same for a reply that takes no memory, made twice.
+    pub(crate) fn twice(reply: Reply, kept: Reply) -> Answer
+        requires { kept ≡ reply }
+        ensures reply { result.reply ≡ reply }
+        ensures plain { IsPlain result }
+    {
+        Answer {
+            said: quiet(),
+            reply,
+            kept,
+        }
+    }
+
     /// The step is refused.
     pub(crate) fn refused(refusal: Refusal) -> Answer
         ensures reply { result.reply ≡ Refused refusal }

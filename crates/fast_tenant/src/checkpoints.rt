@@ -3,8 +3,10 @@
 ghost use Rattle.std.specs.Prelude.{◌≡◌, ◌<◌, IfOk, OnErr, Some, length, slice_get, slice_set};
 ghost use Rattle.model.specs.Steps.{checkpoint as checkpoint_of};
 ghost use Rattle.fast_tenant.specs.Kept.{Member as MemberOf, checkpointed_member};
+ghost use Rattle.fast_tenant.specs.Outcomes.{IsPlain};
 ghost use Rattle.fast_tenant.specs.Stands.{Does};
 
+use crate::answer::Answer;
 use crate::member::Member;
 use crate::tenant::FastTenant;
 use handler::Handler;
@@ -50,21 +52,20 @@ impl<H: Handler> FastTenant<H> {
     /// # Errors
     ///
     /// `NoMemory` where the snapshot finds no memory; the tenant stays as it was.
-    pub fn checkpoint(&mut self, alloc: Global, handler: &H, unit: Unit) -> Result<Reply, NoMemory>
-        ensures ok { IfOk result (λ reply. Does H.meaning (λ w. checkpoint_of w unit) self.old reply self.new) }
+    pub fn checkpoint(&mut self, alloc: Global, handler: &H, unit: Unit) -> Result<Answer, NoMemory>
+        ensures done { IfOk result (λ a. Does H.meaning (λ w. checkpoint_of w unit) self.old a.reply self.new) }
+        ensures plain { IfOk result IsPlain }
         ensures err { OnErr result (self.new ≡ self.old) }
     {
         let member = match self.up_member(unit) {
             Ok(member) => member,
-            Err(refusal) => return Ok(Reply::Refused { refusal }),
+            Err(refusal) => return Ok(Answer::refused(refusal)),
         };
         if member.volatile_count() > 0 {
-            return Ok(Reply::Refused {
-                refusal: Refusal::Unlogged,
-            });
+            return Ok(Answer::refused(Refusal::Unlogged));
         }
         let at = member.last_mark(unit);
         self.checkpoint_at(alloc, handler, unit)?;
-        Ok(Reply::Checkpointed { at })
+        Ok(Answer::twice(Reply::Checkpointed { at }, Reply::Checkpointed { at }))
     }
 }

@@ -3,8 +3,10 @@
 ghost use Rattle.std.specs.Prelude.{◌≡◌, ◌<◌, Some, length, slice_get, slice_set};
 ghost use Rattle.model.specs.Steps.{kill as kill_of};
 ghost use Rattle.fast_tenant.specs.Kept.{Member as MemberOf, killed_member};
+ghost use Rattle.fast_tenant.specs.Outcomes.{IsPlain};
 ghost use Rattle.fast_tenant.specs.Stands.{Does};
 
+use crate::answer::Answer;
 use crate::member::Member;
 use crate::tenant::FastTenant;
 use handler::Handler;
@@ -31,14 +33,15 @@ impl<H: Handler> FastTenant<H> {
     }
 
     /// The unit fails: its progress and its intervals that are not stable are gone. Takes no memory.
-    pub fn kill(&mut self, unit: Unit) -> Reply
-        ensures { Does H.meaning (λ w. kill_of w unit) self.old result self.new }
+    pub fn kill(&mut self, unit: Unit) -> Answer
+        ensures done { Does H.meaning (λ w. kill_of w unit) self.old result.reply self.new }
+        ensures plain { IsPlain result }
     {
         match self.up_member(unit) {
             Ok(_) => {}
-            Err(refusal) => return Reply::Refused { refusal },
+            Err(refusal) => return Answer::refused(refusal),
         }
         let lost = self.kill_at(unit);
-        Reply::Killed { lost }
+        Answer::twice(Reply::Killed { lost }, Reply::Killed { lost })
     }
 }

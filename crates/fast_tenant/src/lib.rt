@@ -2,7 +2,7 @@
 //! its next steps need.
 //!
 //! - `tenant`: the struct, and what is read off it; `member`: one unit; `answer`: what a step is answered.
-//! - `opens`, `statuses`, `kills`, `checkpoints`, `releases`: the steps; `releasing`: the outputs of one unit on their way out.
+//! - `opens`, `joins`, `statuses`, `kills`, `checkpoints`, `releases`: the steps; `releasing`: the outputs of one unit on their way out.
 //!
 //! Contracts see the tenant as `Kept` of `specs/Kept`. Each step says by `specs/Stands`: for every world that the
 //! tenant stands for, the reply is that of the definitions, and the tenant then stands for the world after the step.
@@ -11,6 +11,7 @@
 mod answer;
 mod checkpoints;
 mod flushes;
+mod joins;
 mod kills;
 mod member;
 mod opens;

@@ -1,19 +1,21 @@
 //! One unit of a tenant.
 
-ghost use Rattle.std.specs.Prelude.{◌≡◌, ◌≢◌, ◌++◌, ◌<◌, ◌≤◌, ℕ, IfOk, OnErr, length, slice_index};
+ghost use Rattle.std.specs.Prelude.{◌≡◌, ◌≢◌, ◌++◌, ◌<◌, ◌≤◌, ℕ, IfOk, OnErr, length, option_map, slice_index};
 ghost use Rattle.std.specs.Option.{is_some};
 ghost use Rattle.output_commit.specs.Holds.{room_of, texts_of};
 ghost use Rattle.compact.specs.Compact.{Unit as UnitOf};
 ghost use Rattle.compact.specs.Steps.{last_mark as last_mark_of};
 ghost use Rattle.rollback.specs.Units.{IsKept, stable_places};
+ghost use Rattle.session.specs.Counts.{widened};
 ghost use Rattle.rollback_laws.specs.Seen.{IsSeen};
-ghost use Rattle.fast_tenant.specs.Kept.{begun_member, checkpointed_member, firm_texts, flushed_member, killed_member, outputs_to, released_member};
+ghost use Rattle.fast_tenant.specs.Kept.{begun_member, checkpointed_member, firm_texts, flushed_member, killed_member, outputs_to, released_member, fitted_member};
 
 use crate::releasing;
 use handler::Handler;
-use model::{Mark, NoMemory, Seat, Unit};
+use model::{Mark, NoMemory, Seat, Text, Unit};
 use output_commit::{Hold, Outlet};
 use rollback::RecoveryUnit;
+use session::Sessions;
 use std::alloc::Global;
 use std::marker::Model;
 
@@ -156,6 +158,27 @@ impl<H: Handler> Member<H> {
     {
         self.recovering.checkpoint(alloc, handler)?;
         Ok(())
+    }
+
+    /// What it took and sent with entries for `n` units, where it is up.
+    pub(crate) fn widened_sessions(&self, n: usize) -> Result<Option<Sessions>, NoMemory>
+        ensures { IfOk result (λ sessions. sessions ≡ option_map (λ p. widened p.sessions n) self.now.recovering.progress) }
+    {
+        self.recovering.widened_sessions(n)
+    }
+
+    /// Adds the entries that `widened_sessions` made. Takes no memory.
+    pub(crate) fn fit(&mut self, sessions: Option<Sessions>)
+        ensures { (n : ℕ) → sessions ≡ option_map (λ p. widened p.sessions n) self.old.recovering.progress → self.new ≡ fitted_member n self.old }
+    {
+        self.recovering.fit(sessions);
+    }
+
+    /// Copies of the texts of the outputs at the front that are of the first so many intervals.
+    pub(crate) fn firm_texts(&self, alloc: Global, frontier: u64) -> Result<Vec<Text>, NoMemory>
+        ensures { IfOk result (λ texts. texts.items ≡ firm_texts self.now.outputs frontier) }
+    {
+        releasing::copy_firm(alloc, &self.hold, frontier)
     }
 
     /// Lets the firm outputs at the front out, for which the outlet has room.

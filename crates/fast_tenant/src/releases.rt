@@ -1,14 +1,18 @@
 //! The step `release`.
 
 ghost use Rattle.std.specs.Prelude.{◌≡◌, ◌<◌, ℕ, List, IfOk, MatchOption, None, OnErr, Some, length, slice_get};
-ghost use Rattle.fast_tenant.specs.Kept.{Member as MemberOf, firm_of, released_of, with_firm_out};
-ghost use Rattle.fast_tenant.specs.Stands.{Releases};
+ghost use Rattle.model.specs.Steps.{release as release_of};
+ghost use Rattle.fast_tenant.specs.Kept.{Member as MemberOf, firm_of, firm_texts, released_of, with_firm_out};
+ghost use Rattle.fast_tenant.specs.Outcomes.{IsPlain};
+ghost use Rattle.fast_tenant.specs.Stands.{Does};
 
+use crate::answer::Answer;
 use crate::member::Member;
 use crate::tenant::FastTenant;
 use handler::Handler;
-use model::{NoMemory, Refusal, Text, Unit};
+use model::{NoMemory, Reply, Text, Texts, Unit};
 use output_commit::Outlet;
+use std::alloc::Global;
 
 /// Lets the firm outputs of the unit at its place out. Without its number, a frontier and a line in the outlet, which
 /// each unit has, none leave.
@@ -61,23 +65,37 @@ impl<H: Handler> FastTenant<H> {
         Ok(())
     }
 
-    /// Releases the unit's held outputs from the front, as long as they are firm. Gives how many the unit had released
-    /// before: those that left now stand behind them in `released`. Takes memory for the list of what the unit
-    /// released alone.
+    /// Copies of the texts of the unit's outputs at the front that are firm.
+    fn firm_texts(&self, alloc: Global, unit: Unit) -> Result<Vec<Text>, NoMemory>
+        requires { unit < length self.now.members }
+        ensures { IfOk result (λ texts. (m : MemberOf H.State) (frontier : ℕ) → slice_get self.now.members unit ≡ Some m → slice_get self.now.frontiers unit ≡ Some frontier → texts.items ≡ firm_texts m.outputs frontier) }
+    {
+        let at = usize::from(unit.number());
+        let member = &self.members[at];
+        match self.frontiers.get(at) {
+            Some(frontier) => member.firm_texts(alloc, *frontier),
+            None => Ok(Vec::new(alloc)),
+        }
+    }
+
+    /// Releases the unit's held outputs from the front, as long as they are firm. Their texts are copied
+    /// twice before any of them leaves.
     ///
     /// # Errors
     ///
-    /// `NoMemory` where that list finds none; the tenant stays as it was.
-    pub fn release(&mut self, unit: Unit) -> Result<Result<usize, Refusal>, NoMemory>
-        ensures ok { IfOk result (λ r. Releases H.meaning unit self.old r self.new) }
+    /// `NoMemory` where the copies, or the list of what the unit released, find none; the tenant stays as it was.
+    pub fn release(&mut self, alloc: Global, unit: Unit) -> Result<Answer, NoMemory>
+        ensures done { IfOk result (λ a. Does H.meaning (λ w. release_of H.meaning w unit) self.old a.reply self.new) }
+        ensures plain { IfOk result IsPlain }
         ensures err { OnErr result (self.new ≡ self.old) }
     {
         match self.up_member(unit) {
             Ok(_) => {}
-            Err(refusal) => return Ok(Err(refusal)),
+            Err(refusal) => return Ok(Answer::refused(refusal)),
         }
-        let before = self.released_count(unit);
+        let outputs = Texts::new(self.firm_texts(alloc, unit)?);
+        let answer = Answer::plain(alloc, Reply::Released { outputs })?;
         self.release_at(unit)?;
-        Ok(Ok(before))
+        Ok(answer)
     }
 }

@@ -1,10 +1,38 @@
 //! The firm outputs of one unit, on their way out.
 
-ghost use Rattle.std.specs.Prelude.{◌≡◌, ◌≢◌, ◌++◌, ◌∷◌, [], ◌<◌, ◌≤◌, ◌+◌, ◌-◌, ℕ, MatchBool, length, slice_index, false};
+ghost use Rattle.std.specs.Prelude.{◌≡◌, ◌≢◌, ◌++◌, ◌∷◌, [], ◌<◌, ◌≤◌, ◌+◌, ◌-◌, ℕ, IfOk, MatchBool, MatchOption, drop, length, slice_index, false};
 ghost use Rattle.output_commit.specs.Holds.{front_is_firm, room_of, texts_of};
 ghost use Rattle.fast_tenant.specs.Kept.{AreMoved, firm_texts, unfirm};
 
+use model::{NoMemory, Text};
 use output_commit::{Hold, Outlet, StableView};
+use std::alloc::Global;
+
+/// The text of the output at this place, where it is of the first so many intervals.
+fn firm_at(hold: &Hold, place: usize, frontier: u64) -> Option<&Text>
+    ensures { MatchOption result (firm_texts (drop place hold.now.outputs) frontier ≡ []) (λ text. firm_texts (drop place hold.now.outputs) frontier ≡ text.now ∷ firm_texts (drop (place + 1) hold.now.outputs) frontier) }
+{
+    let held = hold.at(place)?;
+    if u64::from(held.mark.index) < frontier {
+        Some(&held.text)
+    } else {
+        None
+    }
+}
+
+/// Copies of the texts of the outputs at the front that are of the first so many intervals.
+pub(crate) fn copy_firm(alloc: Global, hold: &Hold, frontier: u64) -> Result<Vec<Text>, NoMemory>
+    ensures { IfOk result (λ texts. texts.items ≡ firm_texts hold.now.outputs frontier) }
+{
+    let mut texts = Vec::new(alloc);
+    for place in 0..hold.len() {
+        match firm_at(hold, place, frontier) {
+            Some(text) => texts.push(text.copy(alloc)?)?,
+            None => return Ok(texts),
+        }
+    }
+    Ok(texts)
+}
 
 /// Lets the first output out where it is firm, and tells whether it did. The outlet has room for it.
 fn release_one(hold: &mut Hold, outlet: &mut Outlet, frontiers: &[u64]) -> bool

@@ -60,6 +60,13 @@ impl<H: Handler> FastTenant<H> {
         }
     }
 
+    /// How many units there are.
+    pub(crate) fn member_count(&self) -> usize
+        ensures { result ≡ length self.now.members }
+    {
+        self.members.len()
+    }
+
     /// How many rows there are.
     pub(crate) fn rows(&self) -> usize
         ensures { result ≡ length self.now.table }

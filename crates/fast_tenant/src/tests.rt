@@ -18,25 +18,28 @@ fn opened(alloc: Global) -> Result<FastTenant<Sample>, Fail> {
     Ok(tenant.ok_or("it is not open")?)
 }
 
+/// Why a step was refused, if it was.
+fn refusal(reply: &Reply) -> Option<Refusal> {
+    match reply {
+        Reply::Refused { refusal } => Some(*refusal),
+        _ => None,
+    }
+}
+
 #[test]
 fn a_unit_that_was_killed_is_down(rt: HostRuntime) -> Result<(), Fail> {
     let alloc = rt.alloc();
     let mut tenant = opened(alloc)?;
     let unit = Unit::new(1);
-    let shelved = tenant.checkpoint(alloc, &Sample, unit)?;
+    let shelved = tenant.checkpoint(alloc, &Sample, unit)?.reply;
     assert!(rt; matches!(shelved, Reply::Checkpointed { .. }));
-    assert!(rt; matches!(tenant.kill(unit), Reply::Killed { lost: 0 }));
-    let again = tenant.kill(unit);
-    assert!(rt;
-        matches!(
-            again,
-            Reply::Refused {
-                refusal: Refusal::Down
-            }
-        )
+    assert!(rt; matches!(tenant.kill(unit).reply, Reply::Killed { lost: 0 }));
+    assert_eq!(rt; refusal(&tenant.kill(unit).reply), Some(Refusal::Down));
+    assert_eq!(rt;
+        refusal(&tenant.release(alloc, unit)?.reply),
+        Some(Refusal::Down)
     );
-    assert_eq!(rt; tenant.release(unit)?, Err(Refusal::Down));
-    let status = tenant.status(unit);
+    let status = tenant.status(unit).reply;
     assert!(rt;
         matches!(
             status,
@@ -54,11 +57,30 @@ fn a_unit_that_was_killed_is_down(rt: HostRuntime) -> Result<(), Fail> {
 fn nothing_is_released_at_first(rt: HostRuntime) -> Result<(), Fail> {
     let alloc = rt.alloc();
     let mut tenant = opened(alloc)?;
-    assert_eq!(rt; tenant.release(Unit::new(0))?, Ok(0));
+    let released = tenant.release(alloc, Unit::new(0))?.reply;
+    let Reply::Released { outputs } = released else {
+        return Err(Fail::from("it is refused"));
+    };
+    assert_eq!(rt; outputs.as_slice().len(), 0);
     assert_eq!(rt;
         tenant.released(Unit::new(0)).map(|texts| texts.len()),
         Some(0)
     );
-    assert_eq!(rt; tenant.release(Unit::new(2))?, Err(Refusal::NoUnit));
+    let unknown = tenant.release(alloc, Unit::new(2))?.reply;
+    assert_eq!(rt; refusal(&unknown), Some(Refusal::NoUnit));
+    Ok(())
+}
+
+#[test]
+fn a_unit_joins(rt: HostRuntime) -> Result<(), Fail> {
+    let alloc = rt.alloc();
+    let mut tenant = opened(alloc)?;
+    let unknown = tenant.join(alloc, &Sample, "no such kind")?.reply;
+    assert_eq!(rt; refusal(&unknown), Some(Refusal::BadOpen));
+    let unit = Unit::new(2);
+    let joined = tenant.join(alloc, &Sample, "relay")?.reply;
+    assert!(rt; matches!(joined, Reply::Joined { .. }));
+    let status = tenant.status(unit).reply;
+    assert!(rt; matches!(status, Reply::Status { up: true, .. }));
     Ok(())
 }

@@ -2,7 +2,7 @@
 
 ghost use Rattle.std.specs.Prelude.{◌≡◌, ◌+◌, ◌<◌, ◌≤◌, ◌^◌, ◌↔◌, ℕ, IfOk, IsTrue, OnErr, Some, length, nat_lt, option_map};
 ghost use Rattle.std.specs.List.{filter};
-ghost use Rattle.session.specs.Counts.{sent_to};
+ghost use Rattle.session.specs.Counts.{sent_to, widened};
 ghost use Rattle.layer_laws.specs.Laws.{sent_all};
 ghost use Rattle.compact.specs.Compact.{Progress as ProgressOf, fitted};
 ghost use Rattle.compact.specs.Steps.{first_progress};
@@ -141,5 +141,35 @@ pub(crate) fn widen<S: Drop>(progress: &mut Option<Progress<S>>, n: usize) -> Re
     match progress {
         Some(progress) => progress.sessions.widen(n),
         None => Ok(()),
+    }
+}
+
+/// What was taken and sent with entries for `n` units, where there is a progress.
+pub(crate) fn widened_sessions<S>(
+    progress: &Option<Progress<S>>,
+    n: usize,
+) -> Result<Option<Sessions>, NoMemory>
+    ensures { IfOk result (λ sessions. sessions ≡ option_map (λ p. widened p.sessions n) progress.now) }
+{
+    match progress {
+        Some(progress) => {
+            let mut sessions = progress.sessions.copy()?;
+            sessions.widen(n)?;
+            Ok(Some(sessions))
+        }
+        None => Ok(None),
+    }
+}
+
+/// Puts these sessions in the place of the progress's own. Takes no memory.
+pub(crate) fn fit<S: Drop>(progress: &mut Option<Progress<S>>, sessions: Option<Sessions>)
+    ensures { (n : ℕ) → sessions ≡ option_map (λ p. widened p.sessions n) progress.old → progress.new ≡ option_map (fitted n) progress.old }
+{
+    match progress {
+        Some(progress) => match sessions {
+            Some(sessions) => progress.sessions = sessions,
+            None => {}
+        },
+        None => {}
     }
 }

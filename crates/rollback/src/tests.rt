@@ -96,9 +96,11 @@ fn goes_back_by_replay(rt: HostRuntime) -> Result<(), Fail> {
     unit.restore(alloc, &Sample, target, 1, fetched.as_slice())?;
     assert!(rt; unit.is_up() && state(&unit) == Some(5));
     unit.widen(2)?;
+    let sessions = unit.widened_sessions(3)?;
+    unit.fit(sessions);
     assert_eq!(rt;
         unit.progress().map(|progress| progress.sessions.len()),
-        Some(2)
+        Some(3)
     );
     Ok(())
 }

@@ -7,6 +7,7 @@ ghost use Rattle.model.specs.declared.records.Record.{Record as RecordOf};
 ghost use Rattle.checkpoint.specs.Shelves.{has_index, nearest_of};
 ghost use Rattle.handler.specs.Inputs.{turn_of};
 ghost use Rattle.orphan.specs.Tests.{is_orphan_by};
+ghost use Rattle.session.specs.Counts.{widened};
 ghost use Rattle.compact.specs.Compact.{Progress as ProgressOf};
 ghost use Rattle.compact.specs.Laws.{replayed};
 ghost use Rattle.compact.specs.Steps.{from_outside};
@@ -20,6 +21,7 @@ use checkpoint::Shelf;
 use handler::{Ask, Done, Handler};
 use incarnation::StartTable;
 use model::{NoMemory, Record, Seat, Source, Text};
+use session::Sessions;
 use std::alloc::Global;
 use std::collections::VecDeque;
 use std::marker::Model;
@@ -260,6 +262,25 @@ impl<H: Handler> RecoveryUnit<H> {
         ensures err { OnErr result (self.new ≡ self.old) }
     {
         progress::widen(&mut self.progress, n)
+    }
+
+    /// What the unit took and sent with entries for `n` units, where it is up, so that `fit` can add them
+    /// without memory.
+    ///
+    /// # Errors
+    ///
+    /// `NoMemory` where the copy finds no memory.
+    pub fn widened_sessions(&self, n: usize) -> Result<Option<Sessions>, NoMemory>
+        ensures { IfOk result (λ sessions. sessions ≡ option_map (λ p. widened p.sessions n) self.now.progress) }
+    {
+        progress::widened_sessions(&self.progress, n)
+    }
+
+    /// Adds the entries that `widened_sessions` made. Takes no memory.
+    pub fn fit(&mut self, sessions: Option<Sessions>)
+        ensures { (n : ℕ) → sessions ≡ option_map (λ p. widened p.sessions n) self.old.progress → self.new ≡ widened_to self.old n }
+    {
+        progress::fit(&mut self.progress, sessions);
     }
 
     /// Shelves a snapshot of the last interval, which is stable. One that has a snapshot gets no other,
