@@ -10,6 +10,8 @@ pub mod Outgoing
 pub mod Beginning
 mod Places
 mod Logging
+mod Fetching
+mod Going
 mod Others
 mod Flushing
 mod Fronts

@@ -1,18 +1,22 @@
 -- What a tenant keeps, by lists.
-use Rattle.std.specs.Prelude.{◌≡◌, [], ◌∷◌, replicate, length, ◌++◌, drop, map, slice_get, slice_set, ℕ, cond, nat_lt, List, Option, Some, None, ◌+◌, take}
-use Rattle.std.specs.List.{fold}
+use Rattle.std.specs.Prelude.{◌≡◌, [], ◌∷◌, replicate, length, ◌++◌, ◌-◌, min, option_map, drop, map, slice_get, slice_set, ℕ, cond, nat_lt, List, Option, Some, None, ◌+◌, take}
+use Rattle.std.specs.List.{fold, position}
 use Rattle.std.specs.Option.{is_some}
 use Rattle.model.specs.declared.names.Quota.{Quota}
 use Rattle.model.specs.declared.names.Row.{Row}
 use Rattle.model.specs.declared.names.Seat.{Seat}
+use Rattle.model.specs.declared.records.Record.{Record}
 use Rattle.model.specs.declared.refusals.Refusal.{Refusal}
 use Rattle.model.specs.declared.refusals.Refusal.TheVariants.{Down, NoUnit}
 use Rattle.model.specs.Handler.{Meaning}
 use Rattle.model.specs.Steps.{kind_or_0}
 use Rattle.output_commit.specs.declared.held.Held.{Held}
 use Rattle.output_commit.specs.Holds.{Line, below}
-use Rattle.compact.specs.Compact.{Letter}
-use Rattle.rollback.specs.Units.{Recovering, begun_unit, checkpointed, killed, marked_stable, places, stable_places, widened_to}
+use Rattle.checkpoint.specs.declared.snapshot.Snapshot.{Snapshot}
+use Rattle.checkpoint.specs.Shelves.{nearest_of}
+use Rattle.orphan.specs.Tests.{is_orphan_by}
+use Rattle.compact.specs.Compact.{Letter, Progress}
+use Rattle.rollback.specs.Units.{Recovering, begun_unit, checkpointed, cut_behind, killed, marked_stable, places, restored, stable_places, widened_to}
 use Rattle.unit_steps.specs.Receipts.{IsFrontier, frontier_of}
 
 -- One unit: what it needs to go on and to go back, its held outputs, and how many rows it knows.
@@ -150,3 +154,42 @@ joined_kept M t kind =
       frontiers = t.frontiers ++ 1 ∷ [];
       released = t.released ++ [] ∷ [];
     }
+
+-- ---- going back
+
+-- how many places of a path are kept, where this one is the first orphan, if there is one
+abbrev pub kept_before : Option ℕ → ℕ → ℕ
+kept_before None all = all
+kept_before (Some first) all = first
+
+-- how much of a path comes before its first orphan, by these rows
+abbrev pub kept_length : {S : Type 0} → List Row → Recovering S → ℕ
+kept_length rows r = kept_before (option_map (λ i. r.base + i) (position (λ x. is_orphan_by rows x.vector) r.intervals)) (places r)
+
+-- up to the target, with this progress
+abbrev pub returned : {S : Type 0} → Recovering S → ℕ → Option (Progress S) → Recovering S
+returned r target progress = record (cut_behind r target) { progress = progress }
+
+abbrev pub returned_member : {S : Type 0} → Member S → ℕ → Option (Progress S) → ℕ → Member S
+returned_member m target progress known = record m { recovering = returned m.recovering target progress; outputs = outputs_to m.outputs (target + 1); known = known }
+
+-- with the unit gone back to the target, and a row that says so
+abbrev pub gone_back : {S : Type 0} → Kept S → ℕ → Member S → ℕ → ℕ → Option (Progress S) → Kept S
+gone_back t u m target incarnation progress = record t {
+  table = t.table ++ record { unit = u; incarnation = incarnation; start = target + 1 } ∷ [];
+  members = slice_set t.members u (returned_member m target progress (length t.table + 1));
+  stable_lengths = slice_set t.stable_lengths u (stable_places (returned m.recovering target progress));
+}
+
+-- these records are those at these positions of a unit's live ones
+abbrev pub AreFetched : List (Option Record) → List ℕ → ℕ → ℕ → List Record → Type 0
+AreFetched records places first last fetched = map (λ r. Some (Some r)) fetched ≡ map (slice_get records) (take (last - first) (drop first places))
+
+-- These are the stable records behind the snapshot from which the unit goes back to the target.
+abbrev pub AreNeeded : {S : Type 0} → List (Option Record) → List ℕ → Recovering S → ℕ → List Record → Type 0
+AreNeeded {S} records live r target fetched =
+    (s : Snapshot (Progress S)) → nearest_of r.shelf target ≡ Some s → AreFetched records live (s.index - r.base) (min (target + 1) (stable_places r) - 1 - r.base) fetched
+
+-- the progress at the target is what replay of those records gives
+abbrev pub IsReplayed : {S : Type 0} → Meaning S → List (Option Record) → List ℕ → Recovering S → ℕ → ℕ → Option (Progress S) → Type 0
+IsReplayed M records live r target width progress = (fetched : List Record) × AreNeeded records live r target fetched × (progress ≡ (restored M r target width fetched).progress)

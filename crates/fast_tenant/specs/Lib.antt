@@ -1,5 +1,6 @@
 pub mod Kept
 pub mod Needs
 pub mod Outcomes
+pub mod Returns
 pub mod Standing
 pub mod Stands

@@ -14,9 +14,12 @@ mod flushes;
 mod joins;
 mod kills;
 mod member;
+mod notices;
 mod opens;
 mod releases;
 mod releasing;
+mod restarts;
+mod returning;
 mod statuses;
 mod tenant;
 

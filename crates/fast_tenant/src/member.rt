@@ -1,20 +1,24 @@
 //! One unit of a tenant.
 
-ghost use Rattle.std.specs.Prelude.{◌≡◌, ◌≢◌, ◌++◌, ◌<◌, ◌≤◌, ℕ, IfOk, OnErr, length, option_map, slice_index};
+ghost use Rattle.std.specs.Prelude.{◌≡◌, ◌≢◌, ◌++◌, ◌+◌, ◌-◌, ◌<◌, ◌≤◌, ℕ, IfOk, IfSome, OnErr, Some, min, length, option_map, slice_index};
 ghost use Rattle.std.specs.Option.{is_some};
 ghost use Rattle.output_commit.specs.Holds.{room_of, texts_of};
 ghost use Rattle.compact.specs.Compact.{Unit as UnitOf};
 ghost use Rattle.compact.specs.Steps.{last_mark as last_mark_of};
-ghost use Rattle.rollback.specs.Units.{IsKept, stable_places};
+ghost use Rattle.checkpoint.specs.declared.snapshot.Snapshot.{Snapshot as SnapshotOf};
+ghost use Rattle.checkpoint.specs.Shelves.{nearest_of};
+ghost use Rattle.compact.specs.Compact.{Progress as ProgressOf};
+ghost use Rattle.rollback.specs.Units.{IsKept, IsTarget, OrphansAreTail, places, restored, stable_places};
 ghost use Rattle.session.specs.Counts.{widened};
 ghost use Rattle.rollback_laws.specs.Seen.{IsSeen};
-ghost use Rattle.fast_tenant.specs.Kept.{begun_member, checkpointed_member, firm_texts, flushed_member, killed_member, outputs_to, released_member, fitted_member};
+ghost use Rattle.fast_tenant.specs.Kept.{begun_member, checkpointed_member, firm_texts, flushed_member, killed_member, outputs_to, released_member, fitted_member, kept_length, returned_member};
 
 use crate::releasing;
 use handler::Handler;
-use model::{Mark, NoMemory, Seat, Text, Unit};
+use incarnation::StartTable;
+use model::{Mark, NoMemory, Record, Seat, Text, Unit};
 use output_commit::{Hold, Outlet};
-use rollback::RecoveryUnit;
+use rollback::{Progress, RecoveryUnit};
 use session::Sessions;
 use std::alloc::Global;
 use std::marker::Model;
@@ -207,5 +211,97 @@ impl<H: Handler> Member<H> {
         ensures { self.new ≡ flushed_member self.old count }
     {
         self.recovering.mark_stable(count);
+    }
+
+    /// The index of its last interval.
+    pub(crate) fn last_index(&self) -> u32
+        ensures { result + 1 ≡ places self.now.recovering }
+    {
+        self.recovering.last_index()
+    }
+
+    /// The index of the last interval before its first orphan, by all rows. None is left that is kept where the first
+    /// orphan is the base, which is firm and so no orphan.
+    pub(crate) fn last_kept(&self, table: &StartTable) -> Option<u32>
+        ensures target { IfSome result (λ t. IsTarget self.now.recovering t) }
+        ensures kept { IfSome result (λ t. OrphansAreTail table.now self.now.recovering.intervals → t + 1 ≡ kept_length table.now self.now.recovering) }
+    {
+        match self.recovering.first_orphan(table) {
+            None => Some(self.recovering.last_index()),
+            Some(first) => {
+                if self.recovering.base() < first {
+                    Some(first - 1)
+                } else {
+                    None
+                }
+            }
+        }
+    }
+
+    /// The first position among its live records that it needs to go back to the target, and the position behind the
+    /// last.
+    pub(crate) fn needed(&self, target: u32) -> (usize, usize)
+        ensures first { (s : SnapshotOf (ProgressOf H.State)) → nearest_of self.now.recovering.shelf target ≡ Some s → result.0 ≡ s.index - self.now.recovering.base }
+        ensures last { result.1 ≡ min (target + 1) (stable_places self.now.recovering) - 1 - self.now.recovering.base }
+    {
+        let base = self.recovering.base();
+        let from = match self.recovering.restart_index(target) {
+            Some(index) => index,
+            None => base,
+        };
+        let kept = (u64::from(target) + 1).min(self.stable_count());
+        let last = kept.saturating_sub(1).saturating_sub(u64::from(base));
+        (from.saturating_sub(base) as usize, last as usize)
+    }
+
+    /// How many of its live records stand up to the target.
+    pub(crate) fn positions_to(&self, target: u32) -> usize
+        ensures { result ≡ target - self.now.recovering.base }
+    {
+        target.saturating_sub(self.recovering.base()) as usize
+    }
+
+    /// Its progress at the target, by replay of these records and then of its own volatile ones.
+    ///
+    /// # Errors
+    ///
+    /// `NoMemory` where the replay finds no memory.
+    pub(crate) fn rebuilt(
+        &self,
+        alloc: Global,
+        handler: &H,
+        target: u32,
+        width: usize,
+        records: &[Record],
+    ) -> Result<Option<Progress<H::State>>, NoMemory>
+        requires { IsTarget self.now.recovering target }
+        ensures { IfOk result (λ p. p ≡ (restored H.meaning self.now.recovering target width records.now).progress) }
+    {
+        let progress = self
+            .recovering
+            .rebuilt(alloc, handler, target, width, records)?;
+        Ok(progress)
+    }
+
+    /// It goes back to the target with this progress, and knows so many rows. Takes no memory.
+    pub(crate) fn return_to(
+        &mut self,
+        target: u32,
+        progress: Option<Progress<H::State>>,
+        known: usize,
+    )
+        requires { IsTarget self.old.recovering target }
+        ensures { self.new ≡ returned_member self.old target progress known }
+    {
+        self.recovering.return_to(target, progress);
+        cut_hold(&mut self.hold, u64::from(target) + 1);
+        self.known = known;
+    }
+
+    /// It knows so many rows.
+    pub(crate) fn learn(&mut self, known: usize)
+        ensures { self.new ≡ record self.old { known = known } }
+    {
+        self.known = known;
     }
 }

@@ -1,0 +1,36 @@
+-- What going back gives, once the store was asked for the records that it needs.
+use Rattle.std.specs.Prelude.{◌≡◌, ◌⊎◌, ℕ, ◌+◌, ◌-◌, List, [], length, take, Option}
+use Rattle.model.specs.Failures.{HasRisen}
+use Rattle.model.specs.Handler.{Meaning}
+use Rattle.model.specs.World.{incarnation_of}
+use Rattle.model.specs.declared.refusals.Refusal.TheVariants.{Store}
+use Rattle.model.specs.declared.replies.Reply.{Reply}
+use Rattle.model.specs.declared.replies.Reply.TheVariants.{Refused}
+use Rattle.compact.specs.Compact.{Progress}
+use Rattle.rollback.specs.Units.{IsTarget}
+use Rattle.shared_log.specs.Logged.{Grows, Logged, OthersKept, places_of}
+use Rattle.fast_tenant.specs.declared.answer.Answer.{Answer}
+use Rattle.fast_tenant.specs.Kept.{IsReplayed, Kept, Member, gone_back}
+use Rattle.fast_tenant.specs.Outcomes.{failing, quiet}
+
+-- the unit went back to the target, and the records behind it are live no more
+pub record Went {S : Type 0} (M : Meaning S) (name : List ℕ) (t : Kept S) (u : ℕ) (m : Member S) (target : ℕ) (given : Reply) (a : Answer) (v : Kept S) (before after : Logged) : Type 0 where
+  pub said : a.said ≡ quiet
+  pub reply : a.reply ≡ given
+  pub progress : Option (Progress S)
+  pub replayed : IsReplayed M before.records (places_of name u before) m.recovering target (length t.members) progress
+  pub back : v ≡ gone_back t u m target (incarnation_of t.table u + 1) progress
+  pub own : places_of name u after ≡ take (target - m.recovering.base) (places_of name u before)
+  pub others : OthersKept name u before after
+  pub grows : Grows before.records [] after.records
+
+-- the device failed, and nothing was changed
+pub record Failed {S : Type 0} (t : Kept S) (a : Answer) (v : Kept S) (before after : Logged) : Type 0 where
+  pub said : a.said ≡ failing
+  pub reply : a.reply ≡ Refused Store
+  pub same : v ≡ t
+  pub records : after.records ≡ before.records
+  pub device : HasRisen before.failures after.failures
+
+abbrev pub Returns : {S : Type 0} → Meaning S → List ℕ → Kept S → ℕ → Member S → ℕ → Reply → Answer → Kept S → Logged → Logged → Type 0
+Returns M name t u m target given a v before after = Went M name t u m target given a v before after ⊎ Failed t a v before after
