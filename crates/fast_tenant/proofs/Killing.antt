@@ -52,7 +52,7 @@ whole_hold M name k w log s u x at =
     ∙ sym here.hold
 
 -- a cut to all that is stable
-hold_cut : (hold : List Held) (stable all : ℕ) → held_below hold all ≡ hold → stable ≤ all → all ≤ 4294967296 → held_below hold stable ≡ outputs_to hold stable
+pub hold_cut : (hold : List Held) (stable all : ℕ) → held_below hold all ≡ hold → stable ≤ all → all ≤ 4294967296 → held_below hold stable ≡ outputs_to hold stable
 hold_cut hold stable all whole h few = elim (bool_cases (nat_lt stable 4294967296)) [
   | inl e ↦ rw e refl
   | inr e ↦

@@ -12,6 +12,7 @@ mod Places
 mod Logging
 mod Fetching
 mod Going
+mod Back
 mod Others
 mod Flushing
 mod Fronts

@@ -1,6 +1,15 @@
 -- What holds whatever a call gave.
-use Rattle.std.specs.Prelude.{Result, Ok, Err, OnErr}
+use Rattle.std.specs.Prelude.{IfOk, IfSome, None, OnErr, Option, Result, Err, Ok, Some}
 
 pub whatever : {T E P : Type 0} (r : Result T E) → P → OnErr r P
 whatever (Ok x) h = tt
 whatever (Err e) h = h
+
+-- what follows from what holds of a value that may be there
+pub if_some : {X : Type 0} (P Q : X → Type 0) (o : Option X) → ((x : X) → P x → Q x) → IfSome o P → IfSome o Q
+if_some P Q None h e = tt
+if_some P Q (Some x) h e = h x e
+
+pub if_ok : {T E : Type 0} (P Q : T → Type 0) (r : Result T E) → ((x : T) → P x → Q x) → IfOk r P → IfOk r Q
+if_ok P Q (Ok x) h e = h x e
+if_ok P Q (Err x) h e = tt

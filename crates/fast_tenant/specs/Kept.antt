@@ -1,5 +1,5 @@
 -- What a tenant keeps, by lists.
-use Rattle.std.specs.Prelude.{◌≡◌, [], ◌∷◌, replicate, length, ◌++◌, ◌-◌, min, option_map, drop, map, slice_get, slice_set, ℕ, cond, nat_lt, List, Option, Some, None, ◌+◌, take}
+use Rattle.std.specs.Prelude.{◌≡◌, [], ◌∷◌, replicate, length, ◌++◌, ◌-◌, min, option_map, drop, map, slice_get, slice_set, ℕ, cond, nat_le, nat_lt, List, Option, Some, None, ◌+◌, take}
 use Rattle.std.specs.List.{fold, position}
 use Rattle.std.specs.Option.{is_some}
 use Rattle.model.specs.declared.names.Quota.{Quota}
@@ -7,8 +7,9 @@ use Rattle.model.specs.declared.names.Row.{Row}
 use Rattle.model.specs.declared.names.Seat.{Seat}
 use Rattle.model.specs.declared.records.Record.{Record}
 use Rattle.model.specs.declared.refusals.Refusal.{Refusal}
-use Rattle.model.specs.declared.refusals.Refusal.TheVariants.{Down, NoUnit}
+use Rattle.model.specs.declared.refusals.Refusal.TheVariants.{Down, Limit, NoUnit, Up}
 use Rattle.model.specs.Handler.{Meaning}
+use Rattle.model.specs.World.{incarnation_of}
 use Rattle.model.specs.Steps.{kind_or_0}
 use Rattle.output_commit.specs.declared.held.Held.{Held}
 use Rattle.output_commit.specs.Holds.{Line, below}
@@ -156,6 +157,11 @@ joined_kept M t kind =
     }
 
 -- ---- going back
+
+-- why a unit can't restart, whatever the store says
+abbrev pub restart_refusal : {S : Type 0} → List Row → ℕ → Option (Member S) → Option Refusal
+restart_refusal table u None = Some NoUnit
+restart_refusal table u (Some m) = cond (is_some m.recovering.progress) (Some Up) (cond (nat_le 65535 (incarnation_of table u)) (Some Limit) None)
 
 -- how many places of a path are kept, where this one is the first orphan, if there is one
 abbrev pub kept_before : Option ℕ → ℕ → ℕ

@@ -1,6 +1,7 @@
 //! The step `notice`.
 
-ghost use Rattle.std.specs.Prelude.{◌≡◌, ◌<◌, IfOk, OnErr, List, ℕ, Some, false, bytes_eq, length, slice_get, slice_set};
+ghost use Rattle.std.specs.Prelude.{◌≡◌, ◌<◌, IfOk, OnErr, List, ℕ, Some, ◌+◌, false, bytes_eq, length, nat_le, slice_get, slice_set};
+ghost use Rattle.rollback.specs.Units.{places};
 ghost use Rattle.model.specs.World.{World};
 ghost use Rattle.model.specs.declared.steps.TenantStep.TheVariants.{Notice};
 ghost use Rattle.fast_tenant.specs.Kept.{Kept, Member as MemberOf};
@@ -33,6 +34,15 @@ impl<H: Handler> FastTenant<H> {
         learn(&mut self.members, usize::from(unit.number()), known);
     }
 
+    /// Whether no interval of the unit, which is there, is behind this index.
+    fn is_last(&self, unit: Unit, index: u32) -> bool
+        requires { unit < length self.now.members }
+        ensures { (m : MemberOf H.State) → slice_get self.now.members unit ≡ Some m → result ≡ nat_le (places m.recovering) (index + 1) }
+    {
+        let member = self.member_there(unit);
+        member.last_index() <= index
+    }
+
     /// A unit that is up learns the rows, and goes back where its path has an orphan. Only then is the store asked; a
     /// device that failed is answered `store`, with nothing changed.
     ///
@@ -54,20 +64,17 @@ impl<H: Handler> FastTenant<H> {
         ensures err { OnErr result (self.new ≡ self.old) }
         ensures err_log { OnErr result (log.new.records ≡ log.old.records) }
     {
-        let member = match self.up_member(unit) {
-            Ok(member) => member,
+        match self.up_member(unit) {
+            Ok(_) => {}
             Err(refusal) => return Ok(Answer::refused(refusal)),
-        };
-        let target = match member.last_kept(&self.table) {
+        }
+        let target = match self.last_kept(unit) {
             Some(target) => target,
             None => return Err(NoMemory),
         };
-        if target >= member.last_index() {
+        if self.is_last(unit, target) {
             self.learn_rows(unit);
-            return Ok(Answer::twice(
-                Reply::Noticed { row: None },
-                Reply::Noticed { row: None },
-            ));
+            return Ok(Answer::twice(Reply::Noticed { row: None }, Reply::Noticed { row: None }));
         }
         if self.is_worn_out(unit) {
             return Ok(Answer::refused(Refusal::Limit));

@@ -1,9 +1,9 @@
 //! The step `restart`.
 
-ghost use Rattle.std.specs.Prelude.{◌≡◌, IfOk, OnErr, List, ℕ, false, bytes_eq};
-ghost use Rattle.model.specs.World.{World};
+ghost use Rattle.std.specs.Prelude.{◌≡◌, ◌<◌, IfNone, IfOk, OnErr, List, ℕ, false, bytes_eq, length, slice_get};
+ghost use Rattle.model.specs.World.{World, incarnation_of};
 ghost use Rattle.model.specs.declared.steps.TenantStep.TheVariants.{Restart};
-ghost use Rattle.fast_tenant.specs.Kept.{Kept};
+ghost use Rattle.fast_tenant.specs.Kept.{Kept, restart_refusal as restart_refusal_of};
 ghost use Rattle.fast_tenant.specs.Standing.{Did, Stands};
 
 use crate::answer::Answer;
@@ -14,6 +14,25 @@ use shared_log::{SharedLog, Store};
 use std::alloc::Global;
 
 impl<H: Handler> FastTenant<H> {
+    /// Why a unit can't restart, whatever the store says.
+    fn restart_refusal(&self, unit: Unit) -> Option<Refusal>
+        ensures refusal { result ≡ restart_refusal_of self.now.table unit (slice_get self.now.members unit) }
+        ensures there { IfNone result (unit < length self.now.members) }
+        ensures room { IfNone result (incarnation_of self.now.table unit < 65535) }
+    {
+        let member = match self.member(unit) {
+            Some(member) => member,
+            None => return Some(Refusal::NoUnit),
+        };
+        if member.is_up() {
+            Some(Refusal::Up)
+        } else if self.is_worn_out(unit) {
+            Some(Refusal::Limit)
+        } else {
+            None
+        }
+    }
+
     /// A unit that is down goes back to its last interval that is no orphan, by replay of what the store gives, and is
     /// up again. A device that failed is answered `store`, with nothing changed.
     ///
@@ -35,17 +54,11 @@ impl<H: Handler> FastTenant<H> {
         ensures err { OnErr result (self.new ≡ self.old) }
         ensures err_log { OnErr result (log.new.records ≡ log.old.records) }
     {
-        let member = match self.member(unit) {
-            Some(member) => member,
-            None => return Ok(Answer::refused(Refusal::NoUnit)),
-        };
-        if member.is_up() {
-            return Ok(Answer::refused(Refusal::Up));
+        match self.restart_refusal(unit) {
+            Some(refusal) => return Ok(Answer::refused(refusal)),
+            None => {}
         }
-        if self.is_worn_out(unit) {
-            return Ok(Answer::refused(Refusal::Limit));
-        }
-        let target = match member.last_kept(&self.table) {
+        let target = match self.last_kept(unit) {
             Some(target) => target,
             None => return Err(NoMemory),
         };

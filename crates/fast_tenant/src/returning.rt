@@ -1,21 +1,20 @@
 //! A unit goes back: what a restart, and a notice that cuts, have in common.
 
 ghost use Rattle.std.specs.Prelude.{◌≡◌, ◌⊎◌, ◌<◌, ◌≤◌, ◌+◌, ◌-◌, ◌∷◌, [], ◌++◌, IfOk, IfNone, IfSome, OnOk, OnErr, Err, MatchOption, None, Option, Some, List, ℕ, length, nat_le, slice_get, slice_set, take};
-ghost use Rattle.checkpoint.specs.declared.snapshot.Snapshot.{Snapshot as SnapshotOf};
-ghost use Rattle.checkpoint.specs.Shelves.{nearest_of};
-ghost use Rattle.compact.specs.Compact.{Progress as ProgressOf};
 ghost use Rattle.model.specs.Failures.{HasRisen};
 ghost use Rattle.model.specs.World.{incarnation_of};
-ghost use Rattle.rollback.specs.Units.{IsTarget, stable_places};
+ghost use Rattle.rollback.specs.Units.{IsTarget, OrphansAreTail, stable_places};
 ghost use Rattle.shared_log.specs.Logged.{Grows, OthersKept, places_of};
-ghost use Rattle.fast_tenant.specs.Kept.{AreFetched, AreNeeded, IsReplayed, Member as MemberOf, gone_back, returned, returned_member};
+ghost use Rattle.fast_tenant.specs.Kept.{AreFetched, IsReplayed, Member as MemberOf, gone_back, kept_length, returned, returned_member};
 ghost use Rattle.fast_tenant.specs.Returns.{Returns};
 
 use crate::answer::Answer;
+use crate::flushes::member_at;
 use crate::member::Member;
 use crate::tenant::FastTenant;
 use handler::Handler;
 use ident::MAX_INCARNATION;
+use incarnation::StartTable;
 use model::{NoMemory, Record, Reply, Row, Start, TenantName, Unit};
 use rollback::Progress;
 use shared_log::{SharedLog, Store, StoreFault};
@@ -74,6 +73,17 @@ fn fetch_some<S: Store>(
         }
     }
     Ok(fetched)
+}
+
+/// The index of the last interval that the unit at this place keeps, if one is left.
+fn last_kept_at<H: Handler>(members: &[Member<H>], table: &StartTable, at: usize) -> Option<u32>
+    ensures target { IfSome result (λ t. (m : MemberOf H.State) → slice_get members.now at ≡ Some m → IsTarget m.recovering t) }
+    ensures kept { IfSome result (λ t. (m : MemberOf H.State) → slice_get members.now at ≡ Some m → OrphansAreTail table.now m.recovering.intervals → t + 1 ≡ kept_length table.now m.recovering) }
+{
+    match member_at(members, at) {
+        Some(member) => member.last_kept(table),
+        None => None,
+    }
 }
 
 /// The unit at this place goes back to the target.
@@ -153,7 +163,7 @@ impl<H: Handler> FastTenant<H> {
     }
 
     /// The unit, which is there.
-    fn member_there(&self, unit: Unit) -> &Member<H>
+    pub(crate) fn member_there(&self, unit: Unit) -> &Member<H>
         requires { unit < length self.now.members }
         ensures { slice_get self.now.members unit ≡ Some result.now }
     {
@@ -203,6 +213,15 @@ impl<H: Handler> FastTenant<H> {
             incarnation: self.table.latest(unit) + 1,
             index: u64::from(target) + 1,
         }
+    }
+
+    /// The index of the last interval that the unit keeps, if one is left.
+    pub(crate) fn last_kept(&self, unit: Unit) -> Option<u32>
+        ensures target { IfSome result (λ t. (m : MemberOf H.State) → slice_get self.now.members unit ≡ Some m → IsTarget m.recovering t) }
+        ensures kept { IfSome result (λ t. (m : MemberOf H.State) → slice_get self.now.members unit ≡ Some m → OrphansAreTail self.now.table m.recovering.intervals → t + 1 ≡ kept_length self.now.table m.recovering) }
+    {
+        let members = self.members.as_slice();
+        last_kept_at(members, &self.table, usize::from(unit.number()))
     }
 
     /// Whether the unit has all the incarnations that there can be.

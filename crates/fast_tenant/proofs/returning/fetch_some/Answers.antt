@@ -11,7 +11,7 @@ loop-position-preserved g c =
     let log = c.args.log.now in
     let l = c.loop-position in
     let found : (p : ℕ) × (slice_get (places_of c.args.tenant.now c.args.unit l.log) l.position ≡ Some p) × (slice_get l.log.records p ≡ Some (Some c.in-Some.record)) =
-        subst (λ (o : Option Record). IfSome o (λ r. (p : ℕ) × (slice_get (places_of c.args.tenant.now c.args.unit l.log) l.position ≡ Some p) × (slice_get l.log.records p ≡ Some (Some r)))) c.in-Some.is c.in_ok-record.ensures.some in
+    subst (λ (o : Option Record). IfSome o (λ r. (p : ℕ) × (slice_get (places_of c.args.tenant.now c.args.unit l.log) l.position ≡ Some p) × (slice_get l.log.records p ≡ Some (Some r)))) c.in-Some.is c.in_ok-record.ensures.some in
     record {
       records = c.fetch_at.ensures.records ∙ l.invariant.records;
       places = c.fetch_at.ensures.places ∙ l.invariant.places;

@@ -9,9 +9,9 @@ progress_at-requires-after_bounds g c κs within = c.requires.target c.member_th
 
 pub returns-in-Err-Device-clause-beside : goal.returns-in-Err-Device-clause-beside
 returns-in-Err-Device-clause-beside g c = (
-    same_grows c.args.log.now.records c.progress_at.new.log.records c.progress_at.ensures.records,
-    λ n x other. places_same c.args.log.now c.progress_at.new.log c.progress_at.ensures.records n x,
-  )
+  same_grows c.args.log.now.records c.progress_at.new.log.records c.progress_at.ensures.records,
+  λ n x other. places_same c.args.log.now c.progress_at.new.log c.progress_at.ensures.records n x,
+)
 
 pub returns-clause-returns : goal.returns-clause-returns
 returns-clause-returns g c = λ m found.
@@ -21,6 +21,6 @@ returns-clause-returns g c = λ m found.
 
 pub returns-clause-beside : goal.returns-clause-beside
 returns-clause-beside g c = (
-    grows_on c.args.tenant.now c.args.unit c.args.log.now c.progress_at.new.log c.cut.new.self c.progress_at.ensures.records c.cut.ensures.grows,
-    others_on c.args.tenant.now c.args.unit c.args.log.now c.progress_at.new.log c.cut.new.self c.progress_at.ensures.records c.cut.ensures.others,
-  )
+  grows_on c.args.tenant.now c.args.unit c.args.log.now c.progress_at.new.log c.cut.new.self c.progress_at.ensures.records c.cut.ensures.grows,
+  others_on c.args.tenant.now c.args.unit c.args.log.now c.progress_at.new.log c.cut.new.self c.progress_at.ensures.records c.cut.ensures.others,
+)
