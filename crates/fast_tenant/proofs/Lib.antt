@@ -8,3 +8,7 @@ pub mod Shelving
 pub mod Leaving
 pub mod Outgoing
 pub mod Beginning
+pub mod Earlier
+pub mod Receiving
+pub mod Asking
+pub mod Posting

@@ -1,4 +1,5 @@
 pub mod Kept
 pub mod Needs
 pub mod Outcomes
+pub mod Plans
 pub mod Stands

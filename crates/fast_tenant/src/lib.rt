@@ -13,10 +13,13 @@ mod checkpoints;
 mod kills;
 mod member;
 mod opens;
+mod posts;
+mod receipts;
 mod releases;
 mod releasing;
 mod statuses;
 mod tenant;
+mod waiting;
 
 pub use answer::Answer;
 pub use member::Member;
