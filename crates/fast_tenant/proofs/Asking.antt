@@ -8,6 +8,7 @@ use Rattle.model.specs.declared.names.Source.{Source}
 use Rattle.model.specs.declared.records.Record.{Record}
 use Rattle.model.specs.declared.refusals.Refusal.{Refusal}
 use Rattle.model.specs.declared.refusals.Refusal.TheVariants.{Down, NoUnit}
+use Rattle.model.specs.declared.replies.Reply.{Reply}
 use Rattle.model.specs.declared.replies.Reply.TheVariants.{Refused}
 use Rattle.model.specs.Handler.{Meaning}
 use Rattle.model.specs.World.{World, Member as WorldMember}
@@ -23,7 +24,7 @@ use Rattle.unit_steps.proofs.Both.{refusal_of_both}
 use Rattle.fast_tenant.specs.Kept.{IsAsking, Kept, Member}
 use Rattle.fast_tenant.specs.Needs.{IsAsked, input_unless, input_upon}
 use Rattle.fast_tenant.specs.Outcomes.{done}
-use Rattle.fast_tenant.specs.Stands.{StandsFor}
+use Rattle.fast_tenant.specs.Stands.{Leaves, StandsFor}
 use Rattle.fast_tenant.proofs.Follow.{Keeps, none_kept}
 
 -- what gives the value of a map is there
@@ -80,6 +81,11 @@ module _ {S : Type 0} (M : Meaning S) (name : List ℕ) (live : ℕ → List ℕ
       (λ i. record { seat = seat i; state = (now i).state; source = source; text = text }) ∙ a.2
 
 -- ---- refusals in the world
+
+-- after one all stays
+pub refused_stays : {S : Type 0} (M : Meaning S) (name : List ℕ) (live : ℕ → List ℕ) (t : Kept S) (w : World) (log : List Record) → StandsFor M name live t w log → (outcome : Outcome) (r : Refusal) (reply : Reply) → outcome ≡ done (Refused r) w → reply ≡ Refused r
+    → Leaves M name live outcome reply t log
+refused_stays M name live t w log s outcome r reply e told = (w, e ∙ ap (λ r. done r w) (sym told), s)
 
 -- one that the first tests have
 pub refused_first : (w : World) (out : Outcome) (tests rest : List (Bool × Refusal)) (r : Refusal) → first_refusal tests ≡ Some r → outcome_or w out (first_refusal (tests ++ rest)) ≡ done (Refused r) w

@@ -41,18 +41,18 @@ added_back os mark texts top h le =
     below_all os (held_of mark texts) mark.index (λ i o e. let b = h i o e in omega (arith, b, le)) ∙ ap (λ xs. os ++ xs) (none_below mark texts) ∙ append-nil os
 
 -- all are still below once it was added
-pub below_added : (os : List Held) (mark : Mark) (texts : List (List ℕ)) (top : ℕ) → AreBelow os top → top ≤ mark.index → AreBelow (os ++ held_of mark texts) (mark.index + 1)
-below_added os mark texts top h le i o e = elim (get_append_any os (held_of mark texts) i o e) [
-  | inl a ↦ let b = h i o a in omega (arith, b, le)
-  | inr a ↦ let f = map_at (λ text. record { mark = mark; text = text }) texts (i - length os) o a in let m : o.mark.index ≡ mark.index = ap (λ (x : Held). x.mark.index) f.2 in omega (arith, m)
+pub below_added : (os new : List Held) (mark : Mark) (texts : List (List ℕ)) (top n : ℕ) → new ≡ os ++ held_of mark texts → n ≡ mark.index → AreBelow os top → top ≤ mark.index → AreBelow new (n + 1)
+below_added os new mark texts top n is at h le i o e = elim (get_append_any os (held_of mark texts) i o (rw is at e)) [
+  | inl a ↦ let b = h i o a in omega (arith, b, le, at)
+  | inr a ↦ let f = map_at (λ text. record { mark = mark; text = text }) texts (i - length os) o a in let m : o.mark.index ≡ mark.index = ap (λ (x : Held). x.mark.index) f.2 in omega (arith, m, at)
 ]
 
 -- after a cut
-pub below_cut : (os : List Held) (top n : ℕ) → AreBelow os top → AreBelow (below os n) top
-below_cut os top n h i o e = h i o (get_take_while (λ (x : Held). nat_lt x.mark.index n) os i o e).0
+pub below_cut : (os new : List Held) (top n : ℕ) → new ≡ below os n → AreBelow os top → AreBelow new top
+below_cut os new top n is h i o e = h i o (get_take_while (λ (x : Held). nat_lt x.mark.index n) os i o (rw is at e)).0
 
-pub below_its_cut : (os : List Held) (n : ℕ) → AreBelow (below os n) n
-below_its_cut os n i o e = lt_true o.mark.index n (take_while_passes (λ (x : Held). nat_lt x.mark.index n) os i o e)
+pub below_its_cut : (os new : List Held) (n top : ℕ) → new ≡ below os n → top ≡ n → AreBelow new top
+below_its_cut os new n top is at i o e = rw at (lt_true o.mark.index n (take_while_passes (λ (x : Held). nat_lt x.mark.index n) os i o (rw is at e)))
 
 -- after some left
 pub below_left : (os : List Held) (top frontier : ℕ) → AreBelow os top → AreBelow (unfirm os frontier) top

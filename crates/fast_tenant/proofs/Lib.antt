@@ -11,4 +11,5 @@ pub mod Beginning
 pub mod Earlier
 pub mod Receiving
 pub mod Asking
+pub mod Planning
 pub mod Posting

@@ -9,7 +9,7 @@ use Rattle.model.specs.declared.replies.End.TheVariants.{Whole}
 use Rattle.model.specs.declared.replies.Reply.{Reply}
 use Rattle.model.specs.declared.replies.Reply.TheVariants.{Refused}
 use Rattle.model.specs.declared.steps.TenantStep.TheVariants.{Post}
-use Rattle.model.specs.Handler.{Meaning}
+use Rattle.model.specs.Handler.{Meaning, Turn}
 use Rattle.model.specs.Nodes.{outside}
 use Rattle.model.specs.World.{World}
 use Rattle.model.specs.Steps.{Outcome, accepted, first_refusal, post, post_to, turn_tests, turn_upon_receipt}
@@ -18,7 +18,7 @@ use Rattle.model.specs.Alone.Reachable.{stepped}
 use Rattle.model.proofs.Places.{at_unit_found}
 use Rattle.handler.specs.Inputs.{Input, turn_of}
 use Rattle.compact.specs.Compact.{Compact, Progress}
-use Rattle.compact.specs.Steps.{Done, accepted_of, at_unit_of, or_next, or_refused, post_front, post_of, post_refusal, posted, receiving_state, tests_of_turn, turn_of_receipt}
+use Rattle.compact.specs.Steps.{Done, Receipt, accepted_of, at_unit_of, or_next, or_refused, post_front, post_of, post_refusal, posted, receiving_state, tests_of_turn, turn_of_receipt}
 use Rattle.compact.proofs.Receipts.{posts_follow}
 use Rattle.compact.proofs.Tests.{posts_are_tested}
 use Rattle.rollback.specs.Units.{asking, places}
@@ -26,7 +26,9 @@ use Rattle.unit_steps.specs.Receipts.{arrival_refusal, post_refused}
 use Rattle.unit_steps.proofs.Seen.{posts_are_refused}
 use Rattle.fast_tenant.specs.Kept.{IsAsking, Kept, Member, next_letters_of, next_record_of, next_reply_of, received_kept, turn_refusal_of}
 use Rattle.fast_tenant.specs.Needs.{IsAsked, input_unless, post_needs, post_to_needs}
+use Rattle.fast_tenant.specs.declared.receipts.Plan.{Plan}
 use Rattle.fast_tenant.specs.Outcomes.{done}
+use Rattle.fast_tenant.specs.Plans.{IsPlanned}
 use Rattle.fast_tenant.specs.Stands.{IsCompact, Leaves, StandsFor}
 use Rattle.fast_tenant.proofs.Asking.{Shown, asked_up, input_is, none_shown, refused_first, refused_none, shown}
 use Rattle.fast_tenant.proofs.Follow.{Keeps, keeps, leaves, no_unit}
@@ -103,3 +105,12 @@ module _ {S : Type 0} (M : Meaning S) (name : List ℕ) (live : ℕ → List ℕ
           leaves M name live log (post M w u number text) reach _ given (posts_follow M name k w log s.2 u number text)
           (turned None none ∙ (λ i. record { reply = (told ∙ sym answer) i; state = receiving_state M name k u q x.unit }))
           v (subst (λ (v : Kept S). IsCompact v live (receiving_state M name k u q x.unit)) (sym new) kept)
+
+      -- so it is of what was planned
+      pub post_planned : (turn : Turn S) → turn ≡ turn_of M input → (q : Receipt) → q ≡ posted number text → (plan : Plan) → IsPlanned name t u m q turn (Ok plan) → (reply : Reply) → reply ≡ plan.answer.reply
+          → (v : Kept S) → v ≡ received_kept M t u m plan.logged plan.outputs.items plan.made.items → Leaves M name live (post M w u number text) reply v log
+      post_planned turn e q same plan planned reply told v new =
+          let p = asked_up m.recovering Outside text input is.asked in
+          let made = planned.1 p.0 p.1 in
+          post_done (ap (turn_refusal_of t m) (sym e) ∙ planned.0) p.0 p.1 reply (told ∙ made.reply ∙ ap (next_reply_of t u m) e) v
+          (new ∙ (λ i. received_kept M t u m ((made.logged ∙ ap (next_record_of name t u m) same) i) ((made.outputs ∙ ap (λ (turn : Turn S). turn.outputs) e) i) ((made.made ∙ (λ j. next_letters_of t u m (same j) (e j) p.0.sessions)) i)))

@@ -48,7 +48,8 @@ impl<H: Handler> FastTenant<H> {
             Some(refusal) => return Ok(Err(refusal)),
             None => {}
         }
-        ask_upon(alloc, handler, member, Source::Outside, text)
+        let asked = ask_upon(alloc, handler, member, Source::Outside, text)?;
+        Ok(asked)
     }
 
     /// A unit receives a text from outside, by the turn that this needs.

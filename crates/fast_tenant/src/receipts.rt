@@ -1,9 +1,11 @@
 //! A receipt, once its turn is worked: what it adds and answers.
 
-ghost use Rattle.std.specs.Prelude.{◌≡◌, ◌+◌, ◌<◌, ◌≤◌, ◌^◌, ◌++◌, IfOk, IfErr, None, OnErr, Some, length, slice_get, slice_set};
+ghost use Rattle.std.specs.Prelude.{◌≡◌, ◌+◌, ◌<◌, ◌≤◌, ◌^◌, ◌++◌, IfOk, IfErr, None, OnErr, Some, length, slice_get, slice_set, vec_len};
 ghost use Rattle.model.specs.Lists.{numbers_from};
 ghost use Rattle.model.specs.Nodes.{sends_within};
 ghost use Rattle.model.specs.declared.refusals.Refusal.TheVariants.{Down};
+ghost use Rattle.session.specs.Counts.{advanced};
+ghost use Rattle.compact.specs.Steps.{letters_by as letters_of};
 ghost use Rattle.rollback.specs.Units.{asking, places};
 ghost use Rattle.fast_tenant.specs.Kept.{IsNext, Member as MemberOf, next_record_of, next_reply_of, next_vector_of, received_kept, received_member};
 ghost use Rattle.fast_tenant.specs.Outcomes.{IsPlain};
@@ -107,6 +109,13 @@ fn receive_at<H: Handler>(
 }
 
 impl<H: Handler> FastTenant<H> {
+    /// How many units there are.
+    fn width(&self) -> usize
+        ensures { result ≡ length self.now.members }
+    {
+        self.members.len()
+    }
+
     /// The vector of the interval that a receipt makes. A tenant has 16 units at most.
     fn vector_upon(
         &self,
@@ -117,7 +126,7 @@ impl<H: Handler> FastTenant<H> {
         requires { places member.now.recovering < 2 ^ 32 }
         ensures { IfOk result (λ v. v ≡ next_vector_of self.now unit member.now (arrived arrival.now)) }
     {
-        let width = self.members.len();
+        let width = self.width();
         if width > 256 {
             return Err(NoMemory);
         }
@@ -158,6 +167,24 @@ impl<H: Handler> FastTenant<H> {
             arrival.text,
             vector,
         )
+    }
+
+    /// The letters that its turn makes, one for each send to a unit that is there, where the unit's sessions are these.
+    fn letters_upon(
+        &self,
+        alloc: Global,
+        unit: Unit,
+        vector: &DepVector,
+        sessions: &Sessions,
+        source: Source,
+        turn: &Turn<H::State>,
+    ) -> Result<Vec<SentLetter>, NoMemory>
+        ensures made { IfOk result (λ made. made.items ≡ letters_of unit vector.now (advanced sessions.now source) (sends_within (length self.now.members) turn.now)) }
+        ensures count { IfOk result (λ made. vec_len made ≡ length (sends_within (length self.now.members) turn.now)) }
+    {
+        let width = self.width();
+        let made = letters_by(alloc, unit, vector, sessions, source, turn.sends(), width)?;
+        Ok(made)
     }
 
     /// What a receipt is answered, whose turn makes so many letters.
@@ -202,15 +229,7 @@ impl<H: Handler> FastTenant<H> {
         ensures { IfOk result (IsPlan name.now self.now unit member.now (arrived arrival.now) turn.now sessions.now) }
     {
         let vector = self.vector_upon(unit, member, arrival)?;
-        let made = letters_by(
-            alloc,
-            unit,
-            &vector,
-            sessions,
-            arrival.source,
-            turn.sends(),
-            self.members.len(),
-        )?;
+        let made = self.letters_upon(alloc, unit, &vector, sessions, arrival.source, turn)?;
         let logged = self.record_upon(alloc, name, unit, member, arrival, &vector)?;
         let outputs = copies(alloc, turn.outputs())?;
         let answer = self.reply_upon(alloc, unit, member, made.len(), turn)?;
@@ -236,7 +255,7 @@ impl<H: Handler> FastTenant<H> {
         ensures { IfOk result (IsPlanned name.now self.now unit member.now (arrived arrival.now) turn.now) }
     {
         let held = member.held_count();
-        let width = self.members.len();
+        let width = self.width();
         match turn_refusal(self.quota, held, self.letters.len(), width, turn) {
             Some(refusal) => return Ok(Err(refusal)),
             None => {}
