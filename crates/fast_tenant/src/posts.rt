@@ -83,7 +83,10 @@ impl<H: Handler> FastTenant<H> {
         };
         match self.planned(alloc, name, unit, member, &arrival, worked.turn())? {
             Err(refusal) => Ok(Answer::refused(refusal)),
-            Ok(plan) => self.enter(unit, plan, worked),
+            Ok(plan) => {
+                let answer = self.enter(unit, plan, worked)?;
+                Ok(answer)
+            }
         }
     }
 
