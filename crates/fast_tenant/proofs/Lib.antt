@@ -13,3 +13,4 @@ pub mod Receiving
 pub mod Asking
 pub mod Planning
 pub mod Posting
+pub mod Delivering

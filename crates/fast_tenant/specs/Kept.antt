@@ -8,6 +8,7 @@ use Rattle.model.specs.declared.names.Quota.{Quota}
 use Rattle.model.specs.declared.names.Row.{Row}
 use Rattle.model.specs.declared.names.Seat.{Seat}
 use Rattle.model.specs.declared.names.Source.{Source}
+use Rattle.model.specs.declared.names.Source.TheVariants.{Unit as FromUnit}
 use Rattle.model.specs.declared.records.Record.{Record}
 use Rattle.model.specs.declared.refusals.Refusal.{Refusal}
 use Rattle.model.specs.declared.refusals.Refusal.TheVariants.{Down, NoUnit}
@@ -20,10 +21,10 @@ use Rattle.model.specs.Steps.{kind_or_0}
 use Rattle.session.specs.Counts.{Counts, advanced}
 use Rattle.output_commit.specs.declared.held.Held.{Held}
 use Rattle.output_commit.specs.Holds.{Line, below, held_of}
-use Rattle.compact.specs.Compact.{Letter}
+use Rattle.compact.specs.Compact.{Content, Letter}
 use Rattle.compact.specs.Steps.{Receipt, letters_by}
 use Rattle.rollback.specs.Units.{Recovering, asking, begun_unit, checkpointed, killed, places, took}
-use Rattle.unit_steps.specs.Receipts.{mark_upon, turn_refused, vector_upon}
+use Rattle.unit_steps.specs.Receipts.{Known, letter_refused, mark_upon, turn_refused, vector_upon}
 
 -- One unit: what it needs to go on and to go back, its held outputs, and how many rows it knows.
 pub record Member (S : Type 0) : Type 0 where
@@ -128,6 +129,19 @@ pub record IsAsking {S : Type 0} (refusal : Option Refusal) (r : Recovering S) (
   pub passes : refusal ≡ None
   pub room : places r < 2 ^ 32
   pub asked : asking r source text ≡ Some input
+
+-- what the tenant tells a unit of its table and its other units
+abbrev pub known_of : {S : Type 0} → Kept S → Member S → Known
+known_of t m = record { table = t.table; rows = m.known; stable_lengths = t.stable_lengths }
+
+-- why a letter is refused before its turn
+abbrev pub letter_refusal_of : {S : Type 0} → Kept S → Member S → Letter → Option Refusal
+letter_refusal_of t m c = letter_refused (known_of t m) t.optimism t.quota.volatile m.recovering c.source c.number c.content
+
+-- The letter has a content, upon whose text its receiver's turn has this input, and no test before the turn refuses it.
+abbrev pub IsAskingBy : {S : Type 0} → Kept S → Member S → Letter → Option Content → Input S → Type 0
+IsAskingBy t m c None input = ⊥
+IsAskingBy t m c (Some content) input = IsAsking (letter_refusal_of t m c) m.recovering (FromUnit c.source) content.text input
 
 -- the mark, the vector and the record of the interval that a receipt makes
 abbrev pub next_mark_of : {S : Type 0} → Kept S → ℕ → Member S → Mark

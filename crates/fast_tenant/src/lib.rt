@@ -10,6 +10,7 @@
 
 mod answer;
 mod checkpoints;
+mod delivers;
 mod kills;
 mod member;
 mod opens;
