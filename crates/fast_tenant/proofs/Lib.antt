@@ -14,3 +14,4 @@ pub mod Asking
 pub mod Planning
 pub mod Posting
 pub mod Delivering
+pub mod Fresh

@@ -15,6 +15,7 @@ mod kills;
 mod member;
 mod opens;
 mod posts;
+mod prepares;
 mod receipts;
 mod releases;
 mod releasing;
