@@ -18,3 +18,10 @@ mod Flushing
 mod Fronts
 mod Widths
 pub mod Joining
+pub mod Earlier
+pub mod Receiving
+pub mod Asking
+pub mod Planning
+pub mod Posting
+pub mod Delivering
+pub mod Fresh

@@ -1,24 +1,34 @@
 -- What a tenant keeps, by lists.
-use Rattle.std.specs.Prelude.{◌≡◌, [], ◌∷◌, replicate, length, ◌++◌, ◌-◌, min, option_map, drop, map, slice_get, slice_set, ℕ, cond, nat_le, nat_lt, List, Option, Some, None, ◌+◌, take}
+use Rattle.std.specs.Prelude.{◌≡◌, [], ◌∷◌, replicate, length, ◌++◌, ◌-◌, min, option_map, drop, map, slice_get, slice_set, ℕ, cond, nat_le, nat_lt, List, Option, Some, None, ◌+◌, take, ◌<◌, ◌≤◌, ◌^◌, Result, Ok, Err}
 use Rattle.std.specs.List.{fold, position}
 use Rattle.std.specs.Option.{is_some}
+use Rattle.handler.specs.Inputs.{Input}
+use Rattle.model.specs.declared.names.Mark.{Mark}
 use Rattle.model.specs.declared.names.Quota.{Quota}
 use Rattle.model.specs.declared.names.Row.{Row}
 use Rattle.model.specs.declared.names.Seat.{Seat}
 use Rattle.model.specs.declared.records.Record.{Record}
 use Rattle.model.specs.declared.refusals.Refusal.{Refusal}
 use Rattle.model.specs.declared.refusals.Refusal.TheVariants.{Down, Limit, NoUnit, Up}
-use Rattle.model.specs.Handler.{Meaning}
+use Rattle.model.specs.Handler.{Meaning, Turn}
 use Rattle.model.specs.World.{incarnation_of}
+use Rattle.model.specs.declared.names.Source.{Source}
+use Rattle.model.specs.declared.names.Source.TheVariants.{Unit as FromUnit}
+use Rattle.model.specs.declared.replies.Reply.{Reply}
+use Rattle.model.specs.declared.replies.Reply.TheVariants.{Accepted}
+use Rattle.model.specs.Lists.{numbers_from}
+use Rattle.model.specs.Nodes.{sends_within}
 use Rattle.model.specs.Steps.{kind_or_0}
+use Rattle.session.specs.Counts.{Counts, advanced}
 use Rattle.output_commit.specs.declared.held.Held.{Held}
-use Rattle.output_commit.specs.Holds.{Line, below}
+use Rattle.output_commit.specs.Holds.{Line, below, held_of}
 use Rattle.checkpoint.specs.declared.snapshot.Snapshot.{Snapshot}
 use Rattle.checkpoint.specs.Shelves.{nearest_of}
 use Rattle.orphan.specs.Tests.{is_orphan_by}
-use Rattle.compact.specs.Compact.{Letter, Progress}
-use Rattle.rollback.specs.Units.{Recovering, begun_unit, checkpointed, cut_behind, killed, marked_stable, places, restored, stable_places, widened_to}
-use Rattle.unit_steps.specs.Receipts.{IsFrontier, frontier_of}
+use Rattle.compact.specs.Compact.{Letter, Progress, Content}
+use Rattle.rollback.specs.Units.{Recovering, begun_unit, checkpointed, cut_behind, killed, marked_stable, places, restored, stable_places, widened_to, asking, took}
+use Rattle.unit_steps.specs.Receipts.{IsFrontier, frontier_of, Known, letter_refused, mark_upon, turn_refused, vector_upon}
+use Rattle.compact.specs.Steps.{Receipt, letters_by}
 
 -- One unit: what it needs to go on and to go back, its held outputs, and how many rows it knows.
 pub record Member (S : Type 0) : Type 0 where
@@ -199,3 +209,74 @@ AreNeeded {S} records live r target fetched =
 -- the progress at the target is what replay of those records gives
 abbrev pub IsReplayed : {S : Type 0} → Meaning S → List (Option Record) → List ℕ → Recovering S → ℕ → ℕ → Option (Progress S) → Type 0
 IsReplayed M records live r target width progress = (fetched : List Record) × AreNeeded records live r target fetched × (progress ≡ (restored M r target width fetched).progress)
+
+-- ---- receipts
+
+-- a unit's held outputs, in order
+pub record Waits : Type 0 where
+  pub unit : ℕ
+  pub outputs : List Held
+
+-- The unit's turn upon this text has this input, and no test before the turn refuses the receipt.
+pub record IsAsking {S : Type 0} (refusal : Option Refusal) (r : Recovering S) (source : Source) (text : List ℕ) (input : Input S) : Type 0 where
+  pub passes : refusal ≡ None
+  pub room : places r < 2 ^ 32
+  pub asked : asking r source text ≡ Some input
+
+-- what the tenant tells a unit of its table and its other units
+abbrev pub known_of : {S : Type 0} → Kept S → Member S → Known
+known_of t m = record { table = t.table; rows = m.known; stable_lengths = t.stable_lengths }
+
+-- why a letter is refused before its turn
+abbrev pub letter_refusal_of : {S : Type 0} → Kept S → Member S → Letter → Option Refusal
+letter_refusal_of t m c = letter_refused (known_of t m) t.optimism t.quota.volatile m.recovering c.source c.number c.content
+
+-- The letter has a content, upon whose text its receiver's turn has this input, and no test before the turn refuses it.
+abbrev pub IsAskingBy : {S : Type 0} → Kept S → Member S → Letter → Option Content → Input S → Type 0
+IsAskingBy t m c None input = ⊥
+IsAskingBy t m c (Some content) input = IsAsking (letter_refusal_of t m c) m.recovering (FromUnit c.source) content.text input
+
+-- the mark, the vector and the record of the interval that a receipt makes
+abbrev pub next_mark_of : {S : Type 0} → Kept S → ℕ → Member S → Mark
+next_mark_of t u m = mark_upon t.table u m.recovering
+
+abbrev pub next_vector_of : {S : Type 0} → Kept S → ℕ → Member S → Receipt → List Mark
+next_vector_of t u m q = vector_upon t.table (length t.members) u m.recovering q.vector
+
+abbrev pub next_record_of : {S : Type 0} → List ℕ → Kept S → ℕ → Member S → Receipt → Record
+next_record_of name t u m q = record {
+  tenant = name;
+  unit = u;
+  mark = next_mark_of t u m;
+  source = q.source;
+  letter = q.letter;
+  number = q.number;
+  text = q.text;
+  vector = next_vector_of t u m q;
+}
+
+-- the letters that its turn makes, where the unit's sessions were these before
+abbrev pub next_letters_of : {S : Type 0} → Kept S → ℕ → Member S → Receipt → Turn S → Counts → List Letter
+next_letters_of t u m q turn sessions = letters_by u (next_vector_of t u m q) (advanced sessions q.source) (sends_within (length t.members) turn)
+
+-- and what it is answered
+abbrev pub next_reply_of : {S : Type 0} → Kept S → ℕ → Member S → Turn S → Reply
+next_reply_of t u m turn = Accepted (next_mark_of t u m) (length m.outputs + length turn.outputs) (numbers_from (length t.letters) (length (sends_within (length t.members) turn)))
+
+-- why it is refused for what its turn makes
+abbrev pub turn_refusal_of : {S : Type 0} → Kept S → Member S → Turn S → Option Refusal
+turn_refusal_of t m turn = turn_refused t.quota (length m.outputs) (length t.letters) (length t.members) turn
+
+-- a unit with one more interval, which has this record and these outputs
+abbrev pub received_member : {S : Type 0} → Meaning S → Member S → Record → List (List ℕ) → Member S
+received_member M m r outputs = record m { recovering = took M m.recovering r; outputs = m.outputs ++ held_of r.mark outputs }
+
+-- the tenant with such a unit, and with these letters
+abbrev pub received_kept : {S : Type 0} → Meaning S → Kept S → ℕ → Member S → Record → List (List ℕ) → List Letter → Kept S
+received_kept M t u m r outputs made = record t { members = slice_set t.members u (received_member M m r outputs); letters = t.letters ++ made }
+
+-- The record is of the unit's next interval, whose turn has this input.
+pub record IsNext {S : Type 0} (m : Member S) (r : Record) (input : Input S) : Type 0 where
+  pub room : places m.recovering < 2 ^ 32
+  pub mark : r.mark.index ≡ places m.recovering
+  pub asked : asking m.recovering r.source r.text ≡ Some input

@@ -11,7 +11,7 @@ ghost use Rattle.compact.specs.Compact.{Progress as ProgressOf};
 ghost use Rattle.rollback.specs.Units.{IsKept, IsTarget, OrphansAreTail, places, restored, stable_places};
 ghost use Rattle.session.specs.Counts.{widened};
 ghost use Rattle.rollback_laws.specs.Seen.{IsSeen};
-ghost use Rattle.fast_tenant.specs.Kept.{begun_member, checkpointed_member, firm_texts, flushed_member, killed_member, outputs_to, released_member, fitted_member, kept_length, returned_member};
+ghost use Rattle.fast_tenant.specs.Kept.{begun_member, checkpointed_member, firm_texts, flushed_member, killed_member, outputs_to, released_member, fitted_member, kept_length, returned_member, IsNext, received_member};
 
 use crate::releasing;
 use handler::Handler;
@@ -20,6 +20,11 @@ use model::{Mark, NoMemory, Record, Seat, Text, Unit};
 use output_commit::{Hold, Outlet};
 use rollback::{Progress, RecoveryUnit};
 use session::Sessions;
+
+use crate::waiting::Waiting;
+use handler::{Done, Handler};
+use output_commit::Outlet;
+use rollback::RecoveryUnit;
 use std::alloc::Global;
 use std::marker::Model;
 
@@ -28,7 +33,7 @@ use std::marker::Model;
 pub struct Member<H: Handler> {
     recovering: RecoveryUnit<H>,
     unit: Unit,
-    hold: Hold,
+    hold: Waiting,
     known: usize,
 }
 
@@ -44,7 +49,7 @@ impl<H: Handler> Model for Member<H> {
 }
 
 /// Gives up the outputs that are not of the first so many intervals.
-fn cut_hold(hold: &mut Hold, places: u64)
+fn cut_hold(hold: &mut Waiting, places: u64)
     ensures unit { hold.new.unit ≡ hold.old.unit }
     ensures outputs { hold.new.outputs ≡ outputs_to hold.old.outputs places }
 {
@@ -70,7 +75,7 @@ impl<H: Handler> Member<H> {
         ensures { IfOk result (λ m. m ≡ begun_member H.meaning width seat known) }
     {
         let unit = seat.unit;
-        let hold = Hold::new(alloc, unit);
+        let hold = Waiting::new(alloc, unit);
         let recovering = RecoveryUnit::begin(alloc, handler, seat, width)?;
         Ok(Member {
             recovering,
@@ -78,6 +83,13 @@ impl<H: Handler> Member<H> {
             hold,
             known,
         })
+    }
+
+    /// What it needs to go on and to go back.
+    pub(crate) fn recovering(&self) -> &RecoveryUnit<H>
+        ensures { result.now ≡ self.now.recovering }
+    {
+        &self.recovering
     }
 
     /// Whether the unit is up.
@@ -139,6 +151,33 @@ impl<H: Handler> Member<H> {
         interval.vector.get(unit)
     }
 
+    /// Takes a receipt: its interval with its record, the turn that was worked for it, and the outputs of the turn.
+    ///
+    /// # Errors
+    ///
+    /// `NoMemory` where it finds no memory or can't be counted; the unit stays as it was.
+    pub(crate) fn receive(
+        &mut self,
+        logged: Record,
+        outputs: Vec<Text>,
+        worked: Done<H>,
+    ) -> Result<(), NoMemory>
+        requires few { length logged.vector ≤ 256 }
+        requires next { IsNext self.old logged worked.input }
+        ensures ok { IfOk result (λ _. self.new ≡ received_member H.meaning self.old logged outputs.items) }
+        ensures err { OnErr result (self.new ≡ self.old) }
+    {
+        let mark = logged.mark;
+        self.hold.add(mark, outputs)?;
+        match self.recovering.take(logged, worked) {
+            Ok(_) => Ok(()),
+            Err(NoMemory) => {
+                self.hold.cut(mark.index);
+                Err(NoMemory)
+            }
+        }
+    }
+
     /// The unit fails: what is not stable is gone. Tells how many intervals were lost.
     pub(crate) fn kill(&mut self) -> u64
         ensures lost { result ≡ length self.old.recovering.volatile }
@@ -195,7 +234,7 @@ impl<H: Handler> Member<H> {
         ensures others { (u : ℕ) → u ≢ self.old.unit → texts_of outlet.new u ≡ texts_of outlet.old u }
         ensures len { length outlet.new ≡ length outlet.old }
     {
-        releasing::release_all(&mut self.hold, outlet, frontiers);
+        self.hold.release(outlet, frontiers);
     }
 
     /// What it needs to go on and to go back.
