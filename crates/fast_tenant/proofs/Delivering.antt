@@ -158,7 +158,7 @@ module _ {S : Type 0} (M : Meaning S) (name : List ℕ) (live : ℕ → List ℕ
           let first : first_refusal (deliver_front w received f.member) ≡ Some r = before ∙ e in (
             ap (letter_needs M w) sent.at ∙ ap (deliver_to_needs M w received) at_w ∙ ap (input_unless _) first,
             ap (if_letter M w l) sent.at ∙ at_unit_found w received.receiver (deliver_to M w l received) f.member at_w
-            ∙ refused_first w (accepted M w received.receiver f.member (letter l received.sender)) (deliver_front w received f.member) (turn_tests M w f.member (turn_upon_receipt M w received.receiver f.member (letter l received.sender))) r first,
+                ∙ refused_first w (accepted M w received.receiver f.member (letter l received.sender)) (deliver_front w received f.member) (turn_tests M w f.member (turn_upon_receipt M w received.receiver f.member (letter l received.sender))) r first,
           )
 
       module _ (content : Content) (whole : c.content ≡ Some content) where

@@ -14,9 +14,6 @@ use Rattle.fast_tenant.specs.Kept.{unfirm}
 abbrev pub AreBelow : List Held → ℕ → Type 0
 AreBelow os top = (i : ℕ) (o : Held) → slice_get os i ≡ Some o → o.mark.index < top
 
-
-
-
 below_cons : (o : Held) (os : List Held) (n : ℕ) → below (o ∷ os) n ≡ cond (nat_lt o.mark.index n) (o ∷ below os n) []
 below_cons o os n = take_while-cons (λ (h : Held). nat_lt h.mark.index n) o os
 

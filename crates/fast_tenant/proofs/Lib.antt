@@ -13,6 +13,7 @@ mod Logging
 mod Fetching
 mod Going
 mod Back
+mod Stepping
 mod Others
 mod Flushing
 mod Fronts

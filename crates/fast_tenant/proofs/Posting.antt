@@ -68,7 +68,7 @@ module _ {S : Type 0} (M : Meaning S) (name : List ℕ) (live : ℕ → List ℕ
         let first : first_refusal (post_front w f.member number text) ≡ Some r = before ∙ e in (
           ap (post_to_needs M w number text) f.at ∙ ap (input_unless _) first,
           at_unit_found w u (post_to M w u number text) f.member f.at
-          ∙ refused_first w (accepted M w u f.member (outside number text)) (post_front w f.member number text) (turn_tests M w f.member (turn_upon_receipt M w u f.member (outside number text))) r first,
+              ∙ refused_first w (accepted M w u f.member (outside number text)) (post_front w f.member number text) (turn_tests M w f.member (turn_upon_receipt M w u f.member (outside number text))) r first,
         )
 
     asked_by : post_refused t.quota.volatile m.recovering number text ≡ None → (input : Input S) → asking m.recovering Outside text ≡ Some input → post_needs M w u number text ≡ Some input

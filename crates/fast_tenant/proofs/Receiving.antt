@@ -33,7 +33,6 @@ use Rattle.fast_tenant.proofs.Follow.{Keeps, keeps, with_one}
 
 -- ---- lists
 
-
 -- one number more
 pub numbers_step : (k n i : ℕ) (all more : List ℕ) → i < n → all ++ numbers_from (k + i) (n - i) ≡ numbers_from k n → more ≡ all ++ (k + i) ∷ []
     → more ++ numbers_from (k + (i + 1)) (n - (i + 1)) ≡ numbers_from k n

@@ -1,7 +1,7 @@
 pub mod Kept
 pub mod Needs
 pub mod Outcomes
+pub mod Plans
 pub mod Returns
 pub mod Standing
-pub mod Plans
 pub mod Stands

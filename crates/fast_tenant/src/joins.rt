@@ -80,7 +80,7 @@ fn widen_from<H: Handler>(
 
 impl<H: Handler> FastTenant<H> {
     /// One unit more of this kind, at its beginning.
-    fn enter(&mut self, alloc: Global, handler: &H, kind: Kind) -> Result<(), NoMemory>
+    fn enter_unit(&mut self, alloc: Global, handler: &H, kind: Kind) -> Result<(), NoMemory>
         requires { length self.old.members < 16 }
         ensures ok { OnOk result (length self.old.released ≡ length self.old.members → self.new ≡ joined_kept H.meaning self.old kind) }
         ensures err { OnErr result (self.new ≡ self.old) }
@@ -122,7 +122,7 @@ impl<H: Handler> FastTenant<H> {
         }
         let unit = Unit::new(count as u8);
         let answer = Answer::twice(Reply::Joined { unit }, Reply::Joined { unit });
-        self.enter(alloc, handler, kind)?;
+        self.enter_unit(alloc, handler, kind)?;
         Ok(answer)
     }
 }

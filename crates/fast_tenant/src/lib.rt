@@ -10,9 +10,9 @@
 
 mod answer;
 mod checkpoints;
+mod delivers;
 mod flushes;
 mod joins;
-mod delivers;
 mod kills;
 mod member;
 mod notices;
@@ -25,6 +25,7 @@ mod releasing;
 mod restarts;
 mod returning;
 mod statuses;
+mod step;
 mod tenant;
 mod waiting;
 

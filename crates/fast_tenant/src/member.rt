@@ -13,18 +13,13 @@ ghost use Rattle.session.specs.Counts.{widened};
 ghost use Rattle.rollback_laws.specs.Seen.{IsSeen};
 ghost use Rattle.fast_tenant.specs.Kept.{begun_member, checkpointed_member, firm_texts, flushed_member, killed_member, outputs_to, released_member, fitted_member, kept_length, returned_member, IsNext, received_member};
 
-use crate::releasing;
-use handler::Handler;
-use incarnation::StartTable;
-use model::{Mark, NoMemory, Record, Seat, Text, Unit};
-use output_commit::{Hold, Outlet};
-use rollback::{Progress, RecoveryUnit};
-use session::Sessions;
-
 use crate::waiting::Waiting;
 use handler::{Done, Handler};
+use incarnation::StartTable;
+use model::{Mark, NoMemory, Record, Seat, Text, Unit};
 use output_commit::Outlet;
-use rollback::RecoveryUnit;
+use rollback::{Progress, RecoveryUnit};
+use session::Sessions;
 use std::alloc::Global;
 use std::marker::Model;
 
@@ -221,7 +216,7 @@ impl<H: Handler> Member<H> {
     pub(crate) fn firm_texts(&self, alloc: Global, frontier: u64) -> Result<Vec<Text>, NoMemory>
         ensures { IfOk result (λ texts. texts.items ≡ firm_texts self.now.outputs frontier) }
     {
-        releasing::copy_firm(alloc, &self.hold, frontier)
+        self.hold.copy_firm(alloc, frontier)
     }
 
     /// Lets the firm outputs at the front out, for which the outlet has room.
@@ -235,13 +230,6 @@ impl<H: Handler> Member<H> {
         ensures len { length outlet.new ≡ length outlet.old }
     {
         self.hold.release(outlet, frontiers);
-    }
-
-    /// What it needs to go on and to go back.
-    pub(crate) fn recovering(&self) -> &RecoveryUnit<H>
-        ensures { result.now ≡ self.now.recovering }
-    {
-        &self.recovering
     }
 
     /// So many more of its intervals are stable. Takes no memory.

@@ -76,6 +76,13 @@ impl Waiting {
         }
     }
 
+    /// Copies of the texts of the outputs at the front that are of the first so many intervals.
+    pub(crate) fn copy_firm(&self, alloc: Global, frontier: u64) -> Result<Vec<Text>, NoMemory>
+        ensures { IfOk result (λ texts. texts.items ≡ firm_texts self.now.outputs frontier) }
+    {
+        releasing::copy_firm(alloc, &self.hold, frontier)
+    }
+
     /// Lets the firm outputs at the front out, for which the outlet has room.
     pub(crate) fn release(&mut self, outlet: &mut Outlet, frontiers: &[u64])
         requires front { self.old.unit < length frontiers.now }

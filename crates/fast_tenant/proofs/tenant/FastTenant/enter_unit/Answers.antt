@@ -1,6 +1,6 @@
 use Rattle.std.proofs.Common.{◌≡◌, refl, ◌∙◌, ap, [], ◌∷◌, ◌++◌}
 use Rattle.fast_tenant.proofs.Joining.{entered}
-use Rattle.fast_tenant.proofs.tenant.FastTenant.enter.Goals as goal
+use Rattle.fast_tenant.proofs.tenant.FastTenant.enter_unit.Goals as goal
 
 pub returns-clause-ok : goal.returns-clause-ok
 returns-clause-ok g c = λ lines.

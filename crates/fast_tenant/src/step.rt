@@ -1,0 +1,50 @@
+//! One step of an open tenant.
+
+ghost use Rattle.std.specs.Prelude.{◌≡◌, IfNone, IfOk, IfSome, OnErr, List, ℕ, false, bytes_eq};
+ghost use Rattle.model.specs.World.{World};
+ghost use Rattle.fast_tenant.specs.Kept.{Kept};
+ghost use Rattle.fast_tenant.specs.Needs.{WasFresh, needs};
+ghost use Rattle.fast_tenant.specs.Standing.{Did, Stands};
+
+use crate::answer::Answer;
+use crate::tenant::FastTenant;
+use handler::{Done, Handler};
+use model::{NoMemory, Refusal, TenantName, TenantStep};
+use shared_log::{SharedLog, Store};
+use std::alloc::Global;
+
+impl<H: Handler> FastTenant<H> {
+    /// Does a step of the tenant of this name. Where no memory was found, nothing is changed; the
+    /// log then has the records that it had.
+    pub fn step<S: Store>(
+        &mut self,
+        alloc: Global,
+        handler: &H,
+        name: &TenantName,
+        step: TenantStep,
+        log: &mut SharedLog<S>,
+    ) -> Result<Answer, NoMemory>
+        ensures kept { IfOk result (λ a. a.kept ≡ a.reply) }
+        ensures did { IfOk result (λ a. (w : World) → Stands H.meaning name.now self.old w log.old.records → Did H.meaning name.now w self.new step a.said a.reply log.old log.new) }
+        // What other tenants stand for stays.
+        ensures others { (k : Kept H.State) (w : World) (other : List ℕ) → bytes_eq other name.now ≡ false → Stands H.meaning other k w log.old.records → Stands H.meaning other k w log.new.records }
+        ensures err { OnErr result (self.new ≡ self.old) }
+        ensures err_log { OnErr result (log.new.records ≡ log.old.records) }
+    {
+        match step {
+            TenantStep::Open { .. } => Ok(Answer::refused(Refusal::AlreadyOpen)),
+            TenantStep::Join { kind } => self.join(alloc, handler, kind.as_str()),
+            TenantStep::Post { unit, number, text } => {
+                self.post(alloc, handler, name, unit, number, text)
+            }
+            TenantStep::Deliver { letter } => self.deliver(alloc, handler, name, letter),
+            TenantStep::Flush { unit } => self.flush(name, unit, log),
+            TenantStep::Checkpoint { unit } => self.checkpoint(alloc, handler, unit),
+            TenantStep::Kill { unit } => Ok(self.kill(unit)),
+            TenantStep::Restart { unit } => self.restart(alloc, handler, name, unit, log),
+            TenantStep::Notice { unit } => self.notice(alloc, handler, name, unit, log),
+            TenantStep::Release { unit } => self.release(alloc, unit),
+            TenantStep::Status { unit } => Ok(self.status(unit)),
+        }
+    }
+}
