@@ -1,5 +1,5 @@
 -- Outputs that wait, all of earlier intervals than one more.
-use Rattle.std.proofs.Common.{◌≡◌, inl, inr, refl, sym, ◌∙◌, ap, ℕ, zero, suc, ◌+◌, ◌<◌, ◌≤◌, true, false, cond, List, [], ◌∷◌, ◌++◌, ◌-◌, Bool, length, arith}
+use Rattle.std.proofs.Common.{◌≡◌, inl, inr, refl, ◌∙◌, ap, ℕ, suc, ◌+◌, ◌<◌, ◌≤◌, true, false, cond, List, [], ◌∷◌, ◌++◌, ◌-◌, length, arith}
 use Rattle.std.specs.Prelude.{Some, slice_get, nat_lt}
 use Rattle.std.proofs.lemmas.List.{append-nil}
 use Rattle.std.proofs.lemmas.List.Sums.{take_while-cons}
@@ -13,9 +13,6 @@ use Rattle.fast_tenant.specs.Kept.{unfirm}
 -- all of them are of intervals below this one
 abbrev pub AreBelow : List Held → ℕ → Type 0
 AreBelow os top = (i : ℕ) (o : Held) → slice_get os i ≡ Some o → o.mark.index < top
-
-
-
 
 below_cons : (o : Held) (os : List Held) (n : ℕ) → below (o ∷ os) n ≡ cond (nat_lt o.mark.index n) (o ∷ below os n) []
 below_cons o os n = take_while-cons (λ (h : Held). nat_lt h.mark.index n) o os
@@ -53,7 +50,3 @@ below_cut os new top n is h i o e = h i o (get_take_while (λ (x : Held). nat_lt
 
 pub below_its_cut : (os new : List Held) (n top : ℕ) → new ≡ below os n → top ≡ n → AreBelow new top
 below_its_cut os new n top is at i o e = rw at (lt_true o.mark.index n (take_while_passes (λ (x : Held). nat_lt x.mark.index n) os i o (rw is at e)))
-
--- after some left
-pub below_left : (os : List Held) (top frontier : ℕ) → AreBelow os top → AreBelow (unfirm os frontier) top
-below_left os top frontier h i o e = h (length (below os frontier) + i) o (get_drop os (length (below os frontier)) i o e)

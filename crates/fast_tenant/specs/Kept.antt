@@ -1,5 +1,5 @@
 -- What a tenant keeps, by lists.
-use Rattle.std.specs.Prelude.{◌≡◌, [], ◌∷◌, replicate, length, ◌++◌, ◌+◌, ◌<◌, ◌≤◌, ◌^◌, drop, map, slice_set, ℕ, cond, nat_lt, List, Option, Some, None, Result, Ok, Err}
+use Rattle.std.specs.Prelude.{◌≡◌, [], ◌∷◌, replicate, length, ◌++◌, ◌+◌, ◌<◌, ◌^◌, drop, map, slice_set, ℕ, cond, nat_lt, List, Option, Some, None}
 use Rattle.std.specs.List.{fold}
 use Rattle.std.specs.Option.{is_some}
 use Rattle.handler.specs.Inputs.{Input}

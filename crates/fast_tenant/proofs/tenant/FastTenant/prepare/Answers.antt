@@ -1,4 +1,4 @@
-use Rattle.std.proofs.Common.{◌≡◌, sym, ◌∙◌, ap}
+use Rattle.std.proofs.Common.{sym, ◌∙◌, ap}
 use Rattle.fast_tenant.specs.Needs.{needs}
 use Rattle.fast_tenant.proofs.tenant.FastTenant.prepare.Goals as goal
 
@@ -21,4 +21,3 @@ pub returns-in-Err-2 : goal.returns-in-Err-2
 returns-in-Err-2 g c = λ name live w log s.
     let asked = rw (c.in-Err-2.is) at (c.in_ok-ask-in-Deliver.ensures.asked name live w log s) in
     sym asked.0 ∙ ap (needs g.H.Handler.meaning w) (sym c.in-Deliver.is)
-
