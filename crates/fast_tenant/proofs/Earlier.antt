@@ -4,11 +4,10 @@ use Rattle.std.specs.Prelude.{Some, slice_get, nat_lt}
 use Rattle.std.proofs.lemmas.List.{append-nil}
 use Rattle.std.proofs.lemmas.List.Sums.{take_while-cons}
 use Rattle.std.proofs.lemmas.Bool.Decides.{nat_tests}
-use Rattle.theory.proofs.ListLaws.{get_append_any, get_drop, get_take_while, lt_true, map_at, take_while_passes, true_lt}
+use Rattle.theory.proofs.ListLaws.{get_append_any, get_take_while, lt_true, map_at, take_while_passes, true_lt}
 use Rattle.model.specs.declared.names.Mark.{Mark}
 use Rattle.output_commit.specs.declared.held.Held.{Held}
 use Rattle.output_commit.specs.Holds.{below, held_of}
-use Rattle.fast_tenant.specs.Kept.{unfirm}
 
 -- all of them are of intervals below this one
 abbrev pub AreBelow : List Held → ℕ → Type 0
