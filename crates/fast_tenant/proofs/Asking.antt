@@ -1,28 +1,26 @@
 -- What a unit's turn is asked for.
-use Rattle.std.proofs.Common.{◌≡◌, refl, sym, ◌∙◌, ap, ℕ, ◌-◌, ◌<◌, ◌^◌, Bool, true, List, [], ◌∷◌, ◌++◌, length, arith}
-use Rattle.std.specs.Prelude.{Option, Some, None, Result, Ok, Err, IfOk, IfErr, slice_get, option_map}
+use Rattle.std.proofs.Common.{◌≡◌, refl, sym, ◌∙◌, ap, ℕ, ◌-◌, ◌<◌, ◌^◌, Bool, true, List, ◌++◌, length, arith}
+use Rattle.std.specs.Prelude.{Option, Some, None, Result, Ok, Err, IfOk, slice_get, option_map}
 use Rattle.std.specs.Option.{is_some}
 use Rattle.std.proofs.lemmas.Option.{same_Some, slice_get_past, slice_get_within}
 use native.Mathlib.Decide.{dec_lt}
 use Rattle.model.specs.declared.names.Source.{Source}
 use Rattle.model.specs.declared.records.Record.{Record}
 use Rattle.model.specs.declared.refusals.Refusal.{Refusal}
-use Rattle.model.specs.declared.refusals.Refusal.TheVariants.{Down, NoUnit}
+use Rattle.model.specs.declared.refusals.Refusal.TheVariants.{NoUnit}
 use Rattle.model.specs.declared.replies.Reply.{Reply}
 use Rattle.model.specs.declared.replies.Reply.TheVariants.{Refused}
 use Rattle.model.specs.Handler.{Meaning}
 use Rattle.model.specs.World.{World, Member as WorldMember}
 use Rattle.model.specs.Steps.{Outcome, at_unit, first_refusal, if_unit, outcome_or}
-use Rattle.model.proofs.Places.{at_unit_found, get_below}
+use Rattle.model.proofs.Places.{get_below}
 use Rattle.handler.specs.Inputs.{Input}
-use Rattle.compact.specs.Compact.{Compact, IsUnit, Progress, Unit, progress_after}
+use Rattle.compact.specs.Compact.{IsUnit, Progress, Unit, progress_after}
 use Rattle.compact.specs.Steps.{or_next}
-use Rattle.compact.specs.StepLaws.{Stands}
 use Rattle.rollback.specs.Units.{Recovering, asking, places}
-use Rattle.rollback_laws.specs.Seen.{IsSeen}
 use Rattle.unit_steps.proofs.Both.{refusal_of_both}
 use Rattle.fast_tenant.specs.Kept.{IsAsking, Kept, Member}
-use Rattle.fast_tenant.specs.Needs.{IsAsked, input_unless, input_upon}
+use Rattle.fast_tenant.specs.Needs.{input_upon}
 use Rattle.fast_tenant.specs.Outcomes.{done}
 use Rattle.fast_tenant.specs.Stands.{Leaves, StandsFor}
 use Rattle.fast_tenant.proofs.Follow.{Keeps, none_kept}

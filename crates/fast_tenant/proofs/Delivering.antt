@@ -1,12 +1,12 @@
 -- The step `deliver`.
-use Rattle.std.proofs.Common.{◌≡◌, refl, sym, ◌∙◌, ap, subst, ℕ, suc, ◌-◌, ◌<◌, ◌≤◌, Bool, true, List, [], ◌∷◌, ◌++◌, length, map, arith}
-use Rattle.std.specs.Prelude.{Option, Some, None, Result, Ok, Err, IfOk, IfErr, slice_get, is_some}
+use Rattle.std.proofs.Common.{◌≡◌, refl, sym, ◌∙◌, ap, subst, ℕ, suc, List, [], ◌∷◌, length, map, arith}
+use Rattle.std.specs.Prelude.{Option, Some, None, Result, Ok, Err, IfOk, IfErr, slice_get}
 use Rattle.std.proofs.lemmas.Option.{same_Some, slice_get_past, slice_get_within}
 use native.Mathlib.Decide.{dec_lt}
 use Rattle.model.specs.declared.names.Source.TheVariants.{Unit as FromUnit}
 use Rattle.model.specs.declared.records.Record.{Record}
 use Rattle.model.specs.declared.refusals.Refusal.{Refusal}
-use Rattle.model.specs.declared.refusals.Refusal.TheVariants.{Down, NoLetter, NoUnit, Repeat}
+use Rattle.model.specs.declared.refusals.Refusal.TheVariants.{Down, NoLetter, NoUnit}
 use Rattle.model.specs.declared.replies.End.TheVariants.{Whole}
 use Rattle.model.specs.declared.replies.Reply.{Reply}
 use Rattle.model.specs.declared.replies.Reply.TheVariants.{Refused}
@@ -15,7 +15,7 @@ use Rattle.model.specs.Handler.{Meaning, Turn}
 use Rattle.model.specs.Nodes.{Message, letter}
 use Rattle.model.specs.Records.{vector_of}
 use Rattle.model.specs.World.{World, executed}
-use Rattle.model.specs.Steps.{Outcome, accepted, deliver, deliver_to, first_refusal, if_letter, turn_tests, turn_upon_receipt}
+use Rattle.model.specs.Steps.{accepted, deliver, deliver_to, first_refusal, if_letter, turn_tests, turn_upon_receipt}
 use Rattle.model.specs.Alone.{Reachable}
 use Rattle.model.specs.Alone.Reachable.{stepped}
 use Rattle.model.proofs.Places.{at_unit_found, get_below}
@@ -24,17 +24,16 @@ use Rattle.handler.specs.Inputs.{Input, turn_of}
 use Rattle.layer_laws.specs.Laws.{stable_lengths}
 use Rattle.layer_laws.proofs.Unstable.{unstable_are_counted}
 use Rattle.compact.specs.Compact.{Compact, Content, IsContent, IsLetter, Letter, Progress, Unit}
-use Rattle.compact.specs.Steps.{Done, Receipt, accepted_of, at_unit_of, deliver_content, deliver_front, deliver_of, delivered, if_letter_of, lengths_of, letter_refusal, or_next, or_refused, receiving_state, tests_of_turn, turn_of_receipt}
+use Rattle.compact.specs.Steps.{Done, Receipt, accepted_of, at_unit_of, deliver_content, deliver_front, deliver_of, delivered, if_letter_of, lengths_of, letter_refusal, or_next, or_refused, receiving_state}
 use Rattle.compact.proofs.Receipts.{deliveries_follow}
 use Rattle.compact.proofs.Tests.{deliveries_are_tested, lengths_are}
-use Rattle.rollback.specs.Units.{asking, places}
+use Rattle.rollback.specs.Units.{asking}
 use Rattle.unit_steps.specs.Laws.{known_to}
-use Rattle.unit_steps.specs.Receipts.{IsWithin, Known, arrival_refusal, letter_refused, past_tests}
+use Rattle.unit_steps.specs.Receipts.{IsWithin, arrival_refusal, letter_refused, past_tests}
 use Rattle.unit_steps.proofs.Seen.{letters_are_refused}
 use Rattle.fast_tenant.specs.declared.receipts.Plan.{Plan}
-use Rattle.fast_tenant.specs.Kept.{IsAsking, IsAskingBy, Kept, Member, known_of, letter_refusal_of, next_letters_of, next_record_of, next_reply_of, received_kept, turn_refusal_of}
+use Rattle.fast_tenant.specs.Kept.{IsAsking, Kept, Member, known_of, letter_refusal_of, next_letters_of, next_record_of, next_reply_of, received_kept, turn_refusal_of}
 use Rattle.fast_tenant.specs.Needs.{IsAsked, deliver_needs, deliver_to_needs, input_unless, input_upon, letter_needs}
-use Rattle.fast_tenant.specs.Outcomes.{done}
 use Rattle.fast_tenant.specs.Plans.{IsPlanned}
 use Rattle.fast_tenant.specs.Stands.{IsCompact, Leaves, StandsFor}
 use Rattle.fast_tenant.proofs.Asking.{Shown, asked_up, input_is, none_shown, refused_first, refused_none, shown}

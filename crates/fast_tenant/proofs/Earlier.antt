@@ -1,14 +1,13 @@
 -- Outputs that wait, all of earlier intervals than one more.
-use Rattle.std.proofs.Common.{◌≡◌, inl, inr, refl, sym, ◌∙◌, ap, ℕ, zero, suc, ◌+◌, ◌<◌, ◌≤◌, true, false, cond, List, [], ◌∷◌, ◌++◌, ◌-◌, Bool, length, arith}
+use Rattle.std.proofs.Common.{◌≡◌, inl, inr, refl, ◌∙◌, ap, ℕ, suc, ◌+◌, ◌<◌, ◌≤◌, true, false, cond, List, [], ◌∷◌, ◌++◌, ◌-◌, length, arith}
 use Rattle.std.specs.Prelude.{Some, slice_get, nat_lt}
 use Rattle.std.proofs.lemmas.List.{append-nil}
 use Rattle.std.proofs.lemmas.List.Sums.{take_while-cons}
 use Rattle.std.proofs.lemmas.Bool.Decides.{nat_tests}
-use Rattle.theory.proofs.ListLaws.{get_append_any, get_drop, get_take_while, lt_true, map_at, take_while_passes, true_lt}
+use Rattle.theory.proofs.ListLaws.{get_append_any, get_take_while, lt_true, map_at, take_while_passes, true_lt}
 use Rattle.model.specs.declared.names.Mark.{Mark}
 use Rattle.output_commit.specs.declared.held.Held.{Held}
 use Rattle.output_commit.specs.Holds.{below, held_of}
-use Rattle.fast_tenant.specs.Kept.{unfirm}
 
 -- all of them are of intervals below this one
 abbrev pub AreBelow : List Held → ℕ → Type 0
@@ -50,7 +49,3 @@ below_cut os new top n is h i o e = h i o (get_take_while (λ (x : Held). nat_lt
 
 pub below_its_cut : (os new : List Held) (n top : ℕ) → new ≡ below os n → top ≡ n → AreBelow new top
 below_its_cut os new n top is at i o e = rw at (lt_true o.mark.index n (take_while_passes (λ (x : Held). nat_lt x.mark.index n) os i o (rw is at e)))
-
--- after some left
-pub below_left : (os : List Held) (top frontier : ℕ) → AreBelow os top → AreBelow (unfirm os frontier) top
-below_left os top frontier h i o e = h (length (below os frontier) + i) o (get_drop os (length (below os frontier)) i o e)

@@ -1,5 +1,5 @@
 -- Whether a turn that was worked is of the input that a step needs.
-use Rattle.std.proofs.Common.{◌≡◌, sym, ◌∙◌, ap, subst}
+use Rattle.std.proofs.Common.{◌≡◌, sym, subst}
 use Rattle.std.specs.Prelude.{Option, Some, None}
 use Rattle.handler.specs.Inputs.{Input}
 use Rattle.fast_tenant.specs.Needs.{IsFresh}

@@ -1,6 +1,6 @@
 -- What was planned for a receipt.
 use Rattle.std.proofs.Common.{◌≡◌, sym, ◌∙◌, ap, ℕ, ◌≤◌, List, length}
-use Rattle.std.specs.Prelude.{Option, Some, None, Ok, slice_get}
+use Rattle.std.specs.Prelude.{Option, Some, Ok, slice_get}
 use Rattle.std.proofs.lemmas.Option.{same_Some}
 use Rattle.model.specs.declared.names.Source.{Source}
 use Rattle.model.specs.declared.records.Record.{Record}

@@ -1,5 +1,5 @@
 -- The step `post`.
-use Rattle.std.proofs.Common.{◌≡◌, refl, sym, ◌∙◌, ap, subst, ℕ, ◌-◌, ◌<◌, Bool, true, List, [], ◌∷◌, ◌++◌, length}
+use Rattle.std.proofs.Common.{◌≡◌, sym, ◌∙◌, ap, subst, ℕ, List}
 use Rattle.std.specs.Prelude.{Option, Some, None, Result, Ok, Err, IfOk, IfErr, slice_get}
 use Rattle.model.specs.declared.names.Source.TheVariants.{Outside}
 use Rattle.model.specs.declared.records.Record.{Record}
@@ -12,26 +12,25 @@ use Rattle.model.specs.declared.steps.TenantStep.TheVariants.{Post}
 use Rattle.model.specs.Handler.{Meaning, Turn}
 use Rattle.model.specs.Nodes.{outside}
 use Rattle.model.specs.World.{World}
-use Rattle.model.specs.Steps.{Outcome, accepted, first_refusal, post, post_to, turn_tests, turn_upon_receipt}
+use Rattle.model.specs.Steps.{accepted, first_refusal, post, post_to, turn_tests, turn_upon_receipt}
 use Rattle.model.specs.Alone.{Reachable}
 use Rattle.model.specs.Alone.Reachable.{stepped}
 use Rattle.model.proofs.Places.{at_unit_found}
 use Rattle.handler.specs.Inputs.{Input, turn_of}
 use Rattle.compact.specs.Compact.{Compact, Progress}
-use Rattle.compact.specs.Steps.{Done, Receipt, accepted_of, at_unit_of, or_next, or_refused, post_front, post_of, post_refusal, posted, receiving_state, tests_of_turn, turn_of_receipt}
+use Rattle.compact.specs.Steps.{Done, Receipt, accepted_of, at_unit_of, or_next, or_refused, post_front, post_of, post_refusal, posted, receiving_state}
 use Rattle.compact.proofs.Receipts.{posts_follow}
 use Rattle.compact.proofs.Tests.{posts_are_tested}
-use Rattle.rollback.specs.Units.{asking, places}
+use Rattle.rollback.specs.Units.{asking}
 use Rattle.unit_steps.specs.Receipts.{arrival_refusal, post_refused}
 use Rattle.unit_steps.proofs.Seen.{posts_are_refused}
 use Rattle.fast_tenant.specs.Kept.{IsAsking, Kept, Member, next_letters_of, next_record_of, next_reply_of, received_kept, turn_refusal_of}
 use Rattle.fast_tenant.specs.Needs.{IsAsked, input_unless, post_needs, post_to_needs}
 use Rattle.fast_tenant.specs.declared.receipts.Plan.{Plan}
-use Rattle.fast_tenant.specs.Outcomes.{done}
 use Rattle.fast_tenant.specs.Plans.{IsPlanned}
 use Rattle.fast_tenant.specs.Stands.{IsCompact, Leaves, StandsFor}
 use Rattle.fast_tenant.proofs.Asking.{Shown, asked_up, input_is, none_shown, refused_first, refused_none, shown}
-use Rattle.fast_tenant.proofs.Follow.{Keeps, keeps, leaves, no_unit}
+use Rattle.fast_tenant.proofs.Follow.{Keeps, keeps, leaves}
 use Rattle.fast_tenant.proofs.Receiving.{received_is, reply_is, turn_refusal_is}
 
 module _ {S : Type 0} (M : Meaning S) (name : List ℕ) (live : ℕ → List ℕ) (t : Kept S) (w : World) (log : List Record) (s : StandsFor M name live t w log) (u number : ℕ) (text : List ℕ) where

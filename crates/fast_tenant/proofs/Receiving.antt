@@ -1,13 +1,10 @@
 -- A receipt that is taken.
-use Rattle.std.proofs.Common.{◌≡◌, refl, sym, ◌∙◌, ap, subst, ℕ, zero, suc, ◌+◌, ◌-◌, ◌<◌, ◌^◌, Bool, List, [], ◌∷◌, ◌++◌, length, arith}
-use Rattle.std.specs.Prelude.{Option, Some, None, slice_get, slice_set}
+use Rattle.std.proofs.Common.{◌≡◌, refl, sym, ◌∙◌, ap, subst, ℕ, suc, ◌+◌, ◌-◌, ◌<◌, ◌^◌, List, [], ◌∷◌, ◌++◌, length, arith}
+use Rattle.std.specs.Prelude.{Some, slice_set}
 use Rattle.std.proofs.lemmas.List.{append_assoc}
 use Rattle.model.specs.declared.names.Mark.{Mark}
-use Rattle.model.specs.declared.names.Quota.{Quota}
 use Rattle.model.specs.declared.names.Row.{Row}
 use Rattle.model.specs.declared.records.Record.{Record}
-use Rattle.model.specs.declared.refusals.Refusal.{Refusal}
-use Rattle.model.specs.declared.replies.Reply.{Reply}
 use Rattle.model.specs.declared.replies.Reply.TheVariants.{Accepted}
 use Rattle.model.specs.Handler.{Meaning, Turn}
 use Rattle.model.specs.Lists.{numbers_from}
@@ -18,9 +15,9 @@ use Rattle.model.proofs.Places.{numbers_first}
 use Rattle.handler.specs.Inputs.{Input, turn_of}
 use Rattle.session.specs.Counts.{Counts, advanced, sent_one}
 use Rattle.output_commit.specs.Holds.{held_of}
-use Rattle.compact.specs.Compact.{Compact, Letter, Progress, Unit}
-use Rattle.compact.specs.Steps.{Done, Receipt, accepted_of, letters_by, new_letters, next_mark, next_record, next_vector, receiving_state, receiving_unit, tests_of_turn, turn_of_receipt, with_unit_at}
-use Rattle.rollback.specs.Units.{IsKept, Recovering, asking, places, took}
+use Rattle.compact.specs.Compact.{Compact, Letter, Progress}
+use Rattle.compact.specs.Steps.{Receipt, accepted_of, letters_by, new_letters, next_mark, next_record, next_vector, receiving_state, receiving_unit, tests_of_turn, turn_of_receipt, with_unit_at}
+use Rattle.rollback.specs.Units.{IsKept, asking, places, took}
 use Rattle.rollback.proofs.Keeping.{kept_took}
 use Rattle.rollback_laws.specs.Seen.{IsSeen}
 use Rattle.rollback_laws.proofs.Receipts.{receipts_are_seen, turns_are_seen}
@@ -29,7 +26,7 @@ use Rattle.unit_steps.specs.Receipts.{mark_upon, turn_refused, vector_upon}
 use Rattle.unit_steps.proofs.Seen.{vectors_are_made}
 use Rattle.fast_tenant.specs.Kept.{Kept, Member, next_letters_of, next_mark_of, next_record_of, next_reply_of, next_vector_of, received_kept, received_member, turn_refusal_of}
 use Rattle.fast_tenant.specs.Stands.{IsCompact, IsMember, StandsFor}
-use Rattle.fast_tenant.proofs.Follow.{Keeps, keeps, with_one}
+use Rattle.fast_tenant.proofs.Follow.{Keeps, with_one}
 
 -- ---- lists
 

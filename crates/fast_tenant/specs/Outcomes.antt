@@ -1,5 +1,5 @@
 -- Answers of an open tenant.
-use Rattle.std.specs.Prelude.{◌≡◌, Option, Some, None}
+use Rattle.std.specs.Prelude.{◌≡◌, Some}
 use Rattle.model.specs.Steps.{Outcome}
 use Rattle.model.specs.World.{World}
 use Rattle.model.specs.declared.replies.End.TheVariants.{Device, Whole}

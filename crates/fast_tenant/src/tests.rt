@@ -1,14 +1,15 @@
 use crate::FastTenant;
 use handler::Sample;
-use model::{Quota, Refusal, Reply, Text, Texts, Unit};
+use model::{Letter, Quota, Refusal, Reply, TenantName, TenantStep, Text, Texts, Unit};
 use std::alloc::Global;
 use std::test::Fail;
 
-/// A tenant with a unit that counts and one that echoes.
+/// A tenant with a unit that counts, one that echoes, and one that relays to the first.
 fn opened(alloc: Global) -> Result<FastTenant<Sample>, Fail> {
     let mut kinds = Vec::new(alloc);
     kinds.push(Text::of(alloc, "count")?)?;
     kinds.push(Text::of(alloc, "echo")?)?;
+    kinds.push(Text::of(alloc, "relay")?)?;
     let quota = Quota {
         volatile: 4,
         held: 4,
@@ -68,6 +69,35 @@ fn nothing_is_released_at_first(rt: HostRuntime) -> Result<(), Fail> {
     );
     let unknown = tenant.release(alloc, Unit::new(2))?.reply;
     assert_eq!(rt; refusal(&unknown), Some(Refusal::NoUnit));
+
+    assert_eq!(rt; tenant.release(Unit::new(3))?, Err(Refusal::NoUnit));
+    Ok(())
+}
+
+/// The name of the tenant.
+fn named(alloc: Global) -> Result<TenantName, Fail> {
+    let name = TenantName::new(String::from_str(alloc, "t")?);
+    Ok(name.ok_or("it is no name")?)
+}
+
+#[test]
+fn a_post_is_taken(rt: HostRuntime) -> Result<(), Fail> {
+    let alloc = rt.alloc();
+    let name = named(alloc)?;
+    let mut tenant = opened(alloc)?;
+    let text = Text::of(alloc, "a")?;
+    let answer = tenant.post(alloc, &Sample, &name, Unit::new(1), 0, text)?;
+    assert!(rt; matches!(answer.reply, Reply::Accepted { held: 1, .. }));
+    let text = Text::of(alloc, "b")?;
+    let again = tenant.post(alloc, &Sample, &name, Unit::new(1), 0, text)?;
+    assert!(rt;
+        matches!(
+            again.reply,
+            Reply::Refused {
+                refusal: Refusal::Repeat
+            }
+        )
+    );
     Ok(())
 }
 
@@ -82,5 +112,37 @@ fn a_unit_joins(rt: HostRuntime) -> Result<(), Fail> {
     assert!(rt; matches!(joined, Reply::Joined { .. }));
     let status = tenant.status(unit).reply;
     assert!(rt; matches!(status, Reply::Status { up: true, .. }));
+
+fn a_letter_is_taken_once(rt: HostRuntime) -> Result<(), Fail> {
+    let alloc = rt.alloc();
+    let name = named(alloc)?;
+    let mut tenant = opened(alloc)?;
+    let step = TenantStep::Post {
+        unit: Unit::new(2),
+        number: 0,
+        text: Text::of(alloc, "a")?,
+    };
+    let ask = tenant.prepare(alloc, &Sample, &step)?;
+    let worked = ask.ok_or("it needs a turn")?.work(alloc, &Sample)?;
+    let text = Text::of(alloc, "a")?;
+    let sent = tenant.post_with(alloc, &Sample, &name, Unit::new(2), 0, text, worked)?;
+    let reply = sent.ok_or("the turn is not fresh")?.reply;
+    assert!(rt; matches!(reply, Reply::Accepted { held: 0, .. }));
+    let letter = Letter::new(0);
+    let step = TenantStep::Deliver { letter };
+    let ask = tenant.prepare(alloc, &Sample, &step)?;
+    let worked = ask.ok_or("it needs a turn")?.work(alloc, &Sample)?;
+    let taken = tenant.deliver_with(alloc, &Sample, &name, letter, worked)?;
+    let reply = taken.ok_or("the turn is not fresh")?.reply;
+    assert!(rt; matches!(reply, Reply::Accepted { held: 1, .. }));
+    let again = tenant.deliver(alloc, &Sample, &name, letter)?;
+    assert!(rt;
+        matches!(
+            again.reply,
+            Reply::Refused {
+                refusal: Refusal::Repeat
+            }
+        )
+    );
     Ok(())
 }

@@ -1,5 +1,5 @@
-use Rattle.std.proofs.Common.{◌≡◌, refl, sym, ◌∙◌, ap, subst}
-use Rattle.std.specs.Prelude.{None, Option, Some, slice_get}
+use Rattle.std.proofs.Common.{◌≡◌, sym, ◌∙◌, ap}
+use Rattle.std.specs.Prelude.{Some, slice_get}
 use Rattle.compact.specs.Compact.{Content, Letter}
 use Rattle.fast_tenant.specs.Kept.{letter_refusal_of}
 use Rattle.fast_tenant.proofs.Delivering.{letter_asked, letter_none, letter_no_unit, letter_refused_first, letter_within}

@@ -1,5 +1,4 @@
 use Rattle.std.proofs.Common.{◌≡◌, sym, ◌∙◌, ap}
-use Rattle.std.specs.Prelude.{None, Some}
 use Rattle.fast_tenant.specs.Kept.{Kept}
 use Rattle.unit_steps.specs.Receipts.{post_refused}
 use Rattle.fast_tenant.proofs.Posting.{post_asked, post_none, post_refused_first}

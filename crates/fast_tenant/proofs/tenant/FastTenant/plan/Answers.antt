@@ -1,4 +1,4 @@
-use Rattle.std.proofs.Common.{◌≡◌, ◌∙◌, ap, length}
+use Rattle.std.proofs.Common.{◌∙◌, length}
 use Rattle.compact.specs.Steps.{letters_by}
 use Rattle.session.specs.Counts.{advanced}
 use Rattle.model.specs.Nodes.{sends_within}

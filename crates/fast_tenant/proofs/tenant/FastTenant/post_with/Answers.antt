@@ -1,4 +1,4 @@
-use Rattle.std.proofs.Common.{◌≡◌, refl, sym, ◌∙◌}
+use Rattle.std.proofs.Common.{refl, sym, ◌∙◌}
 use Rattle.std.proofs.lemmas.Bool.{false≢true}
 use Rattle.fast_tenant.proofs.Asking.{refused_stays}
 use Rattle.fast_tenant.proofs.Fresh.{fresh_none, fresh_same, not_fresh}

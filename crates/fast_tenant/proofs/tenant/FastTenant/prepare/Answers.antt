@@ -1,4 +1,4 @@
-use Rattle.std.proofs.Common.{◌≡◌, sym, ◌∙◌, ap}
+use Rattle.std.proofs.Common.{sym, ◌∙◌, ap}
 use Rattle.fast_tenant.specs.Needs.{needs}
 use Rattle.fast_tenant.proofs.tenant.FastTenant.prepare.Goals as goal
 

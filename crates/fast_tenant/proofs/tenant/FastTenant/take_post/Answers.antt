@@ -1,8 +1,7 @@
-use Rattle.std.proofs.Common.{◌≡◌, refl, sym, ◌∙◌, ap}
-use Rattle.std.specs.Prelude.{None, Some, IfOk}
+use Rattle.std.proofs.Common.{refl, ap}
+use Rattle.std.specs.Prelude.{None}
 use Rattle.std.proofs.lemmas.Option.{slice_get_within}
 use Rattle.model.specs.declared.names.Source.TheVariants.{Outside}
-use Rattle.compact.specs.Steps.{Receipt, posted}
 use Rattle.fast_tenant.specs.declared.answer.Answer.{Answer}
 use Rattle.fast_tenant.proofs.Asking.{refused_stays}
 use Rattle.fast_tenant.proofs.Planning.{planned_few, planned_next, planned_plain}

@@ -1,4 +1,4 @@
-use Rattle.std.proofs.Common.{◌≡◌, ◌≤◌, ◌∙◌, ap, arith}
+use Rattle.std.proofs.Common.{◌∙◌, ap, arith}
 use Rattle.output_commit.specs.Holds.{below}
 use Rattle.fast_tenant.specs.Kept.{Waits}
 use Rattle.fast_tenant.proofs.Earlier.{added_back, below_added}
