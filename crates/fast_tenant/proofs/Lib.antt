@@ -15,3 +15,5 @@ mod Flushing
 mod Fronts
 mod Widths
 pub mod Joining
+pub mod Reading
+pub mod Certifying

@@ -1,5 +1,6 @@
 pub mod Kept
 pub mod Needs
 pub mod Outcomes
+pub mod Reads
 pub mod Standing
 pub mod Stands
