@@ -26,3 +26,5 @@ pub mod Planning
 pub mod Posting
 pub mod Delivering
 pub mod Fresh
+pub mod Reading
+pub mod Certifying

@@ -3,5 +3,6 @@ pub mod Needs
 pub mod Outcomes
 pub mod Plans
 pub mod Returns
+pub mod Reads
 pub mod Standing
 pub mod Stands

@@ -3,12 +3,14 @@
 //!
 //! - `tenant`: the struct, and what is read off it; `member`: one unit; `answer`: what a step is answered.
 //! - `opens`, `joins`, `statuses`, `kills`, `checkpoints`, `releases`: the steps; `releasing`: the outputs of one unit on their way out.
+//! - `reads`, `certifies`: what whoever stands above reads off a tenant.
 //!
 //! Contracts see the tenant as `Kept` of `specs/Kept`. Each step says by `specs/Stands`: for every world that the
 //! tenant stands for, the reply is that of the definitions, and the tenant then stands for the world after the step.
 #![tactic(auto)]
 
 mod answer;
+mod certifies;
 mod checkpoints;
 mod delivers;
 mod flushes;
@@ -20,6 +22,7 @@ mod opens;
 mod posts;
 mod prepares;
 mod receipts;
+mod reads;
 mod releases;
 mod releasing;
 mod restarts;

@@ -101,6 +101,13 @@ impl<H: Handler> Member<H> {
         self.unit
     }
 
+    /// Its seat.
+    pub(crate) fn seat(&self) -> Seat
+        ensures { result ≡ self.now.recovering.seat }
+    {
+        self.recovering.seat()
+    }
+
     /// How many outputs are held.
     pub(crate) fn held_count(&self) -> usize
         ensures { result ≡ length self.now.outputs }

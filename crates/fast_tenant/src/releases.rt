@@ -1,6 +1,6 @@
 //! The step `release`.
 
-ghost use Rattle.std.specs.Prelude.{◌≡◌, ◌<◌, ℕ, List, IfOk, MatchOption, None, OnErr, Some, length, slice_get};
+ghost use Rattle.std.specs.Prelude.{◌≡◌, ◌<◌, ℕ, List, IfOk, None, OnErr, Some, length, slice_get};
 ghost use Rattle.model.specs.Steps.{release as release_of};
 ghost use Rattle.fast_tenant.specs.Kept.{Member as MemberOf, firm_of, firm_texts, released_of, with_firm_out};
 ghost use Rattle.fast_tenant.specs.Outcomes.{IsPlain};
@@ -39,17 +39,6 @@ fn release_member<H: Handler>(
 }
 
 impl<H: Handler> FastTenant<H> {
-    /// What the unit released, in order.
-    pub fn released(&self, unit: Unit) -> Option<&[Text]>
-        ensures { (texts : List (List ℕ)) → slice_get self.now.released unit ≡ Some texts → MatchOption result ⊥ (λ t. t.now ≡ texts) }
-    {
-        if usize::from(unit.number()) < self.outlet.len() {
-            Some(self.outlet.released(unit))
-        } else {
-            None
-        }
-    }
-
     fn release_at(&mut self, unit: Unit) -> Result<(), NoMemory>
         requires { unit < length self.old.members }
         ensures ok { IfOk result (λ _. (m : MemberOf H.State) (frontier : ℕ) (texts : List (List ℕ)) → slice_get self.old.members unit ≡ Some m → m.unit ≡ unit → slice_get self.old.frontiers unit ≡ Some frontier → slice_get self.old.released unit ≡ Some texts

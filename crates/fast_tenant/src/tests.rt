@@ -1,6 +1,9 @@
 use crate::FastTenant;
 use handler::Sample;
 use model::{Letter, Quota, Refusal, Reply, TenantName, TenantStep, Text, Texts, Unit};
+use model::{
+    End, Entry, Move, Quota, Refusal, Reply, Said, Step, TenantName, Text, Texts, Unit, Who,
+};
 use std::alloc::Global;
 use std::test::Fail;
 
@@ -98,6 +101,42 @@ fn a_post_is_taken(rt: HostRuntime) -> Result<(), Fail> {
             }
         )
     );
+    Ok(())
+}
+
+/// The history with one entry, that a unit joined the tenant.
+fn joined_once(alloc: Global, name: &TenantName, reply: Reply) -> Result<Vec<Entry>, Fail> {
+    let mut history = Vec::new(alloc);
+    history.push(Entry {
+        who: Who::Caller,
+        step: Step::Join {
+            tenant: name.copy(alloc)?,
+            kind: Text::of(alloc, "relay")?,
+        },
+        said: Said {
+            appended: 0,
+            end: End::Whole,
+        },
+        reply,
+    })?;
+    Ok(history)
+}
+
+#[test]
+fn a_new_tenant_is_read(rt: HostRuntime) -> Result<(), Fail> {
+    let alloc = rt.alloc();
+    let mut tenant = opened(alloc)?;
+    let joined = tenant.join(alloc, &Sample, "relay")?.kept;
+    assert!(rt; tenant.rollbacks().is_empty());
+    assert!(rt; tenant.released(Unit::new(2)).is_some());
+    assert!(rt; tenant.released(Unit::new(3)).is_none());
+    assert_eq!(rt; tenant.opening_seats(alloc)?.len(), 2);
+    let text = Text::of(alloc, "a")?;
+    let name = TenantName::new(text.into_string()).ok_or("no name")?;
+    let history = joined_once(alloc, &name, joined)?;
+    let moves = tenant.certificate(alloc, &Sample, history.as_slice(), &name)?;
+    assert_eq!(rt; moves.len(), 1);
+    assert!(rt; matches!(&moves[0], Move::Join { .. }));
     Ok(())
 }
 

@@ -96,11 +96,9 @@ fn goes_back_by_replay(rt: HostRuntime) -> Result<(), Fail> {
     unit.restore(alloc, &Sample, target, 1, fetched.as_slice())?;
     assert!(rt; unit.is_up() && state(&unit) == Some(5));
     unit.widen(2)?;
-    let sessions = unit.widened_sessions(3)?;
-    unit.fit(sessions);
     assert_eq!(rt;
         unit.progress().map(|progress| progress.sessions.len()),
-        Some(3)
+        Some(2)
     );
     Ok(())
 }
@@ -148,5 +146,18 @@ fn forgets_up_to_a_snapshot(rt: HostRuntime) -> Result<(), Fail> {
     assert!(rt; unit.interval(target).letter.is_none());
     unit.restore(alloc, &Sample, target, 1, &[])?;
     assert!(rt; state(&unit) == Some(3) && unit.outside() == 3);
+    Ok(())
+}
+
+#[test]
+fn makes_room_for_a_unit(rt: HostRuntime) -> Result<(), Fail> {
+    let alloc = rt.alloc();
+    let mut unit = RecoveryUnit::begin(alloc, &Sample, seat(), 1)?;
+    let sessions = unit.widened_sessions(2)?;
+    unit.fit(sessions);
+    assert_eq!(rt;
+        unit.progress().map(|progress| progress.sessions.len()),
+        Some(2)
+    );
     Ok(())
 }
