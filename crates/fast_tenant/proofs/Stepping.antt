@@ -9,13 +9,15 @@ use Rattle.model.specs.Alone.{step_open}
 use Rattle.model.specs.Handler.{Meaning}
 use Rattle.model.specs.Records.{IsHonest}
 use Rattle.model.specs.World.{World}
+use Rattle.handler.specs.Inputs.{Input}
 use Rattle.shared_log.specs.Logged.{Logged}
 use Rattle.shared_log.proofs.LeftLaws.{same_grows}
 use Rattle.fast_tenant.specs.declared.answer.Answer.{Answer}
 use Rattle.fast_tenant.specs.Kept.{Kept}
 use Rattle.fast_tenant.specs.Outcomes.{IsPlain, quiet}
 use Rattle.fast_tenant.specs.Standing.{Did, Stands, live_in}
-use Rattle.fast_tenant.specs.Stands.{Does, DoesAs}
+use Rattle.fast_tenant.specs.Needs.{WasFresh}
+use Rattle.fast_tenant.specs.Stands.{Does, DoesAs, StandsFor}
 
 module _ {S : Type 0} (M : Meaning S) (name : List ℕ) (t v : Kept S) (step : TenantStep) (before : Logged) (honest : (w : World) → IsHonest M name w step quiet []) where
   -- what a step does whatever the log, it does over this one
@@ -51,3 +53,9 @@ module _ {S : Type 0} (M : Meaning S) (name : List ℕ) (t v : Kept S) (step : T
       → IfOk r (λ o. IfSome o (λ a. (w : World) → Stands M name t w before.records → Did M name w v step a.said a.reply before before))
   some_ok (Ok o) does plain = some_did o does plain
   some_ok (Err e) does plain = tt
+
+-- whether a turn will do shows whatever the log
+pub fresh_ok : {S E : Type 0} (M : Meaning S) (name : List ℕ) (t : Kept S) (records : List (Option Record)) (needed : World → Option (Input S)) (input : Input S) (r : Result (Option Answer) E)
+    → IfOk r (λ o. (live : ℕ → List ℕ) (w : World) (log : List Record) → StandsFor M name live t w log → WasFresh (needed w) input o) → IfOk r (λ o. (w : World) → Stands M name t w records → WasFresh (needed w) input o)
+fresh_ok M name t records needed input (Ok o) h = λ w s. h (live_in name records) w s.whole s.stands
+fresh_ok M name t records needed input (Err e) h = tt

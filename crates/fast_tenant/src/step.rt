@@ -47,4 +47,40 @@ impl<H: Handler> FastTenant<H> {
             TenantStep::Status { unit } => Ok(self.status(unit)),
         }
     }
+
+    /// Does a step of the tenant of this name by a turn that was worked, as `step` does. There is no
+    /// answer, and nothing has changed, exactly where the step now needs a turn of another input.
+    /// Where no memory was found, nothing is changed; the log then has the records that it had.
+    pub fn step_with<S: Store>(
+        &mut self,
+        alloc: Global,
+        handler: &H,
+        name: &TenantName,
+        step: TenantStep,
+        worked: Done<H>,
+        log: &mut SharedLog<S>,
+    ) -> Result<Option<Answer>, NoMemory>
+        ensures fresh { IfOk result (λ o. (w : World) → Stands H.meaning name.now self.old w log.old.records → WasFresh (needs H.meaning w step) worked.input o) }
+        ensures kept { IfOk result (λ o. IfSome o (λ a. a.kept ≡ a.reply)) }
+        ensures did { IfOk result (λ o. IfSome o (λ a. (w : World) → Stands H.meaning name.now self.old w log.old.records → Did H.meaning name.now w self.new step a.said a.reply log.old log.new)) }
+        ensures stale { IfOk result (λ o. IfNone o (self.new ≡ self.old)) }
+        ensures stale_log { IfOk result (λ o. IfNone o (log.new ≡ log.old)) }
+        // What other tenants stand for stays.
+        ensures others { (k : Kept H.State) (w : World) (other : List ℕ) → bytes_eq other name.now ≡ false → Stands H.meaning other k w log.old.records → Stands H.meaning other k w log.new.records }
+        ensures err { OnErr result (self.new ≡ self.old) }
+        ensures err_log { OnErr result (log.new.records ≡ log.old.records) }
+    {
+        match step {
+            TenantStep::Post { unit, number, text } => {
+                self.post_with(alloc, handler, name, unit, number, text, worked)
+            }
+            TenantStep::Deliver { letter } => {
+                self.deliver_with(alloc, handler, name, letter, worked)
+            }
+            _ => {
+                let answer = self.step(alloc, handler, name, step, log)?;
+                Ok(Some(answer))
+            }
+        }
+    }
 }
