@@ -41,14 +41,15 @@ use Rattle.rollback_laws.proofs.Places.{places_are_seen}
 use Rattle.rollback_laws.proofs.Restores.{restores_are_seen}
 use Rattle.rollback_laws.proofs.Standing.{units_are_ready}
 use Rattle.fast_tenant.specs.declared.answer.Answer.{Answer}
-use Rattle.fast_tenant.specs.Kept.{Kept, Member, gone_back, kept_before, kept_length, outputs_to, restart_refusal, returned, returned_member, up_refusal}
+use Rattle.fast_tenant.specs.Kept.{Kept, Member, gone_back, kept_before, kept_length, live_count, outputs_to, restart_refusal, returned, returned_member, up_refusal}
 use Rattle.fast_tenant.specs.Outcomes.{failing, quiet}
 use Rattle.fast_tenant.specs.Returns.{Failed, Returns, Went}
 use Rattle.fast_tenant.specs.Standing.{Did, Stands, live_in}
-use Rattle.fast_tenant.specs.Stands.{IsCompact, IsMember, Leaves}
+use Rattle.fast_tenant.specs.Stands.{AreLast, IsCompact, IsMember, Leaves}
 use Rattle.fast_tenant.proofs.Fetching.{whole_fetched}
 use Rattle.fast_tenant.proofs.Follow.{Keeps, is_up, keeps, leaves, no_unit, none_kept, not_up, with_one}
 use Rattle.fast_tenant.proofs.Killing.{hold_cut, whole_hold}
+use Rattle.fast_tenant.proofs.Lasts.{last_taken}
 use Rattle.fast_tenant.proofs.Places.{places_are}
 
 -- ---- the first refusal
@@ -244,20 +245,24 @@ module _ {S : Type 0} (M : Meaning S) (name : List ℕ) (t : Kept S) (w : World)
               omega (arith, q)
         ]
 
-        live_is : places_of name u before ≡ x.unit.live
-        live_is = places_are before name u ∙ sym x.is.places
+        own_count : length x.unit.live ≡ live_count r
+        own_count = ready.live ∙ (λ i. x.is.seen.stable i - 1 - base_is i)
+
+        live_is : drop (length (places_of name u before) - live_count r) (places_of name u before) ≡ x.unit.live
+        live_is = (λ i. drop (length (places_are before name u i) - sym own_count i) (places_are before name u i)) ∙ sym x.is.places
 
         read : IsRead k x.unit whole b.0 fetched
         read =
             let f = slice_get whole in
             let d = b.0.index - r.base in
             let n = min (target + 1) (stable_places r) - 1 - r.base - d in
+            let behind = drop (length (places_of name u before) - live_count r) (places_of name u before) in
             let low : r.base ≤ b.0.index = (let p = base_low in let q = base_is in omega (arith, p, q)) in
             let dropped : d ≡ b.0.index - x.unit.base.index = ap (λ z. b.0.index - z) (sym base_is) in
             let count : n ≡ min (kept_places k x.unit) x.unit.stable - 1 - b.0.index = spans (target + 1) (stable_places r) r.base b.0.index low ∙ (λ i. min (last i) (sym x.is.seen.stable i) - 1 - b.0.index) in
-            whole_fetched before.records whole s.left (take n (drop d (places_of name u before))) fetched (wt.replayed.1 (shelved_as b.0) b.1.nearest)
-            ∙ sym (take-map f n (drop d (places_of name u before)))
-            ∙ ap (take n) (sym (drop-map f d (places_of name u before)))
+            whole_fetched before.records whole s.left (take n (drop d behind)) fetched (wt.replayed.1 (shelved_as b.0) b.1.nearest)
+            ∙ sym (take-map f n (drop d behind))
+            ∙ ap (take n) (sym (drop-map f d behind))
             ∙ (λ i. take (count i) (drop (dropped i) (map f (live_is i))))
 
         back : IsRestored M r k x.unit whole target fetched
@@ -286,11 +291,13 @@ module _ {S : Type 0} (M : Meaning S) (name : List ℕ) (t : Kept S) (w : World)
             let c = kept_cut r target (cut_behind r target).outside (cut_behind r target).intervals (cut_behind r target).volatile (cut_behind r target).shelf x.is.kept it refl refl refl refl in
             record { base = c.base; stable = c.stable; few = c.few; top = c.top; rises = c.rises; marks = c.marks; outside = c.outside }
 
-        live_own : live_in name after.records u ≡ after_unit.live
+        live_own : AreLast after_unit.live (live_in name after.records u)
         live_own =
-            let low = it.base in
             let count : target - r.base ≡ kept_places k x.unit - suc x.unit.base.index = counts target r.base (kept_places k x.unit) x.unit.base.index last base_is in
-            sym (places_are after name u) ∙ wt.own ∙ (λ i. take (count i) (live_is i))
+            let taken = last_taken x.unit.live (live u) (target - r.base) x.is.places in
+            let now : take (length (live u) - length x.unit.live + (target - r.base)) (live u) ≡ live_in name after.records u =
+                (λ i. take (length (sym (places_are before name u) i) - own_count i + (target - r.base)) (sym (places_are before name u) i)) ∙ sym wt.own ∙ places_are after name u in
+            subst (λ (n : ℕ). AreLast (take n x.unit.live) (live_in name after.records u)) count (subst (λ (ps : List ℕ). AreLast (take (target - r.base) x.unit.live) ps) now taken)
           where
             counts : (target base kept index : ℕ) → target + 1 ≡ kept → index ≡ base → target - base ≡ kept - suc index
             counts target base kept index e f = omega (arith, e, f)
@@ -327,7 +334,7 @@ module _ {S : Type 0} (M : Meaning S) (name : List ℕ) (t : Kept S) (w : World)
           stable = set_get_same t.stable_lengths u (stable_places (returned r target wt.progress)) x.unit.stable x.is.stable ∙ ap (λ n. Some n) (sym seen_after.stable);
           frontier = x.is.frontier;
           released = x.is.released;
-          places = sym live_own;
+          places = live_own;
         }
 
         abbrev state : Compact S
@@ -356,10 +363,6 @@ module _ {S : Type 0} (M : Meaning S) (name : List ℕ) (t : Kept S) (w : World)
             ]
           ];
           letters = is.letters;
-          beyond = λ c out.
-              let within = slice_get_within k.units u x.unit x.at in
-              let wide = width_is in
-              live_other c (λ e. omega (arith, e, out, within, wide)) ∙ is.beyond c (omega (arith, out, wide));
         }
           where
             own_stands : (c : ℕ) (n : Member S) (z : Unit S) → c ≡ u → n ≡ q → z ≡ after_unit → IsMember v2 (live_in name after.records) c n z
@@ -378,7 +381,7 @@ module _ {S : Type 0} (M : Meaning S) (name : List ℕ) (t : Kept S) (w : World)
               stable = set_get_other t.stable_lengths u c (stable_places (returned r target wt.progress)) other ∙ i.stable;
               frontier = i.frontier;
               released = i.released;
-              places = i.places ∙ sym (live_other c other);
+              places = subst (λ (ps : List ℕ). AreLast z.live ps) (sym (live_other c other)) i.places;
             }
 
         start_is : start_of (row_to k u (kept_places k x.unit)) ≡ record { incarnation = incarnation_of t.table u + 1; index = target + 1 }

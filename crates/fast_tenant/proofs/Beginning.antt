@@ -23,6 +23,7 @@ use Rattle.rollback.specs.Units.{IsKept, begun_unit}
 use Rattle.rollback_laws.proofs.Joins.{beginnings_are_seen}
 use Rattle.fast_tenant.specs.Kept.{Kept, Member, begun_member, opened_kept, with_begun}
 use Rattle.fast_tenant.specs.Stands.{IsCompact, IsMember, Leaves}
+use Rattle.fast_tenant.proofs.Lasts.{last_none}
 use Rattle.fast_tenant.proofs.Follow.{leaves}
 
 -- a unit at its beginning is kept
@@ -140,8 +141,8 @@ module _ {S : Type 0} (M : Meaning S) (kinds : List (List ℕ)) (quota : Quota) 
   count : length k.units ≡ width
   count = sym (begun.same) ∙ count_all M width quota optimism kinds [] ∙ (let e : 0 + length kinds ≡ length kinds = omega arith in e)
 
-  opened_is : (live : ℕ → List ℕ) → ((u : ℕ) → live u ≡ []) → IsCompact t live k
-  opened_is live none = record {
+  opened_is : (live : ℕ → List ℕ) → IsCompact t live k
+  opened_is live = record {
     quota = begun.quotas;
     optimism = begun.optimisms;
     table = begun.table;
@@ -161,24 +162,23 @@ module _ {S : Type 0} (M : Meaning S) (kinds : List (List ℕ)) (quota : Quota) 
           stable = replicated width u 1 within;
           frontier = replicated width u 1 within;
           released = replicated width u [] within;
-          places = sym (none u);
+          places = last_none (live u);
         }));
     letters = begun.letters;
-    beyond = λ u out. none u;
   }
 
-  pub open_done : can_open M kinds quota optimism ≡ true → (name : List ℕ) (live : ℕ → List ℕ) (log : List Record) → ((u : ℕ) → live u ≡ []) → Leaves M name live (open_new M kinds quota optimism) (Opened (length kinds)) t log
-  open_done can name live log none = leaves M name live log (open_new M kinds quota optimism) (λ z f. opened (record { step = Open kinds quota optimism; said = record { appended = 0; end = Whole } }) f) _ (opened_of M kinds quota optimism)
-      (opens_follow M name log kinds quota optimism can) refl t (opened_is live none)
+  pub open_done : can_open M kinds quota optimism ≡ true → (name : List ℕ) (live : ℕ → List ℕ) (log : List Record) → Leaves M name live (open_new M kinds quota optimism) (Opened (length kinds)) t log
+  open_done can name live log = leaves M name live log (open_new M kinds quota optimism) (λ z f. opened (record { step = Open kinds quota optimism; said = record { appended = 0; end = Whole } }) f) _ (opened_of M kinds quota optimism)
+      (opens_follow M name log kinds quota optimism can) refl t (opened_is live)
 
   pub open_refused : can_open M kinds quota optimism ≡ false → open_new M kinds quota optimism ≡ record { reply = Refused BadOpen; world = None }
   open_refused can = ap (λ b. cond b (opened_with M kinds quota optimism) (record { reply = Refused BadOpen; world = None })) can
 
   -- the same, by what the calls give
   pub open_is : (names : List (List ℕ)) → names ≡ kinds → (b : Bool) → b ≡ can_open M names quota optimism → b ≡ true → (v : Kept S) → v ≡ opened_kept M names quota optimism
-      → (name : List ℕ) (live : ℕ → List ℕ) (log : List Record) → ((u : ℕ) → live u ≡ []) → Leaves M name live (open_new M kinds quota optimism) (Opened (length names)) v log
-  open_is names same b is e v made name live log none =
+      → (name : List ℕ) (live : ℕ → List ℕ) (log : List Record) → Leaves M name live (open_new M kinds quota optimism) (Opened (length names)) v log
+  open_is names same b is e v made name live log =
       let can : can_open M kinds quota optimism ≡ true = ap (λ ns. can_open M ns quota optimism) (sym same) ∙ sym is ∙ e in
       let tenant : v ≡ t = made ∙ ap (λ ns. opened_kept M ns quota optimism) same in
       subst (λ (n : ℕ). Leaves M name live (open_new M kinds quota optimism) (Opened n) v log) (ap length (sym same))
-      (subst (λ (q : Kept S). Leaves M name live (open_new M kinds quota optimism) (Opened (length kinds)) q log) (sym tenant) (open_done can name live log none))
+      (subst (λ (q : Kept S). Leaves M name live (open_new M kinds quota optimism) (Opened (length kinds)) q log) (sym tenant) (open_done can name live log))

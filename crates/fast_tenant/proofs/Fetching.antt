@@ -9,7 +9,7 @@ use Rattle.fast_tenant.specs.Kept.{AreFetched}
 use Rattle.fast_tenant.proofs.Logging.{take_one}
 use Rattle.fast_tenant.proofs.Places.{found_whole}
 
-dropped_at : {X : Type 0} (xs : List X) (n i k : ℕ) (x : X) → k ≡ n + i → slice_get xs k ≡ Some x → slice_get (drop n xs) i ≡ Some x
+pub dropped_at : {X : Type 0} (xs : List X) (n i k : ℕ) (x : X) → k ≡ n + i → slice_get xs k ≡ Some x → slice_get (drop n xs) i ≡ Some x
 dropped_at xs zero i k x e f = ap (slice_get xs) (let t : i ≡ k = omega (arith, e) in t) ∙ f
 dropped_at [] (suc n) i k x e f = absurd (cc f)
 dropped_at (y ∷ ys) (suc n) i zero x e f = absurd (omega (arith, e))

@@ -42,8 +42,9 @@ use Rattle.unit_steps.proofs.Seen.{frontiers_go_on}
 use Rattle.fast_tenant.specs.Kept.{IsFlushed, Kept, Member, flushed_member, up_refusal}
 use Rattle.fast_tenant.specs.Outcomes.{quiet}
 use Rattle.fast_tenant.specs.Standing.{Did, Logs, Stands, live_in}
-use Rattle.fast_tenant.specs.Stands.{IsCompact, IsMember, Leaves, StandsFor}
+use Rattle.fast_tenant.specs.Stands.{AreLast, IsCompact, IsMember, Leaves, StandsFor}
 use Rattle.fast_tenant.proofs.Follow.{Keeps, is_up, keeps, leaves, not_up}
+use Rattle.fast_tenant.proofs.Lasts.{last_more}
 use Rattle.fast_tenant.proofs.Logging.{AreOf}
 use Rattle.fast_tenant.proofs.Places.{own_places, other_places, owns, owns_not, places_behind, left_length}
 use Rattle.fast_tenant.proofs.Widths.{widths}
@@ -230,7 +231,7 @@ module _ {S : Type 0} (M : Meaning S) (name : List ℕ) (t : Kept S) (w : World)
         low f n l b c i j h e g o q = omega (arith, h, e, g, o, q)
 
     gone : (a : ℕ) (n : Member S) (z : Unit S) → slice_get v.members a ≡ Some n → IsKept n.recovering → IsSeen n.recovering z → n.unit ≡ a → z.hold ≡ n.outputs → z.known ≡ n.known → slice_get v.stable_lengths a ≡ Some z.stable
-        → slice_get t.frontiers a ≡ Some z.frontier → IsFrontier (length v.stable_lengths) n.recovering z.frontier → slice_get t.released a ≡ Some z.released → z.live ≡ live_in name after.records a
+        → slice_get t.frontiers a ≡ Some z.frontier → IsFrontier (length v.stable_lengths) n.recovering z.frontier → slice_get t.released a ≡ Some z.released → AreLast z.live (live_in name after.records a)
         → IsMember v (live_in name after.records) a n (going_on k.table lengths z)
     gone a n z at kept seen own outputs known stable front is_front released places_live = record {
       kept = kept;
@@ -266,14 +267,10 @@ module _ {S : Type 0} (M : Meaning S) (name : List ℕ) (t : Kept S) (w : World)
               | inl q ↦ absurd (p.0 q.0)
               | inr q ↦
                   let i = is.members a n h.0 p.1 q.1 in
-                  gone a n h.0 atn i.kept i.seen i.own i.outputs i.known stable_at i.frontier (front_is a h.0 q.1 n.recovering i.kept i.seen n.recovering refl refl) i.released (i.places ∙ sym (live_other a p.0))
+                  gone a n h.0 atn i.kept i.seen i.own i.outputs i.known stable_at i.frontier (front_is a h.0 q.1 n.recovering i.kept i.seen n.recovering refl refl) i.released (subst (λ (ps : List ℕ). AreLast h.0.live ps) (sym (live_other a p.0)) i.places)
             ]
           ]);
       letters = is.letters ∙ sym f.letters;
-      beyond = λ a out.
-          let within = slice_get_within k.units u x.unit x.at in
-          let wide = width_is in
-          live_other a (λ e. omega (arith, e, out, within, wide)) ∙ is.beyond a (omega (arith, out, wide));
     }
       where
         own_stands : (a : ℕ) (n : Member S) (z : Unit S) → a ≡ u → n ≡ flushed_member m said.appended → z ≡ y → slice_get v.members a ≡ Some n → slice_get v.stable_lengths a ≡ Some z.stable
@@ -285,7 +282,7 @@ module _ {S : Type 0} (M : Meaning S) (name : List ℕ) (t : Kept S) (w : World)
             (gone u (flushed_member m said.appended) y (ap (slice_get v.members) (sym e) ∙ at ∙ ap (λ z. Some z) g) (kept_marked r (drop said.appended r.volatile) said.appended x.is.kept refl) seen_y x.is.own x.is.outputs x.is.known
             (ap (slice_get v.stable_lengths) (sym e) ∙ stable_at ∙ ap (λ (z : Unit S). Some z.stable) h)
             x.is.frontier (front_is u x.unit x.at r x.is.kept x.is.seen (marked_stable r said.appended) refl refl) x.is.released
-            (ap (λ ps. ps ++ numbers_from (length whole) said.appended) x.is.places ∙ sym live_own))))
+            (subst (λ (ps : List ℕ). AreLast (x.unit.live ++ numbers_from (length whole) said.appended) ps) (sym live_own) (last_more x.unit.live (live u) (numbers_from (length whole) said.appended) x.is.places)))))
 
     pub flush_done : (said.end ≡ Device → HasRisen before.failures after.failures) → Did M name w v (Flush u) said (flush_reply said.end said.appended) before after
     flush_done device =

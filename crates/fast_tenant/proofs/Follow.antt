@@ -121,7 +121,6 @@ module _ {S : Type 0} (t : Kept S) (live : ℕ → List ℕ) (k : Compact S) (is
       ]
     ];
     letters = is.letters;
-    beyond = λ v out. is.beyond v (let e = length-set k.units u x in omega (arith, e, out));
   }
 
   -- one unit changes
@@ -145,5 +144,4 @@ module _ {S : Type 0} (t : Kept S) (live : ℕ → List ℕ) (k : Compact S) (is
       ]
     ]);
     letters = is.letters;
-    beyond = λ v out. is.beyond v (let e = length-set k.units u x in omega (arith, e, out));
   }

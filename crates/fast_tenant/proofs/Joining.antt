@@ -27,6 +27,7 @@ use Rattle.rollback.specs.Units.{IsKept, Recovering, widened_to}
 use Rattle.rollback_laws.proofs.Joins.{beginnings_are_seen, joins_are_seen}
 use Rattle.fast_tenant.specs.Kept.{Kept, Member, begun_member, fitted_from, fitted_member, joined_kept, released_of}
 use Rattle.fast_tenant.specs.Stands.{IsCompact, IsMember, Leaves, StandsFor}
+use Rattle.fast_tenant.proofs.Lasts.{last_none}
 use Rattle.fast_tenant.proofs.Beginning.{kept_begun}
 use Rattle.fast_tenant.proofs.Follow.{leaves}
 
@@ -146,7 +147,7 @@ module _ {S : Type 0} (M : Meaning S) (name : List ℕ) (live : ℕ → List ℕ
           stable = subst (λ (u : ℕ). slice_get (t.stable_lengths ++ 1 ∷ []) u ≡ Some 1) stables (append_get_last t.stable_lengths 1);
           frontier = subst (λ (u : ℕ). slice_get (t.frontiers ++ 1 ∷ []) u ≡ Some 1) fronts (append_get_last t.frontiers 1);
           released = subst (λ (u : ℕ). slice_get (t.released ++ [] ∷ []) u ≡ Some []) lines (append_get_last t.released []);
-          places = sym (i.beyond (length t.members) (let e = i.width in omega (arith, e)));
+          places = last_none (live (length t.members));
         }
 
     -- how many units there are then
@@ -195,7 +196,6 @@ module _ {S : Type 0} (M : Meaning S) (name : List ℕ) (live : ℕ → List ℕ
             ]
           ];
           letters = i.letters;
-          beyond = λ u out. i.beyond u (let c = count in omega (arith, c, out));
         }
 
     pub join_done : length t.members < 16 → (unit : ℕ) → unit ≡ length t.members → (v : Kept S) → (length t.released ≡ length t.members → v ≡ joined_kept M t kind) → Leaves M name live (join M w n) (Joined unit) v log

@@ -1,5 +1,5 @@
 -- The step `kill`.
-use Rattle.std.proofs.Common.{◌≡◌, ◌⊎◌, ◌^◌, inl, inr, refl, sym, ◌∙◌, ap, ℕ, suc, ◌-◌, ◌≤◌, true, min, List, length, arith}
+use Rattle.std.proofs.Common.{◌≡◌, ◌⊎◌, ◌^◌, inl, inr, refl, sym, ◌∙◌, ap, subst, ℕ, suc, ◌-◌, ◌≤◌, true, min, List, length, arith}
 use Rattle.std.specs.Prelude.{Some, slice_get, slice_set, nat_lt}
 use Rattle.std.specs.Option.{is_some}
 use Rattle.std.proofs.Math.Seq.{take-length}
@@ -33,7 +33,7 @@ use Rattle.rollback_laws.proofs.Failures.{kills_are_seen}
 use Rattle.rollback_laws.proofs.Places.{places_are_seen}
 use Rattle.rollback_laws.proofs.Standing.{units_are_ready}
 use Rattle.fast_tenant.specs.Kept.{Kept, Member, killed_member, outputs_to, up_refusal}
-use Rattle.fast_tenant.specs.Stands.{IsMember, Leaves, StandsFor}
+use Rattle.fast_tenant.specs.Stands.{AreLast, IsMember, Leaves, StandsFor}
 use Rattle.fast_tenant.proofs.Follow.{is_up, keeps, leaves, not_up, with_one}
 
 -- no output is of an interval that the path does not have
@@ -95,7 +95,7 @@ module _ {S : Type 0} (M : Meaning S) (name : List ℕ) (live : ℕ → List ℕ
           stable = i.stable ∙ ap (λ n. Some n) least;
           frontier = i.frontier;
           released = i.released;
-          places = take_all (x.stable - suc x.base.index) x.live (omega (arith, count)) ∙ i.places;
+          places = subst (λ (ps : List ℕ). AreLast ps (live u)) (sym (take_all (x.stable - suc x.base.index) x.live (omega (arith, count)))) i.places;
         }
       where
         stable_low : (a p v n : ℕ) → a ≡ p - v → n ≡ p → a ≤ n

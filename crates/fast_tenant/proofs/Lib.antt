@@ -8,6 +8,7 @@ pub mod Shelving
 pub mod Leaving
 pub mod Outgoing
 pub mod Beginning
+pub mod Lasts
 mod Places
 mod Logging
 mod Fetching

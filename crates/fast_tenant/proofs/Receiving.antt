@@ -58,7 +58,6 @@ with_letters t live k is letters others same = record {
   lines = is.lines;
   members = λ u m x e f. let i = is.members u m x e f in record { kept = i.kept; seen = i.seen; own = i.own; outputs = i.outputs; known = i.known; stable = i.stable; frontier = i.frontier; released = i.released; places = i.places };
   letters = same;
-  beyond = is.beyond;
 }
 
 module _ {S : Type 0} (M : Meaning S) (name : List ℕ) (live : ℕ → List ℕ) (t : Kept S) (w : World) (log : List Record) (s : StandsFor M name live t w log) (u : ℕ)

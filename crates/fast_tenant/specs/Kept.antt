@@ -201,10 +201,14 @@ gone_back t u m target incarnation progress = record t {
 abbrev pub AreFetched : List (Option Record) → List ℕ → ℕ → ℕ → List Record → Type 0
 AreFetched records places first last fetched = map (λ r. Some (Some r)) fetched ≡ map (slice_get records) (take (last - first) (drop first places))
 
+-- how many records of a unit are live: those of its stable intervals behind the base
+abbrev pub live_count : {S : Type 0} → Recovering S → ℕ
+live_count r = stable_places r - 1 - r.base
+
 -- These are the stable records behind the snapshot from which the unit goes back to the target.
 abbrev pub AreNeeded : {S : Type 0} → List (Option Record) → List ℕ → Recovering S → ℕ → List Record → Type 0
 AreNeeded {S} records live r target fetched =
-    (s : Snapshot (Progress S)) → nearest_of r.shelf target ≡ Some s → AreFetched records live (s.index - r.base) (min (target + 1) (stable_places r) - 1 - r.base) fetched
+    (s : Snapshot (Progress S)) → nearest_of r.shelf target ≡ Some s → AreFetched records (drop (length live - live_count r) live) (s.index - r.base) (min (target + 1) (stable_places r) - 1 - r.base) fetched
 
 -- the progress at the target is what replay of those records gives
 abbrev pub IsReplayed : {S : Type 0} → Meaning S → List (Option Record) → List ℕ → Recovering S → ℕ → ℕ → Option (Progress S) → Type 0

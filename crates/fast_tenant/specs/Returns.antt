@@ -10,7 +10,7 @@ use Rattle.compact.specs.Compact.{Progress}
 use Rattle.rollback.specs.Units.{IsTarget}
 use Rattle.shared_log.specs.Logged.{Grows, Logged, OthersKept, places_of}
 use Rattle.fast_tenant.specs.declared.answer.Answer.{Answer}
-use Rattle.fast_tenant.specs.Kept.{IsReplayed, Kept, Member, gone_back}
+use Rattle.fast_tenant.specs.Kept.{IsReplayed, Kept, Member, gone_back, live_count}
 use Rattle.fast_tenant.specs.Outcomes.{failing, quiet}
 
 -- the unit went back to the target, and the records behind it are live no more
@@ -20,7 +20,7 @@ pub record Went {S : Type 0} (M : Meaning S) (name : List ℕ) (t : Kept S) (u :
   pub progress : Option (Progress S)
   pub replayed : IsReplayed M before.records (places_of name u before) m.recovering target (length t.members) progress
   pub back : v ≡ gone_back t u m target (incarnation_of t.table u + 1) progress
-  pub own : places_of name u after ≡ take (target - m.recovering.base) (places_of name u before)
+  pub own : places_of name u after ≡ take (length (places_of name u before) - live_count m.recovering + (target - m.recovering.base)) (places_of name u before)
   pub others : OthersKept name u before after
   pub grows : Grows before.records [] after.records
 

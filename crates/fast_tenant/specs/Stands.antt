@@ -1,5 +1,5 @@
 -- Which world a tenant stands for.
-use Rattle.std.specs.Prelude.{◌≡◌, ◌≤◌, ℕ, List, [], length, Option, Some, None, slice_get}
+use Rattle.std.specs.Prelude.{◌≡◌, ◌-◌, drop, ℕ, List, [], length, Option, Some, None, slice_get}
 use Rattle.model.specs.declared.names.Quota.{Quota}
 use Rattle.model.specs.declared.records.Record.{Record}
 use Rattle.model.specs.declared.replies.Reply.{Reply}
@@ -12,6 +12,10 @@ use Rattle.rollback.specs.Units.{IsKept}
 use Rattle.rollback_laws.specs.Seen.{IsSeen}
 use Rattle.fast_tenant.specs.Kept.{Kept, Member}
 
+-- these places are the last of those: before them may stand some of another tenant that had the name
+abbrev pub AreLast : List ℕ → List ℕ → Type 0
+AreLast own live = own ≡ drop (length live - length own) live
+
 -- The tenant keeps this unit of the compact state as its u-th. `live` tells the places in the log of each unit's live records.
 pub record IsMember {S : Type 0} (t : Kept S) (live : ℕ → List ℕ) (u : ℕ) (m : Member S) (x : Unit S) : Type 0 where
   pub kept : IsKept m.recovering
@@ -22,9 +26,9 @@ pub record IsMember {S : Type 0} (t : Kept S) (live : ℕ → List ℕ) (u : ℕ
   pub stable : slice_get t.stable_lengths u ≡ Some x.stable
   pub frontier : slice_get t.frontiers u ≡ Some x.frontier
   pub released : slice_get t.released u ≡ Some x.released
-  pub places : x.live ≡ live u
+  pub places : AreLast x.live (live u)
 
--- The tenant keeps this compact state. No record is live of a unit that is not there.
+-- the tenant keeps this compact state
 pub record IsCompact {S : Type 0} (t : Kept S) (live : ℕ → List ℕ) (k : Compact S) : Type 0 where
   pub quota : k.quota ≡ t.quota
   pub optimism : k.optimism ≡ t.optimism
@@ -35,7 +39,6 @@ pub record IsCompact {S : Type 0} (t : Kept S) (live : ℕ → List ℕ) (k : Co
   pub lines : length t.released ≡ length k.units
   pub members : (u : ℕ) (m : Member S) (x : Unit S) → slice_get t.members u ≡ Some m → slice_get k.units u ≡ Some x → IsMember t live u m x
   pub letters : k.letters ≡ t.letters
-  pub beyond : (u : ℕ) → length k.units ≤ u → live u ≡ []
 
 -- The tenant of this name stands for a world that it can come to, where the log has these records.
 abbrev pub StandsFor : {S : Type 0} → Meaning S → List ℕ → (ℕ → List ℕ) → Kept S → World → List Record → Type 0
@@ -55,8 +58,8 @@ abbrev pub Does : {S : Type 0} → Meaning S → (World → Outcome) → Kept S 
 Does M step before reply after =
     (name : List ℕ) (live : ℕ → List ℕ) (w : World) (log : List Record) → StandsFor M name live before w log → Leaves M name live (step w) reply after log
 
--- A tenant was opened with these, or not. It has no record in the log yet.
+-- A tenant was opened with these, or not.
 abbrev pub IsOpened : {S : Type 0} → Meaning S → List (List ℕ) → Quota → ℕ → Reply → Option (Kept S) → Type 0
 IsOpened M kinds quota optimism reply None = open_new M kinds quota optimism ≡ record { reply = reply; world = None }
 IsOpened M kinds quota optimism reply (Some t) =
-    (name : List ℕ) (live : ℕ → List ℕ) (log : List Record) → ((u : ℕ) → live u ≡ []) → Leaves M name live (open_new M kinds quota optimism) reply t log
+    (name : List ℕ) (live : ℕ → List ℕ) (log : List Record) → Leaves M name live (open_new M kinds quota optimism) reply t log

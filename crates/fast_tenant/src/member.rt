@@ -11,7 +11,7 @@ ghost use Rattle.compact.specs.Compact.{Progress as ProgressOf};
 ghost use Rattle.rollback.specs.Units.{IsKept, IsTarget, OrphansAreTail, places, restored, stable_places};
 ghost use Rattle.session.specs.Counts.{widened};
 ghost use Rattle.rollback_laws.specs.Seen.{IsSeen};
-ghost use Rattle.fast_tenant.specs.Kept.{begun_member, checkpointed_member, firm_texts, flushed_member, killed_member, outputs_to, released_member, fitted_member, kept_length, returned_member, IsNext, received_member};
+ghost use Rattle.fast_tenant.specs.Kept.{begun_member, checkpointed_member, firm_texts, flushed_member, killed_member, outputs_to, released_member, fitted_member, kept_length, live_count, returned_member, IsNext, received_member};
 
 use crate::waiting::Waiting;
 use handler::{Done, Handler};
@@ -293,6 +293,14 @@ impl<H: Handler> Member<H> {
         ensures { result ≡ target - self.now.recovering.base }
     {
         target.saturating_sub(self.recovering.base()) as usize
+    }
+
+    /// How many of its records are live: those of its stable intervals behind the base.
+    pub(crate) fn live_count(&self) -> usize
+        ensures { result ≡ live_count self.now.recovering }
+    {
+        let stable = self.stable_count().saturating_sub(1);
+        stable.saturating_sub(u64::from(self.recovering.base())) as usize
     }
 
     /// Its progress at the target, by replay of these records and then of its own volatile ones.

@@ -1,6 +1,6 @@
 //! A unit goes back: what a restart, and a notice that cuts, have in common.
 
-ghost use Rattle.std.specs.Prelude.{◌≡◌, ◌⊎◌, ◌<◌, ◌≤◌, ◌+◌, ◌-◌, ◌∷◌, [], ◌++◌, IfOk, IfNone, IfSome, OnOk, OnErr, Err, MatchOption, None, Option, Some, List, ℕ, length, nat_le, slice_get, slice_set, take};
+ghost use Rattle.std.specs.Prelude.{◌≡◌, ◌⊎◌, ◌<◌, ◌≤◌, ◌+◌, ◌-◌, ◌∷◌, [], ◌++◌, IfOk, IfNone, IfSome, OnOk, OnErr, Err, MatchOption, None, Option, Some, List, ℕ, drop, length, nat_le, slice_get, slice_set, take};
 ghost use Rattle.model.specs.Failures.{HasRisen};
 ghost use Rattle.model.specs.World.{incarnation_of};
 ghost use Rattle.rollback.specs.Units.{IsTarget, OrphansAreTail, stable_places};
@@ -20,27 +20,60 @@ use rollback::Progress;
 use shared_log::{SharedLog, Store, StoreFault};
 use std::alloc::Global;
 
-/// Fetches the unit's live record at this position in its list, if there is one.
+/// How many of the unit's live records stand before its last `count`. They are none of a tenant whose name had no other
+/// owner.
+fn count_before<S: Store>(
+    tenant: &TenantName,
+    unit: Unit,
+    count: usize,
+    log: &SharedLog<S>,
+) -> usize
+    ensures { result ≡ length (places_of tenant.now unit log.now) - count }
+{
+    log.of(tenant, unit).len().saturating_sub(count)
+}
+
+/// Fetches the unit's live record at this position behind those that are skipped, if there is one.
 fn fetch_at<S: Store>(
     tenant: &TenantName,
     unit: Unit,
+    skipped: usize,
     position: usize,
     log: &mut SharedLog<S>,
 ) -> Result<Option<Record>, StoreFault>
     ensures records { log.new.records ≡ log.old.records }
     ensures places { places_of tenant.now unit log.new ≡ places_of tenant.now unit log.old }
-    ensures none { IfOk result (λ o. IfNone o (length (places_of tenant.now unit log.old) ≤ position)) }
-    ensures some { IfOk result (λ o. IfSome o (λ r. (p : ℕ) × (slice_get (places_of tenant.now unit log.old) position ≡ Some p) × (slice_get log.old.records p ≡ Some (Some r)))) }
+    ensures none { IfOk result (λ o. IfNone o (length (places_of tenant.now unit log.old) ≤ skipped + position)) }
+    ensures some { IfOk result (λ o. IfSome o (λ r. (p : ℕ) × (slice_get (places_of tenant.now unit log.old) (skipped + position) ≡ Some p) × (slice_get log.old.records p ≡ Some (Some r)))) }
     ensures device { result ≡ Err StoreFault.Device → HasRisen log.old.failures log.new.failures }
     ensures up { log.old.failures ≤ log.new.failures }
 {
     let places = log.of(tenant, unit);
-    if position >= places.len() {
+    if position >= places.len().saturating_sub(skipped) {
         return Ok(None);
     }
-    let place = places[position];
+    let place = places[skipped + position];
     let record = log.fetch(place)?;
     Ok(Some(record))
+}
+
+/// The first `keep` of the unit's live records behind those that are skipped stay, and all before them.
+#[tactic(auto, using(shared_log::proofs::LeftLaws::same_grows))]
+fn cut_behind<S: Store>(
+    tenant: &TenantName,
+    unit: Unit,
+    skipped: usize,
+    keep: usize,
+    log: &mut SharedLog<S>,
+)
+    ensures own { places_of tenant.now unit log.new ≡ take (skipped + keep) (places_of tenant.now unit log.old) }
+    ensures others { OthersKept tenant.now unit log.old log.new }
+    ensures grows { Grows log.old.records [] log.new.records }
+{
+    let count = log.of(tenant, unit).len();
+    if keep < count.saturating_sub(skipped) {
+        log.cut(tenant, unit, skipped + keep);
+    }
 }
 
 /// One more at the end.
@@ -51,23 +84,25 @@ fn add(records: &mut Vec<Record>, one: Record) -> Result<(), NoMemory>
     Ok(())
 }
 
-/// Fetches the unit's live records from the first of these positions in its list to before the last, in order.
+/// Fetches the unit's live records, behind those that are skipped, from the first of these positions to before the last,
+/// in order.
 fn fetch_some<S: Store>(
     alloc: Global,
     tenant: &TenantName,
     unit: Unit,
+    skipped: usize,
     first: usize,
     last: usize,
     log: &mut SharedLog<S>,
 ) -> Result<Vec<Record>, StoreFault>
     ensures records { log.new.records ≡ log.old.records }
-    ensures fetched { IfOk result (λ rs. AreFetched log.old.records (places_of tenant.now unit log.old) first last rs.items) }
+    ensures fetched { IfOk result (λ rs. AreFetched log.old.records (drop skipped (places_of tenant.now unit log.old)) first last rs.items) }
     ensures device { result ≡ Err StoreFault.Device → HasRisen log.old.failures log.new.failures }
     ensures up { log.old.failures ≤ log.new.failures }
 {
     let mut fetched = Vec::new(alloc);
     for position in first..last {
-        match fetch_at(tenant, unit, position, log)? {
+        match fetch_at(tenant, unit, skipped, position, log)? {
             Some(record) => add(&mut fetched, record)?,
             None => return Ok(fetched),
         }
@@ -126,7 +161,8 @@ impl<H: Handler> FastTenant<H> {
         ensures device { result ≡ Err StoreFault.Device → HasRisen log.old.failures log.new.failures }
     {
         let (first, last) = member.needed(target);
-        let fetched = fetch_some(alloc, tenant, unit, first, last, log)?;
+        let skipped = count_before(tenant, unit, member.live_count(), log);
+        let fetched = fetch_some(alloc, tenant, unit, skipped, first, last, log)?;
         let width = self.members.len();
         let progress = member.rebuilt(alloc, handler, target, width, fetched.as_slice())?;
         Ok(progress)
@@ -193,6 +229,7 @@ impl<H: Handler> FastTenant<H> {
     {
         let member = self.member_there(unit);
         let keep = member.positions_to(target);
+        let skipped = count_before(tenant, unit, member.live_count(), log);
         let progress = match self.progress_at(alloc, handler, tenant, member, unit, target, log) {
             Ok(progress) => progress,
             Err(StoreFault::Device) => return Ok(Answer::unfetched()),
@@ -200,7 +237,7 @@ impl<H: Handler> FastTenant<H> {
         };
         let answer = Answer::plain(alloc, reply)?;
         self.enter_back(unit, target, progress)?;
-        log.cut(tenant, unit, keep);
+        cut_behind(tenant, unit, skipped, keep, log);
         Ok(answer)
     }
 

@@ -1,4 +1,4 @@
-use Rattle.std.proofs.Common.{◌≡◌, ◌≤◌}
+use Rattle.std.proofs.Common.{◌≡◌, ◌≤◌, drop}
 use Rattle.shared_log.specs.Logged.{places_of}
 use Rattle.fast_tenant.specs.Kept.{AreFetched}
 use Rattle.fast_tenant.proofs.returning.fetch_some.Given as goal
@@ -10,6 +10,6 @@ invariant-loop-position g l = record {
   places : places_of l.tenant l.unit l.log ≡ places_of l.tenant l.unit l.fn.log;
   from : l.first ≤ l.position;
   empty : l.last ≤ l.first → l.position ≤ l.first;
-  fetched : AreFetched l.fn.log.records (places_of l.tenant l.unit l.fn.log) l.first l.position l.fetched.items;
+  fetched : AreFetched l.fn.log.records (drop l.skipped (places_of l.tenant l.unit l.fn.log)) l.first l.position l.fetched.items;
   up : l.fn.log.failures ≤ l.log.failures;
 }
