@@ -296,7 +296,7 @@ module _ {S : Type 0} (M : Meaning S) (name : List ℕ) (t : Kept S) (w : World)
             let count : target - r.base ≡ kept_places k x.unit - suc x.unit.base.index = counts target r.base (kept_places k x.unit) x.unit.base.index last base_is in
             let taken = last_taken x.unit.live (live u) (target - r.base) x.is.places in
             let now : take (length (live u) - length x.unit.live + (target - r.base)) (live u) ≡ live_in name after.records u =
-                (λ i. take (length (sym (places_are before name u) i) - own_count i + (target - r.base)) (sym (places_are before name u) i)) ∙ sym wt.own ∙ places_are after name u in
+            (λ i. take (length (sym (places_are before name u) i) - own_count i + (target - r.base)) (sym (places_are before name u) i)) ∙ sym wt.own ∙ places_are after name u in
             subst (λ (n : ℕ). AreLast (take n x.unit.live) (live_in name after.records u)) count (subst (λ (ps : List ℕ). AreLast (take (target - r.base) x.unit.live) ps) now taken)
           where
             counts : (target base kept index : ℕ) → target + 1 ≡ kept → index ≡ base → target - base ≡ kept - suc index
