@@ -18,7 +18,6 @@ use Rattle.model.specs.declared.steps.TenantStep.TheVariants.{Open}
 use Rattle.shared_log.specs.Logged.{Logged}
 use Rattle.tenant.specs.Outcomes.{done}
 use Rattle.tenant.specs.Stands.{Kept, Stands, StandsAt, Did, IsOpened}
-use Rattle.book.specs.Commits.{needs_at}
 use Rattle.book.specs.History.{DidAt, Holding, IsAnswered, KeepsOthers, LogsAt, StepsAt, named_if_opened, opened_by}
 
 -- what follows from a clause on `Ok`
@@ -122,3 +121,9 @@ module _ {S : Type 0} (M : Meaning S) where
       → (w : Option World) → StandsAt M name at w records → F w
   of_open name k at records F here f None stands = absurd (subst (λ t. StandsAt M name t None records) (sym here) stands)
   of_open name k at records F here f (Some w) stands = f w (subst (λ t. StandsAt M name t (Some w) records) (sym here) stands)
+
+-- so it is where more is known of that world
+pub of_open_known : {S : Type 0} (M : Meaning S) (name : List ℕ) (k : Kept S) (at : Option (Kept S)) (records : List (Option Record)) (w : Option World) (F : Option World → Type 0)
+    → Some k ≡ at → ((z : World) → Stands M name k z records → w ≡ Some z → F (Some z))
+    → StandsAt M name at w records → F w
+of_open_known M name k at records w F here f stands = of_open M name k at records (λ z. w ≡ z → F z) here f w stands refl

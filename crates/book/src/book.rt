@@ -222,7 +222,7 @@ impl<H: Handler, S: Store> Book<H, S> {
         ensures { IfOk result (λ moves. moves.items ≡ certificate_at (world_of H.meaning tenant.now self.now.history)) }
     {
         match self.tenants.get(tenant) {
-            Some(open) => open.certificate(alloc),
+            Some(open) => open.certificate(alloc, &self.handler, self.history.as_slice(), tenant),
             None => Ok(Vec::new(alloc)),
         }
     }

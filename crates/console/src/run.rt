@@ -10,6 +10,7 @@ use log::{Log, error};
 use stable_log::Store;
 use std::alloc::Global;
 use std::io::{BufReader, BufWriter, Read, Write};
+use std::mem;
 
 /// Bytes that are read or written at once.
 pub(crate) const BLOCK: usize = 65536;
@@ -37,7 +38,7 @@ pub(crate) fn run_on<L: Log, R: Read + Drop, W: Write + Drop, S: Store>(
     let mut reader = Counted::new(reader);
     let mut writer = Counted::new(writer);
     let mut book = Book::new(alloc, Sample, store);
-    match serve(alloc, &mut reader, &mut writer, &mut book) {
+    let status = match serve(alloc, &mut reader, &mut writer, &mut book) {
         Ok(_) if audit => audit_all(rt, alloc, &mut writer.inner, &book),
         Ok(_) => 0,
         Err(fault) => {
@@ -46,7 +47,10 @@ pub(crate) fn run_on<L: Log, R: Read + Drop, W: Write + Drop, S: Store>(
             tell(rt, fault);
             1
         }
-    }
+    };
+    // The process ends with this: to let go of each text of the history would take a fifth of its time.
+    mem::forget(book);
+    status
 }
 
 /// Says what failed, and what to do.

@@ -9,9 +9,11 @@ use crate::counted::Counted;
 use crate::fault::ServeFault;
 use crate::input::{Heard, fill, heard_at_end, line_kind};
 use crate::part::Part;
-use forms::{LineFault, read_step};
+use forms::LineFault;
 use ident::MAX_LINE_BYTES;
+use json::Scratch;
 use model::Step;
+use quick_forms::read_step;
 use std::alloc::Global;
 use std::io::BufRead;
 
@@ -33,12 +35,13 @@ pub fn read_feed<R: BufRead>(
     let Ok(mut held) = Vec::with_capacity(alloc, MAX_LINE_BYTES) else {
         return Err(ServeFault::NoMemory);
     };
+    let mut scratch = Scratch::new(alloc);
     let mut found = Vec::new(alloc);
     loop {
         match feed_line(reader, &mut held)? {
             Heard::End => return Ok(found),
             kind => {
-                let step = step_of(alloc, kind, held.as_slice());
+                let step = step_of(alloc, &mut scratch, kind, held.as_slice());
                 if found.push(step).is_err() {
                     return Err(ServeFault::NoMemory);
                 }
@@ -47,11 +50,16 @@ pub fn read_feed<R: BufRead>(
     }
 }
 
-fn step_of(alloc: Global, kind: Heard, held: &[u8]) -> Result<Step, LineFault>
+fn step_of(
+    alloc: Global,
+    scratch: &mut Scratch,
+    kind: Heard,
+    held: &[u8],
+) -> Result<Step, LineFault>
     ensures { IsReading kind held.now result }
 {
     match kind {
-        Heard::Line => read_step(alloc, held),
+        Heard::Line => read_step(alloc, scratch, held),
         Heard::Long | Heard::End => Err(LineFault::Bad),
     }
 }

@@ -12,13 +12,18 @@ use crate::counted::Counted;
 use crate::fault::ServeFault;
 use crate::input::{Heard, flush_unless, read_line};
 use book::Book;
-use forms::{LineFault, read_step, write_reply};
+use forms::LineFault;
 use handler::Handler;
 use ident::{MAX_LINE_BYTES, Refusal};
-use model::Reply;
+use json::Scratch;
+use model::{NoMemory, Reply};
+use quick_forms::{read_step, write_reply};
 use shared_log::Store;
 use std::alloc::Global;
 use std::io::{BufRead, Write};
+
+// The room that a reply's line begins with: most need no more.
+const SHORT_REPLY_BYTES: usize = 128;
 
 /// Answers each line of the input, in order, and tells how many there were.
 ///
@@ -49,10 +54,19 @@ pub fn serve<R: BufRead, W: Write, H: Handler, S: Store>(
     };
     // Each line takes a call at least, so that the count of lines fits.
     let _most = reader.calls_left();
+    let mut scratch = Scratch::new(alloc);
     let mut ahead = false;
     let mut count = 0;
     loop {
-        if !serve_line(alloc, reader, writer, book, &mut held, &mut ahead)? {
+        if !serve_line(
+            alloc,
+            reader,
+            writer,
+            book,
+            &mut scratch,
+            &mut held,
+            &mut ahead,
+        )? {
             return Ok(count);
         }
         count += 1;
@@ -65,6 +79,7 @@ fn serve_line<R: BufRead, W: Write, H: Handler, S: Store>(
     reader: &mut Counted<R>,
     writer: &mut Counted<W>,
     book: &mut Book<H, S>,
+    scratch: &mut Scratch,
     held: &mut Vec<u8>,
     ahead: &mut bool,
 ) -> Result<bool, ServeFault>
@@ -95,11 +110,21 @@ fn serve_line<R: BufRead, W: Write, H: Handler, S: Store>(
             Ok(true)
         }
         Heard::Line => {
-            let reply = answer_line(alloc, book, held.as_slice());
+            let reply = answer_line(alloc, book, scratch, held.as_slice());
             put_reply(alloc, writer, &reply)?;
             Ok(true)
         }
     }
+}
+
+// The bytes of a reply's line, with its line feed.
+fn line_of(alloc: Global, reply: &Reply) -> Result<Vec<u8>, NoMemory>
+    ensures { IfOk result (λ bytes. bytes.items ≡ reply_line reply.now) }
+{
+    let room = Vec::with_capacity(alloc, SHORT_REPLY_BYTES)?;
+    let mut bytes = write_reply(alloc, room, reply)?;
+    bytes.push(b'\n')?;
+    Ok(bytes)
 }
 
 /// Writes a reply's line, with its line feed. `NoMemory` comes where there is none for the text, and
@@ -117,13 +142,10 @@ pub fn put_reply<W: Write>(
     ensures read { result ≢ Err ServeFault.Read }
     ensures same { result ≢ Err ServeFault.Write → writer.new.failed ≡ writer.old.failed }
 {
-    let Ok(mut text) = write_reply(alloc, reply) else {
+    let Ok(text) = line_of(alloc, reply) else {
         return Err(ServeFault::NoMemory);
     };
-    if text.push('\n').is_err() {
-        return Err(ServeFault::NoMemory);
-    }
-    match writer.put(text.as_bytes()) {
+    match writer.put(text.as_slice()) {
         Ok(()) => Ok(()),
         Err(_) => Err(ServeFault::Write),
     }
@@ -131,11 +153,16 @@ pub fn put_reply<W: Write>(
 
 // Does what a line says.
 #[tactic(auto, unfolding(crate::specs::Serving::line_step))]
-fn answer_line<H: Handler, S: Store>(alloc: Global, book: &mut Book<H, S>, line: &[u8]) -> Reply
+fn answer_line<H: Handler, S: Store>(
+    alloc: Global,
+    book: &mut Book<H, S>,
+    scratch: &mut Scratch,
+    line: &[u8],
+) -> Reply
     requires { length line.now ≤ MAX_LINE_BYTES }
     ensures { AnsweredLine line.now book.old result book.new }
 {
-    match read_step(alloc, line) {
+    match read_step(alloc, scratch, line) {
         Ok(step) => book.step(step),
         Err(fault) => fault_reply(fault),
     }

@@ -5,19 +5,19 @@
 //! the program. They must be the same where a busy tenant does its steps before each of the lines,
 //! and where the store fails any one append or fetch and the step that it refused is given again.
 //!
-//! For a name that begins with `turns-` the lines also tell which turns are worked beside the book,
-//! and for one that begins with `fails-` which calls of the store fail.
+//! For a name that begins with `turns-` the lines also tell which turns are worked beside
+//! the book, and for one that begins with `fails-` which calls of the store fail.
 #![tactic(auto)]
 
 mod answers;
 mod beside;
+mod certified;
 mod failing;
-#[cfg(test)]
-mod tests;
 mod turned;
 
 use beside::{every, with_noise};
 use book::Book;
+use certified::certified;
 use failing::{failed, survives_each};
 use handler::Sample;
 use lines::{Counted, serve};
@@ -37,38 +37,74 @@ fn main(rt: HostRuntime) -> anyhow::Result<()> {
 
 /// How a row came out.
 fn verdict(rt: &HostRuntime, name: &str) -> anyhow::Result<&'static str> {
-    let alloc = rt.alloc();
-    let steps = fs::read_to_string(rt, format!(in alloc; "{name}.steps")?)?;
-    let replies = fs::read_to_string(rt, format!(in alloc; "{name}.replies")?)?;
+    let steps = fs::read_to_string(rt, format!(in rt.alloc(); "{name}.steps")?)?;
+    let replies = fs::read_to_string(rt, format!(in rt.alloc(); "{name}.replies")?)?;
+    row_verdict(rt.alloc(), name, steps.as_str(), replies.as_str())
+}
+
+/// How the row of this name with these lines came out.
+fn row_verdict(
+    alloc: Global,
+    name: &str,
+    steps: &str,
+    replies: &str,
+) -> anyhow::Result<&'static str> {
     if name.starts_with("turns-") {
-        return Ok(if turned(alloc, steps.as_str())?.as_str() == replies.as_str() {
-            "the replies are as they must be, by turns that were worked beside the book"
-        } else {
-            "the replies by turns that were worked beside the book differ"
-        });
+        turned_verdict(alloc, steps, replies)
+    } else if name.starts_with("fails-") {
+        failed_verdict(alloc, steps, replies)
+    } else if name.starts_with("certified-") {
+        certified_verdict(alloc, steps, replies)
+    } else {
+        worked_verdict(alloc, steps, replies)
     }
-    if name.starts_with("fails-") {
-        return Ok(if failed(alloc, steps.as_str())?.as_str() == replies.as_str() {
-            "the replies are as they must be over a store that fails"
-        } else {
-            "the replies over a store that fails differ"
-        });
-    }
+}
+
+fn turned_verdict(alloc: Global, steps: &str, replies: &str) -> anyhow::Result<&'static str> {
+    Ok(if turned(alloc, steps)?.as_str() == replies {
+        "the replies are as they must be, by turns that were worked beside the book"
+    } else {
+        "the replies by turns that were worked beside the book differ"
+    })
+}
+
+fn failed_verdict(alloc: Global, steps: &str, replies: &str) -> anyhow::Result<&'static str> {
+    Ok(if failed(alloc, steps)?.as_str() == replies {
+        "the replies are as they must be over a store that fails"
+    } else {
+        "the replies over a store that fails differ"
+    })
+}
+
+fn certified_verdict(alloc: Global, steps: &str, replies: &str) -> anyhow::Result<&'static str> {
+    Ok(if certified(alloc, steps)?.as_str() == replies {
+        "seats, moves and audits are as they must be"
+    } else {
+        "seats, moves or audits differ"
+    })
+}
+
+fn worked_verdict(alloc: Global, steps: &str, replies: &str) -> anyhow::Result<&'static str> {
     let alone = served(alloc, steps.as_bytes())?;
     if alone.as_slice() != replies.as_bytes() {
         return Ok("the replies differ from those that they must be");
     }
-    let beside = served(alloc, with_noise(alloc, steps.as_str())?.as_slice())?;
-    let own = every(alloc, beside.as_slice())?;
-    if own.as_slice() != replies.as_bytes() {
+    if !is_same_beside(alloc, steps, replies)? {
         return Ok("the replies differ beside a busy tenant");
     }
-    if !survives_each(alloc, steps.as_str(), replies.as_str())? {
+    if !survives_each(alloc, steps, replies)? {
         return Ok("the replies differ where an append or a fetch fails");
     }
     Ok(
         "the replies are as they must be, alone, beside a busy tenant and where any append or fetch fails",
     )
+}
+
+/// Whether the replies are the same beside a busy tenant.
+fn is_same_beside(alloc: Global, steps: &str, replies: &str) -> anyhow::Result<bool> {
+    let beside = served(alloc, with_noise(alloc, steps)?.as_slice())?;
+    let own = every(alloc, beside.as_slice())?;
+    Ok(own.as_slice() == replies.as_bytes())
 }
 
 /// The reply lines of a new book to these step lines.

@@ -1,7 +1,32 @@
-pub mod Outcomes
-pub mod Accepted
-pub mod Receipts
-pub mod GoingBack
-pub mod Letters
-pub mod Certificates
-mod Logs
+pub mod Results
+pub mod Found
+pub mod Lines
+pub mod Follow
+pub mod Killing
+pub mod Telling
+pub mod Shelving
+pub mod Leaving
+pub mod Outgoing
+pub mod Beginning
+mod Opening
+pub mod Lasts
+mod Places
+mod Logging
+mod Fetching
+mod Going
+mod Back
+mod Stepping
+mod Others
+mod Flushing
+mod Fronts
+mod Widths
+pub mod Joining
+pub mod Earlier
+pub mod Receiving
+pub mod Asking
+pub mod Planning
+pub mod Posting
+pub mod Delivering
+pub mod Fresh
+pub mod Reading
+pub mod Certifying

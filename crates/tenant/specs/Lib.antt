@@ -1,8 +1,8 @@
-pub mod Outcomes
-pub mod Keeps
-pub mod Accepts
-pub mod Receipts
+pub mod Kept
 pub mod Needs
-pub mod Joins
-pub mod Stands
+pub mod Outcomes
+pub mod Plans
 pub mod Returns
+pub mod Reads
+pub mod Represents
+pub mod Stands

@@ -12,7 +12,7 @@ use Rattle.model.specs.declared.replies.Reply.TheVariants.{Refused}
 use Rattle.model.specs.declared.steps.TenantStep.{TenantStep}
 use Rattle.model.specs.declared.steps.TenantStep.TheVariants.{Open, Join, Post, Deliver, Flush, Checkpoint, Kill, Restart, Notice, Release, Status}
 use Rattle.tenant.specs.Outcomes.{done}
-use Rattle.tenant.specs.Receipts.{post_front, deliver_front}
+use Rattle.compact.specs.Steps.{post_front, deliver_front}
 
 -- the input of the turn upon a receipt: the unit's seat and its state, where the text is from, and the text
 abbrev pub input_upon : {S : Type 0} → Meaning S → World → Member → Source → List ℕ → Input S

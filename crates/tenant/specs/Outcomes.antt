@@ -1,11 +1,10 @@
 -- Answers of an open tenant.
-use Rattle.std.specs.Prelude.{◌≡◌, Option, Some, None}
+use Rattle.std.specs.Prelude.{◌≡◌, Some}
 use Rattle.model.specs.Steps.{Outcome}
 use Rattle.model.specs.World.{World}
-use Rattle.model.specs.declared.refusals.Refusal.{Refusal}
+use Rattle.model.specs.declared.replies.End.TheVariants.{Device, Whole}
 use Rattle.model.specs.declared.replies.Reply.{Reply}
 use Rattle.model.specs.declared.replies.Said.{Said}
-use Rattle.model.specs.declared.replies.End.TheVariants.{Whole}
 use Rattle.tenant.specs.declared.answer.Answer.{Answer}
 
 -- the reply, and the world after the step
@@ -16,11 +15,10 @@ done r w = record { reply = r; world = Some w }
 abbrev pub quiet : Said
 quiet = record { appended = 0; end = Whole }
 
+-- the store was asked for records, and its device failed
+abbrev pub failing : Said
+failing = record { appended = 0; end = Device }
+
 -- the answer of a step that does not touch the store
 abbrev pub IsPlain : Answer → Type 0
 IsPlain a = (a.kept ≡ a.reply) × (a.said ≡ quiet)
-
--- the first of two refusals
-abbrev pub or_else : Option Refusal → Option Refusal → Option Refusal
-or_else None r = r
-or_else (Some s) r = Some s

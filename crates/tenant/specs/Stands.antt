@@ -1,4 +1,4 @@
--- What the crates above may use of a tenant.
+-- What the crates above may use of a tenant: which world it stands for over a log that may have forgotten records.
 use Rattle.std.specs.Prelude.{◌≡◌, ℕ, List, Option, Some, None, option_map, slice_get}
 use Rattle.model.specs.declared.names.Quota.{Quota}
 use Rattle.model.specs.declared.records.Record.{Record}
@@ -12,18 +12,21 @@ use Rattle.model.specs.Handler.{Meaning}
 use Rattle.model.specs.Records.{IsHonest}
 use Rattle.model.specs.Steps.{open_new}
 use Rattle.model.specs.World.{World}
-use Rattle.shared_log.specs.Logged.{Grows, Logged}
+use Rattle.shared_log.specs.Logged.{Grows, IsLeftOf, Logged, places_from}
+pub use Rattle.tenant.specs.Kept.{Kept}
 use Rattle.tenant.specs.Outcomes.{done}
+use Rattle.tenant.specs.Represents.{StandsFor}
 
--- what a tenant is seen as
-abbrev pub Kept : Type 0 → Type 0
-Kept S = World
+-- the places of the live records of each unit of this tenant
+abbrev pub live_in : List ℕ → List (Option Record) → ℕ → List ℕ
+live_in name records = λ u. places_from name u 0 records
 
--- The tenant of this name stands for the world, where the log has these records, with empty places for those that
--- were forgotten.
--- The plain tenant keeps the world itself.
-abbrev pub Stands : {S : Type 0} → Meaning S → List ℕ → Kept S → World → List (Option Record) → Type 0
-Stands M name k w records = k ≡ w
+-- The tenant of this name stands for the world, where the log has these records, with empty places for those that were
+-- forgotten: they are what is left of a whole list.
+pub record Stands {S : Type 0} (M : Meaning S) (name : List ℕ) (t : Kept S) (w : World) (records : List (Option Record)) : Type 0 where
+  pub whole : List Record
+  pub left : IsLeftOf records whole
+  pub stands : StandsFor M name (live_in name records) t w whole
 
 -- the tenant, if there is one, stands for the world, if there is one
 abbrev pub StandsAt : {S : Type 0} → Meaning S → List ℕ → Option (Kept S) → Option World → List (Option Record) → Type 0

@@ -1,8 +1,7 @@
 //! What a step is answered.
 
 ghost use Rattle.std.specs.Prelude.{◌≡◌, IfOk, IsOk};
-ghost use Rattle.tenant.specs.Outcomes.{IsPlain, quiet as quiet_said};
-ghost use Rattle.tenant.specs.Returns.{failing};
+ghost use Rattle.tenant.specs.Outcomes.{IsPlain, failing, quiet as quiet_said};
 ghost use Rattle.model.specs.declared.refusals.Refusal.TheVariants.{Store};
 ghost use Rattle.model.specs.declared.replies.Reply.TheVariants.{Refused};
 
@@ -39,6 +38,19 @@ impl Answer {
             reply,
             kept,
         })
+    }
+
+    /// The same for a reply that takes no memory, made twice.
+    pub(crate) fn twice(reply: Reply, kept: Reply) -> Answer
+        requires { kept ≡ reply }
+        ensures reply { result.reply ≡ reply }
+        ensures plain { IsPlain result }
+    {
+        Answer {
+            said: quiet(),
+            reply,
+            kept,
+        }
     }
 
     /// The step is refused.

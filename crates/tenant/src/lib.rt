@@ -1,39 +1,58 @@
-//! One tenant: its units, letters, table of rows and quotas.
+//! One tenant: its units, letters, table of rows and quotas, and of its history no more than its next steps need.
 //!
-//! `Tenant` is the plain tenant: it keeps the graph of state intervals whole, and each step walks
-//! it, so that its body is the definitions word by word. What it promises to the crates above is
-//! `Tenant::open` and `Tenant::step`, by the relation `Stands` of `specs/Stands`: for every world
-//! that the tenant stands for, a step gives the reply of the definitions and stands for the world
-//! after it, and what the store said is honest. Nothing above looks behind that relation.
+//! What it promises to the crates above is `Tenant::open` and `Tenant::step`, by the relation `Stands` of
+//! `specs/Stands`: for every world that the tenant stands for, a step gives the reply of the definitions and stands for
+//! the world after it, and what the store said is honest. Nothing above looks behind that relation: another body that
+//! meets these clauses can take this one's place.
 //!
-//! - `tenant`: the struct, what it keeps, and what is read off it;
-//! - `step`: one step of an open tenant; `opens`, `joins`, `posts`, `delivers`, `flushes`, `kills`,
-//!   `backs`, `releases`: the steps;
-//! - `receipt_tests`, `receives`, `accepts`: the tests of a receipt, the turn that it needs, and what
-//!   one that is taken adds;
-//! - `prepares`: a step whose turn is worked elsewhere;
-//! - `shelves`: which snapshots the units have.
+//! | step | its file | what it is by the definitions (`model`, `specs/Steps`) |
+//! |---|---|---|
+//! | `open` | `open` | `open_new` |
+//! | `join` | `join` | `join` |
+//! | `post` | `post` | `post` |
+//! | `deliver` | `deliver` | `deliver` |
+//! | `flush` | `flush` | `flush` |
+//! | `checkpoint` | `checkpoints` | `checkpoint` |
+//! | `kill` | `kill` | `kill` |
+//! | `restart` | `restart` | `restart` |
+//! | `notice` | `notice` | `notice` |
+//! | `release` | `release` | `release` |
+//! | `status` | `status` | `status` |
+//!
+//! - `tenant`: the struct, and what is read off it; `member`: one unit of it; `answer`: what a step is answered.
+//! - `step`: which of these a step is, also by a turn that was worked elsewhere; `prepare`: the input of that turn.
+//! - `receipts`: what a receipt makes (what refuses one: `unit_steps`, `refusals`); `returning`: a unit goes back;
+//!   `waiting`, `releasing`: outputs that wait, and those on their way out.
+//! - `reads`, `certifies`: what whoever stands above reads off a tenant.
+//! - `laws`: what holds over time of the worlds that a tenant stands for.
+//!
+//! Contracts see the tenant as `Kept` of `specs/Kept`. `specs/Represents` says which world that is over a whole log, and
+//! what a step does whatever the log; `specs/Stands` says it over a log that may have forgotten records.
 #![tactic(auto)]
 
-mod accepts;
 mod answer;
-mod backs;
-mod certificate;
-mod delivers;
-mod flushes;
-mod joins;
-mod kills;
+mod certifies;
+mod checkpoints;
+mod deliver;
+mod flush;
+mod join;
+mod kill;
 pub mod laws;
-mod opens;
-mod posts;
-mod prepares;
-mod receipt_tests;
-mod receives;
-mod released;
-mod releases;
-mod shelves;
+mod member;
+mod notice;
+mod open;
+mod post;
+mod prepare;
+mod reads;
+mod receipts;
+mod release;
+mod releasing;
+mod restart;
+mod returning;
+mod status;
 mod step;
 mod tenant;
+mod waiting;
 
 pub use answer::Answer;
 pub use tenant::Tenant;

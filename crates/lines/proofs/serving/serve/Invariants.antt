@@ -8,8 +8,8 @@ use Rattle.lines.specs.Serving.{Serves, reply_line}
 use Rattle.lines.proofs.serving.serve.Given as goal
 
 -- the lines so far are answered, and each took one of the calls that may still be made
-abbrev pub invariant-loop-held : goal.invariant-loop-held
-invariant-loop-held g l = record {
+abbrev pub invariant-loop-scratch : goal.invariant-loop-scratch
+invariant-loop-scratch g l = record {
   room : MAX_LINE_BYTES ≤ vec_capacity l.held;
   read_same : l.reader.failed ≡ l.fn.reader.failed;
   write_same : l.writer.failed ≡ l.fn.writer.failed;
@@ -22,5 +22,5 @@ invariant-loop-held g l = record {
 }
 
 -- each line takes one of the calls that may still be made
-abbrev pub decreases-loop-held : goal.decreases-loop-held
-decreases-loop-held g l = l.reader.left
+abbrev pub decreases-loop-scratch : goal.decreases-loop-scratch
+decreases-loop-scratch g l = l.reader.left

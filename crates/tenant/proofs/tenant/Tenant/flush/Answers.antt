@@ -1,19 +1,34 @@
-use Rattle.std.proofs.Common.{length-drop, map, take}
-use Rattle.model.specs.Records.{record_of}
-use Rattle.graph.proofs.Places.{found_below}
-use Rattle.tenant.proofs.Logs.{flushed}
+use Rattle.std.proofs.Common.{◌≡◌, ◌∙◌, ap, subst, ◌≤◌, ◌++◌, map, take, length}
+use Rattle.std.specs.Prelude.{Some, ◌↔◌}
+use Rattle.std.proofs.lemmas.Option.{slice_get_within}
+use Rattle.model.specs.declared.replies.End.TheVariants.{Whole}
+use Rattle.rollback.specs.Units.{Recovering}
+use Rattle.tenant.specs.Kept.{Member}
+use Rattle.tenant.proofs.Flushing.{flush_done, flush_refused}
+use Rattle.tenant.proofs.Others.{appended_beside}
 use Rattle.tenant.proofs.tenant.Tenant.flush.Goals as goal
 
-pub stable_after-stable-requires : goal.stable_after-stable-requires
-stable_after-stable-requires g c = rw (c.volatile_path.ensures, length-drop) at c.append_all-said.ensures.within
+pub returns-in-Err-clause-did : goal.returns-in-Err-clause-did
+returns-in-Err-clause-did g c = λ w s.
+    rw (c.refused.ensures.reply, c.refused.ensures.plain.1) (flush_refused g.H.Handler.meaning c.args.tenant.now c.args.self.now w c.args.log.now s c.args.unit c.in-Err.refusal c.in-Err.ensures.refused)
 
-pub enter_stable-requires-after_bounds : goal.enter_stable-requires-after_bounds
-enter_stable-requires-after_bounds g c κs within = found_below c.args.self.now.members c.args.unit c.in-Ok.member.now c.in-Ok.ensures.found
+pub enter_stable-requires-clause-within : goal.enter_stable-requires-clause-within
+enter_stable-requires-clause-within g c κs within = slice_get_within c.args.self.now.members c.args.unit _ c.in-Ok.ensures.found
 
-pub returns-clause-honest : goal.returns-clause-honest
-returns-clause-honest g c = (
-  take c.append_all-said.result.appended (map (record_of g.H.Handler.meaning c.args.tenant.now c.args.self.now) c.volatile_path.result.now),
-  c.append_all-said.ensures.grows,
-  flushed g.H.Handler.meaning c.args.tenant.now c.args.self.now c.args.unit c.in-Ok.member.now c.append_all-said.result c.volatile_path.result.now
-      c.in-Ok.ensures.found c.in-Ok.ensures.is_up c.volatile_path.ensures c.append_all-said.ensures.within c.append_all-said.ensures.whole,
-)
+pub returns-clause-did : goal.returns-clause-did
+returns-clause-did g c = λ w s.
+    let m : Member g.row.H-State.Denot = c.in-Ok.member.now in
+    let said = c.append_all-said.result in
+    let same : c.recovering.result.now ≡ m.recovering = c.recovering.ensures in
+    let volatile : c.recovering.result.now.volatile ≡ m.recovering.volatile = ap (λ (r : Recovering g.row.H-State.Denot). r.volatile) same in
+    rw (c.flush_reply.ensures) (flush_done g.H.Handler.meaning c.args.tenant.now c.args.self.now w c.args.log.now s c.args.unit m c.in-Ok.ensures.found c.in-Ok.ensures.up c.append_all-said.new.log c.enter_stable.new.self said
+    (c.append_all-said.ensures.records ∙ ap (λ vs. c.args.log.now.records ++ map Some (take said.appended vs)) volatile)
+    (subst (λ vs. said.appended ≤ length vs) volatile c.append_all-said.ensures.within)
+    (subst (λ vs. (said.end ≡ Whole) ↔ (said.appended ≡ length vs)) volatile c.append_all-said.ensures.whole)
+    (c.enter_stable.ensures m c.in-Ok.ensures.found)
+    c.append_all-said.ensures.device)
+
+pub returns-clause-others : goal.returns-clause-others
+returns-clause-others g c = λ k w other differs s.
+    appended_beside g.H.Handler.meaning c.args.tenant.now other k w c.args.log.now.records c.append_all-said.new.log.records c.recovering.result.now.volatile c.append_all-said.result.appended
+    c.append_all-said.ensures.records c.append_all-said.ensures.own differs s

@@ -1,11 +1,13 @@
-use Rattle.std.proofs.Common.{◌∙◌}
-use Rattle.std.proofs.lemmas.Result.{IfOk-weaker}
-use Rattle.tenant.proofs.Letters.{letters_upon}
+use Rattle.std.proofs.Common.{◌≡◌, ◌∙◌, ap, length, arith}
+use Rattle.std.specs.Prelude.{nat_lt}
+use Rattle.std.specs.List.{filter}
+use Rattle.model.specs.Nodes.{sends_within}
+use Rattle.tenant.proofs.Receiving.{count_letters}
 use Rattle.tenant.proofs.tenant.Tenant.letters_upon.Goals as goal
 
-pub returns : goal.returns
-returns g c = IfOk-weaker c.letters_from.result _ _
-    (λ made h. (simp (c.node_count.ensures, c.unit.ensures, c.units.ensures, c.sends.ensures) at h)
-    ∙ letters_upon g.H.Handler.meaning _ c.args.self.now c.args.node.now c.args.turn.now _ _ _ c.self.view_is c.self.invariant.turns_are
-    (rw c.before-2.ensures at c.in_ok-path.ensures)
-    (λ d e. (rw c.as_slice.ensures.value at c.in_ok-receivers.ensures) d e)) c.letters_from.ensures
+pub returns-clause-count : goal.returns-clause-count
+returns-clause-count g c =
+    let count : length c.in_ok-made.made.items ≡ length (sends_within (length c.args.self.now.members) c.args.turn.now) =
+    (ap length c.in_ok-made.ensures ∙ count_letters c.args.unit c.args.vector.now _ _ ∙ (λ i. length (filter (λ s. nat_lt s.0 (c.width-width.ensures i)) (c.sends.ensures i)))) in
+    let long = c.in_ok-made.made.ok in
+    omega (arith, count, long)

@@ -1,19 +1,53 @@
-use Rattle.std.proofs.lemmas.Result.{IfOk-weaker}
-use Rattle.graph.proofs.Places.{found_below}
-use Rattle.tenant.specs.Outcomes.{quiet}
-use Rattle.tenant.proofs.GoingBack.{notice_refused, notice_returns}
+use Rattle.std.proofs.Common.{sym, ◌∙◌, ◌+◌}
+use Rattle.std.proofs.lemmas.Option.{slice_get_within}
+use Rattle.rollback.specs.Units.{places}
+use Rattle.tenant.specs.Kept.{Member}
+use Rattle.tenant.proofs.Back.{above, not_above, notice_learns, notice_not_up, notice_returns, notice_worn}
+use Rattle.tenant.proofs.Others.{either_beside, returned_beside}
+use Rattle.tenant.proofs.Results.{if_ok}
 use Rattle.tenant.proofs.tenant.Tenant.notice.Goals as goal
 
-pub returns-in-Some-clause-done : goal.returns-in-Some-clause-done
-returns-in-Some-clause-done g c = rw (c.refused-in-Some.ensures.reply, c.refused-in-Some.ensures.plain.1)
-    (notice_refused c.args.self.now c.args.unit quiet c.in-Ok.member.now c.in-Ok.ensures.up _ c.in_ok-kept.kept (rw c.path.ensures at c.in_ok-kept.ensures.kept)
-    (rw c.path-length.ensures at c.if-length-kept.false) c.in-Some.ensures.refusal)
+pub returns-in-Err-clause-did : goal.returns-in-Err-clause-did
+returns-in-Err-clause-did g c = λ w s.
+    rw (c.refused.ensures.reply, c.refused.ensures.plain.1) (notice_not_up g.H.Handler.meaning c.args.tenant.now c.args.self.now w c.args.log.now s c.args.unit c.in-Err.refusal c.in-Err.ensures.refused)
+
+pub is_last-requires-after_bounds : goal.is_last-requires-after_bounds
+is_last-requires-after_bounds g c κs within = slice_get_within c.args.self.now.members c.args.unit _ c.in-Ok.ensures.found
+
+pub learn_rows-requires-after_bounds : goal.learn_rows-requires-after_bounds
+learn_rows-requires-after_bounds g c κs within = slice_get_within c.args.self.now.members c.args.unit _ c.in-Ok.ensures.found
+
+pub returns-then-is_last-clause-did : goal.returns-then-is_last-clause-did
+returns-then-is_last-clause-did g c = λ w s.
+    let m : Member g.row.H-State.Denot = c.in-Ok.field-0.now in
+    let found = c.in-Ok.ensures.found in
+    let target = c.in-Some.target in
+    rw (c.learn_rows.ensures m found, c.twice.ensures.reply, c.twice.ensures.plain.1)
+    (notice_learns g.H.Handler.meaning c.args.tenant.now c.args.self.now w c.args.log.now s c.args.unit m found target (c.in-Some.ensures.target m found) (c.in-Some.ensures.kept m found) c.in-Ok.ensures.up
+    (not_above (places m.recovering) (target + 1) (sym (c.is_last.ensures m found) ∙ c.if-is_last.true)))
+
+pub returns-then-is_worn_out-clause-did : goal.returns-then-is_worn_out-clause-did
+returns-then-is_worn_out-clause-did g c = λ w s.
+    let m : Member g.row.H-State.Denot = c.in-Ok.field-0.now in
+    let found = c.in-Ok.ensures.found in
+    let target = c.in-Some.target in
+    rw (c.refused-then-is_worn_out.ensures.reply, c.refused-then-is_worn_out.ensures.plain.1)
+    (notice_worn g.H.Handler.meaning c.args.tenant.now c.args.self.now w c.args.log.now s c.args.unit m found target (c.in-Some.ensures.target m found) (c.in-Some.ensures.kept m found) c.in-Ok.ensures.up
+    (above (places m.recovering) (target + 1) (sym (c.is_last.ensures m found) ∙ c.if-is_last.false)) (sym c.is_worn_out.ensures ∙ c.if-is_worn_out.true))
 
 pub return_to-requires-clause-within : goal.return_to-requires-clause-within
-return_to-requires-clause-within g c κs within = found_below c.args.self.now.members c.args.unit c.in-Ok.member.now c.in-Ok.ensures.found
+return_to-requires-clause-within g c κs within = slice_get_within c.args.self.now.members c.args.unit _ c.in-Ok.ensures.found
 
-pub returns-clause-done : goal.returns-clause-done
-returns-clause-done g c =
-    let below = rw c.path-length.ensures at c.if-length-kept.false in
-    IfOk-weaker _ _ _ (λ a. notice_returns c.args.self.now c.args.unit c.in-Ok.member.now c.in_ok-kept.kept c.next_start-row.result a c.return_to.new.self
-    c.in-Ok.ensures.up c.in-Ok.ensures.found c.in-None.ensures.refusal (rw c.path.ensures at c.in_ok-kept.ensures.kept) below c.next_start-row.ensures) c.return_to.ensures.returns
+pub returns-clause-did : goal.returns-clause-did
+returns-clause-did g c =
+    let m : Member g.row.H-State.Denot = c.in-Ok.field-0.now in
+    let found = c.in-Ok.ensures.found in
+    let target = c.in-Some.target in
+    if_ok _ _ c.return_to.result (λ a returns w s. notice_returns g.H.Handler.meaning c.args.tenant.now c.args.self.now w c.args.log.now s c.args.unit m found target (c.in-Some.ensures.target m found) (c.in-Some.ensures.kept m found) c.in-Ok.ensures.up
+    (above (places m.recovering) (target + 1) (sym (c.is_last.ensures m found) ∙ c.if-is_last.false)) (sym c.is_worn_out.ensures ∙ c.if-is_worn_out.false)
+    c.start_behind.result c.start_behind.ensures c.return_to.new.self c.return_to.new.log a (returns m found)) c.return_to.ensures.returns
+
+pub returns-clause-others : goal.returns-clause-others
+returns-clause-others g c = λ k w other differs s.
+    returned_beside g.H.Handler.meaning c.args.tenant.now other c.args.unit k w c.args.log.now c.return_to.new.log
+    (either_beside c.return_to.result c.args.tenant.now c.args.unit c.args.log.now c.return_to.new.log c.return_to.ensures.beside c.return_to.ensures.err_log) differs s

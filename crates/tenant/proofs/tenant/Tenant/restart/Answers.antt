@@ -1,23 +1,26 @@
-use Rattle.std.proofs.lemmas.Result.{IfOk-weaker}
-use Rattle.graph.proofs.Places.{found_below}
-use Rattle.tenant.specs.Outcomes.{quiet}
-use Rattle.tenant.proofs.Outcomes.{at_unit_none}
-use Rattle.tenant.proofs.GoingBack.{restart_refused, restart_returns}
+use Rattle.std.proofs.Common.{sym, ◌∙◌, ap}
+use Rattle.model.proofs.Places.{get_below}
+use Rattle.tenant.specs.Kept.{restart_refusal}
+use Rattle.tenant.proofs.Back.{restart_refused_by, restart_returns}
+use Rattle.tenant.proofs.Others.{either_beside, returned_beside}
+use Rattle.tenant.proofs.Results.{if_ok}
 use Rattle.tenant.proofs.tenant.Tenant.restart.Goals as goal
 
-pub returns-in-None-clause-done : goal.returns-in-None-clause-done
-returns-in-None-clause-done g c = rw c.refused.ensures.reply (at_unit_none _ _ _ c.in-None.ensures)
+pub returns-in-Some-clause-did : goal.returns-in-Some-clause-did
+returns-in-Some-clause-did g c = λ w s.
+    rw (c.refused.ensures.reply, c.refused.ensures.plain.1)
+    (restart_refused_by g.H.Handler.meaning c.args.tenant.now c.args.self.now w c.args.log.now s c.args.unit c.in-Some.refusal (sym c.restart_refusal.ensures.refusal ∙ c.in-Some.is))
 
-pub returns-in-Some-restart_refusal-clause-done : goal.returns-in-Some-restart_refusal-clause-done
-returns-in-Some-restart_refusal-clause-done g c = rw (c.refused-in-Some-restart_refusal.ensures.reply, c.refused-in-Some-restart_refusal.ensures.plain.1)
-    (restart_refused c.args.self.now c.args.unit quiet c.in-Some.member.now c.in-Some.ensures _ c.in-Some-restart_refusal.ensures.refusal)
+pub returns-clause-did : goal.returns-clause-did
+returns-clause-did g c =
+    let t = c.args.self.now in
+    let u = c.args.unit in
+    let m = get_below t.members u c.in-None.ensures.there in
+    let target = c.in-Some-last_kept.target in
+    if_ok _ _ c.return_to.result (λ a returns w s. restart_returns g.H.Handler.meaning c.args.tenant.now t w c.args.log.now s u m.0 m.1 target (c.in-Some-last_kept.ensures.target m.0 m.1) (c.in-Some-last_kept.ensures.kept m.0 m.1)
+    (ap (restart_refusal t.table u) (sym m.1) ∙ sym c.restart_refusal.ensures.refusal ∙ c.in-None.is) c.start_behind-row.result c.start_behind-row.ensures c.return_to.new.self c.return_to.new.log a (returns m.0 m.1)) c.return_to.ensures.returns
 
-pub return_to-requires-clause-within : goal.return_to-requires-clause-within
-return_to-requires-clause-within g c κs within = found_below c.args.self.now.members c.args.unit c.in-Some.member.now c.in-Some.ensures
-
-pub returns-clause-done : goal.returns-clause-done
-returns-clause-done g c =
-    let kept = rw c.path.ensures at c.in_ok-kept.ensures.kept in
-    let within = rw c.path.ensures at c.in_ok-kept.ensures.within in
-    IfOk-weaker _ _ _ (λ a. restart_returns c.args.self.now c.args.unit c.in-Some.member.now c.in_ok-kept.kept c.next_start-row.result a c.return_to.new.self
-    c.in-Some.ensures c.in-None-restart_refusal.ensures.refusal kept within c.next_start-row.ensures) c.return_to.ensures.returns
+pub returns-clause-others : goal.returns-clause-others
+returns-clause-others g c = λ k w other differs s.
+    returned_beside g.H.Handler.meaning c.args.tenant.now other c.args.unit k w c.args.log.now c.return_to.new.log
+    (either_beside c.return_to.result c.args.tenant.now c.args.unit c.args.log.now c.return_to.new.log c.return_to.ensures.beside c.return_to.ensures.err_log) differs s

@@ -1,12 +1,43 @@
-use Rattle.std.proofs.Common.{◌∙◌}
-use Rattle.std.proofs.lemmas.Result.{IfOk-weaker}
-use Rattle.tenant.proofs.Receipts.{post_can, post_received}
+use Rattle.std.proofs.Common.{refl, ap}
+use Rattle.std.specs.Prelude.{None}
+use Rattle.std.proofs.lemmas.Option.{slice_get_within}
+use Rattle.model.specs.declared.names.Source.TheVariants.{Outside}
+use Rattle.tenant.specs.declared.answer.Answer.{Answer}
+use Rattle.tenant.proofs.Asking.{refused_stays}
+use Rattle.tenant.proofs.Planning.{planned_few, planned_next, planned_plain}
+use Rattle.tenant.proofs.Posting.{post_none, post_planned, post_refused_then}
 use Rattle.tenant.proofs.tenant.Tenant.take_post.Goals as goal
 
-pub receive-requires-after_bounds : goal.receive-requires-after_bounds
-receive-requires-after_bounds g c κs within = rw c.into_turn.ensures (post_can g.H.Handler.meaning c.args.self.now c.args.unit c.args.number c.args.text c.args.worked.input c.requires)
+pub returns-in-None-clause-done : goal.returns-in-None-clause-done
+returns-in-None-clause-done g c = λ live w log s.
+    refused_stays g.H.Handler.meaning c.args.name.now live c.args.self.now w log s _ _ _ (post_none g.H.Handler.meaning c.args.name.now live c.args.self.now w log s c.args.unit c.args.number c.args.text c.in-None.ensures).1 c.refused.ensures.reply
+
+pub returns-in-Err-clause-done : goal.returns-in-Err-clause-done
+returns-in-Err-clause-done g c = λ live w log s.
+    let planned = rw (c.in-Err.is, c.turn.ensures) at c.in_ok-refusal.ensures in
+    rw (c.refused-in-Err.ensures.reply) (post_refused_then g.H.Handler.meaning c.args.name.now live c.args.self.now w log s c.args.unit c.args.number c.args.text c.in-Some.member.now c.in-Some.ensures c.args.worked.input (c.requires c.in-Some.member.now c.in-Some.ensures) c.in-Err.refusal planned)
+
+pub enter-requires-clause-within : goal.enter-requires-clause-within
+enter-requires-clause-within g c κs within = slice_get_within c.args.self.now.members c.args.unit _ c.in-Some.ensures
+
+pub enter-requires-clause-few : goal.enter-requires-clause-few
+enter-requires-clause-few g c κs within =
+    let planned = rw (c.in-Ok.is) at c.in_ok-refusal.ensures in
+    planned_few c.args.name.now c.args.self.now c.args.unit c.in-Some.member.now _ c.turn.result.now c.in-Ok.plan planned _ Outside c.args.text c.args.worked.input (c.requires c.in-Some.member.now c.in-Some.ensures)
+
+pub enter-requires-clause-next : goal.enter-requires-clause-next
+enter-requires-clause-next g c κs within = λ m there.
+    let planned = rw (c.in-Ok.is) at c.in_ok-refusal.ensures in
+    planned_next c.args.name.now c.args.self.now c.args.unit c.in-Some.member.now _ c.turn.result.now c.in-Ok.plan planned _ Outside c.args.text c.args.worked.input (c.requires c.in-Some.member.now c.in-Some.ensures) refl refl c.in-Some.ensures m there
+
+pub returns-clause-plain : goal.returns-clause-plain
+returns-clause-plain g c =
+    let planned = rw (c.in-Ok.is) at c.in_ok-refusal.ensures in
+    rw (c.in_ok-answer-in-Ok.ensures.answer) (planned_plain c.args.name.now c.args.self.now c.args.unit c.in-Some.member.now _ c.turn.result.now c.in-Ok.plan planned _ Outside c.args.text c.args.worked.input (c.requires c.in-Some.member.now c.in-Some.ensures))
 
 pub returns-clause-done : goal.returns-clause-done
-returns-clause-done g c = IfOk-weaker c.receive.result _ _
-    (λ a h. post_received g.H.Handler.meaning c.args.self.now c.args.unit c.args.number c.args.text c.args.worked.input c.requires ∙ h)
-    (rw c.into_turn.ensures at c.receive.ensures.done)
+returns-clause-done g c = λ live w log s.
+    let planned = rw (c.in-Ok.is) at c.in_ok-refusal.ensures in
+    post_planned g.H.Handler.meaning c.args.name.now live c.args.self.now w log s c.args.unit c.args.number c.args.text c.in-Some.member.now c.in-Some.ensures c.args.worked.input (c.requires c.in-Some.member.now c.in-Some.ensures)
+    c.turn.result.now c.turn.ensures _ (λ i. record { source = Outside; letter = None; number = c.from.ensures i; text = c.args.text; vector = c.in_ok-vector.ensures i }) c.in-Ok.plan planned
+    c.in_ok-answer-in-Ok.answer.reply (ap (λ (a : Answer). a.reply) c.in_ok-answer-in-Ok.ensures.answer) c.enter.new.self (c.in_ok-answer-in-Ok.ensures.ok c.in-Some.member.now c.in-Some.ensures)

@@ -1,5 +1,0 @@
-use Rattle.std.proofs.Common.{◌-◌, length}
-use Rattle.fast_tenant.proofs.joins.+widen_from.Given as goal
-
-abbrev pub decreases-widen_from : goal.decreases-widen_from
-decreases-widen_from g l = length l.members.now.items - l.at

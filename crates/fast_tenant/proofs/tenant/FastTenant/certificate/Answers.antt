@@ -1,6 +1,0 @@
-use Rattle.fast_tenant.specs.Standing.{live_in}
-use Rattle.fast_tenant.proofs.Certifying.{is_kept_of}
-use Rattle.fast_tenant.proofs.tenant.FastTenant.certificate.Goals as goal
-
-pub returns : goal.returns
-returns g c = λ w records s legal opened. c.in_ok-moves.ensures.opened legal w opened (is_kept_of g.H.Handler.meaning c.args.name.now (live_in c.args.name.now records) c.args.self.now w s.whole s.stands)

@@ -1,8 +1,0 @@
-use Rattle.std.proofs.Common.{◌≡◌, sym, ◌∙◌, ap}
-use Rattle.std.specs.Prelude.{slice_get}
-use Rattle.fast_tenant.specs.Kept.{Kept}
-use Rattle.fast_tenant.proofs.tenant.FastTenant.enter_back.Goals as goal
-
-pub return_member-requires-clause-target : goal.return_member-requires-clause-target
-return_member-requires-clause-target g c κs within = λ m found.
-    c.requires.target m (ap (λ (t : Kept g.row.H-State.Denot). slice_get t.members c.args.unit) (sym c.self.view_is) ∙ ap (slice_get c.self.inside.members.items) (sym (c.from-2.ensures ∙ c.number.ensures)) ∙ found)

@@ -1,9 +1,0 @@
-use Rattle.std.proofs.Common.{◌≡◌, subst, List, ℕ}
-use Rattle.std.specs.Prelude.{Option, None, Some, MatchOption}
-use Rattle.fast_tenant.specs.Standing.{live_in}
-use Rattle.fast_tenant.proofs.Reading.{released_same}
-use Rattle.fast_tenant.proofs.tenant.FastTenant.released.Goals as goal
-
-pub returns : goal.returns
-returns g c = λ name w records s. subst (λ (o : Option (List (List ℕ))). MatchOption c.released_texts.result (o ≡ None) (λ texts. o ≡ Some texts.now))
-    (released_same g.H.Handler.meaning name (live_in name records) c.args.self.now w s.whole s.stands c.args.unit) c.released_texts.ensures

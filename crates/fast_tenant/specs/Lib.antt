@@ -1,8 +1,0 @@
-pub mod Kept
-pub mod Needs
-pub mod Outcomes
-pub mod Plans
-pub mod Returns
-pub mod Reads
-pub mod Standing
-pub mod Stands

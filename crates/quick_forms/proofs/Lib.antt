@@ -1,0 +1,2 @@
+mod Turns
+mod Lists

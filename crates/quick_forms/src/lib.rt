@@ -1,0 +1,15 @@
+//! The lines that come most, read and written token by token.
+//!
+//! What a line means is said by `forms`, and stays what `serde_json` reads and writes: these functions have the clauses
+//! of `forms`, and take its way where a line or a reply is none of the quick ones.
+//!
+//! - `read_step` (`steps`): the step that a line is; quick are `post`, `deliver`, `join` and the steps that name a
+//!   tenant and a unit alone, with whole numbers, and their keys in any order.
+//! - `write_reply` (`replies`): the line that tells a reply; quick are accepted receipts, flushes and refusals.
+#![tactic(auto)]
+
+mod replies;
+mod steps;
+
+pub use replies::write_reply;
+pub use steps::read_step;

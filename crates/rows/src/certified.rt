@@ -1,0 +1,161 @@
+//! Rows of certificates: what a book shows of tenant `a`, and what the audit says of it, as it is and tampered with.
+//!
+//! The lines that come out are the seats, the moves, and the outcomes of audits: of what the book has, of its moves
+//! without the last and without the first, of other outputs, and of one seat alone.
+
+use crate::answers::answer;
+use anyhow::bail;
+use audit::check;
+use auditor::{audit_line, can_check};
+use book::Book;
+use handler::Sample;
+use model::{Move, Seat, TenantName, Text, Texts, Unit};
+use stable_log::MemoryStore;
+use std::alloc::Global;
+
+type Books = Book<Sample, MemoryStore>;
+
+const MOST_UNITS: u8 = 16;
+
+/// What a new book shows of tenant `a` before and after these lines.
+pub(crate) fn certified(alloc: Global, lines: &str) -> anyhow::Result<String> {
+    let name = tenant_a(alloc)?;
+    let mut text = String::new(alloc);
+    let mut book: Books = Book::new(alloc, Sample, MemoryStore::new(alloc));
+    add_lists(alloc, &book, &name, &mut text)?;
+    answer_all(alloc, &mut book, lines)?;
+    add_lists(alloc, &book, &name, &mut text)?;
+    Ok(text)
+}
+
+fn tenant_a(alloc: Global) -> anyhow::Result<TenantName> {
+    let Some(name) = TenantName::new(String::from_str(alloc, "a")?) else {
+        bail!("no name");
+    };
+    Ok(name)
+}
+
+/// Answers these lines.
+fn answer_all(alloc: Global, book: &mut Books, lines: &str) -> anyhow::Result<()> {
+    for line in lines.lines() {
+        answer(alloc, book, line)?;
+    }
+    Ok(())
+}
+
+/// Adds the lists of the tenant, and what audits say of them.
+fn add_lists(
+    alloc: Global,
+    book: &Books,
+    name: &TenantName,
+    text: &mut String,
+) -> anyhow::Result<()> {
+    let seats = book.seats(alloc, name)?;
+    let moves = book.certificate(alloc, name)?;
+    let released = released(alloc, book, name)?;
+    text.push_str(format!(in alloc; "{} seats\n", seats.len())?.as_str())?;
+    for moved in moves.iter() {
+        add_move(alloc, moved, text)?;
+    }
+    add_audits(
+        alloc,
+        name,
+        seats.as_slice(),
+        moves.as_slice(),
+        released.as_slice(),
+        text,
+    )
+}
+
+/// What each unit of the tenant released.
+fn released(alloc: Global, book: &Books, name: &TenantName) -> anyhow::Result<Vec<Texts>> {
+    let mut lists = Vec::new(alloc);
+    for number in 0..MOST_UNITS {
+        match book.released(name, Unit::new(number)) {
+            Some(outputs) => lists.push(copies(alloc, outputs)?)?,
+            None => return Ok(lists),
+        }
+    }
+    Ok(lists)
+}
+
+fn copies(alloc: Global, outputs: &[Text]) -> anyhow::Result<Texts> {
+    let mut texts = Vec::new(alloc);
+    for output in outputs {
+        texts.push(output.copy(alloc)?)?;
+    }
+    Ok(Texts::new(texts))
+}
+
+/// Adds the line of a move.
+fn add_move(alloc: Global, moved: &Move, text: &mut String) -> anyhow::Result<()> {
+    let line = match moved {
+        Move::Outside { unit, text } => {
+            format!(in alloc;
+                "unit {} takes {} from outside\n",
+                unit.number(),
+                text.as_str()
+            )?
+        }
+        Move::Letter { to, from } => {
+            format!(in alloc;
+                "unit {} takes a letter of unit {}\n",
+                to.number(),
+                from.number()
+            )?
+        }
+        Move::Join { kind } => format!(in alloc; "a unit of kind {} joins\n", kind.number())?,
+    };
+    text.push_str(line.as_str())?;
+    Ok(())
+}
+
+/// Adds what audits say.
+fn add_audits(
+    alloc: Global,
+    name: &TenantName,
+    seats: &[Seat],
+    moves: &[Move],
+    released: &[Texts],
+    text: &mut String,
+) -> anyhow::Result<()> {
+    let but_last = moves.get(..moves.len().saturating_sub(1)).unwrap_or(&[]);
+    let but_first = moves.get(1..).unwrap_or(&[]);
+    let one_seat = seats.get(..1).unwrap_or(&[]);
+    let others = others(alloc, released)?;
+    add_audit(alloc, name, seats, moves, released, text)?;
+    add_audit(alloc, name, seats, but_last, released, text)?;
+    add_audit(alloc, name, seats, but_first, released, text)?;
+    add_audit(alloc, name, seats, moves, others.as_slice(), text)?;
+    add_audit(alloc, name, one_seat, moves, released, text)
+}
+
+/// For each list one of a text that nobody released.
+fn others(alloc: Global, released: &[Texts]) -> anyhow::Result<Vec<Texts>> {
+    let mut lists = Vec::new(alloc);
+    for _ in 0..released.len() {
+        let mut texts = Vec::new(alloc);
+        texts.push(Text::of(alloc, "of nobody")?)?;
+        lists.push(Texts::new(texts))?;
+    }
+    Ok(lists)
+}
+
+/// Adds what the audit of these lists says, where it may be asked.
+fn add_audit(
+    alloc: Global,
+    name: &TenantName,
+    seats: &[Seat],
+    moves: &[Move],
+    released: &[Texts],
+    text: &mut String,
+) -> anyhow::Result<()> {
+    if !can_check(seats, moves, released) {
+        text.push_str("these lists don't fit\n")?;
+        return Ok(());
+    }
+    let outcome = check(alloc, &Sample, seats, moves, released);
+    text.push_str(audit_line(alloc, name, &outcome)?.as_str())?;
+    text.push('\n')?;
+    Ok(())
+}

@@ -1,0 +1,39 @@
+-- A unit that went back, and its records in the log.
+use Rattle.std.proofs.Common.{◌≡◌, sym, ◌∙◌, ap, subst, ℕ, ◌+◌, ◌-◌, List, [], length, take}
+use Rattle.std.specs.Prelude.{Option, Some, slice_get}
+use Rattle.std.proofs.lemmas.Option.{same_Some}
+use Rattle.model.specs.declared.records.Record.{Record}
+use Rattle.model.specs.declared.replies.Reply.{Reply}
+use Rattle.model.specs.Handler.{Meaning}
+use Rattle.model.specs.World.{incarnation_of}
+use Rattle.shared_log.specs.Logged.{Grows, Logged, OthersKept, places_of}
+use Rattle.compact.specs.Compact.{Progress}
+use Rattle.tenant.specs.declared.answer.Answer.{Answer}
+use Rattle.tenant.specs.Kept.{IsReplayed, Kept, Member, gone_back, live_count}
+use Rattle.tenant.specs.Outcomes.{IsPlain}
+use Rattle.tenant.specs.Returns.{Went}
+use Rattle.tenant.proofs.Places.{places_same}
+
+module _ (name : List ℕ) (u : ℕ) (before mid after : Logged) (same : mid.records ≡ before.records) where
+  pub grows_on : Grows mid.records [] after.records → Grows before.records [] after.records
+  grows_on g = subst (λ (rs : List (Option Record)). Grows rs [] after.records) same g
+
+  pub others_on : OthersKept name u mid after → OthersKept name u before after
+  others_on o n x other = o n x other ∙ places_same before mid same n x
+
+  module _ {S : Type 0} (M : Meaning S) (t : Kept S) (m q : Member S) (target : ℕ) (there : slice_get t.members u ≡ Some q) (found : slice_get t.members u ≡ Some m) (given : Reply) (a : Answer) (v : Kept S) (keep skipped : ℕ) (progress : Option (Progress S)) where
+    alike : q ≡ m
+    alike = same_Some q m (sym there ∙ found)
+
+    pub went : (a.reply ≡ given) × IsPlain a → IsReplayed M before.records (places_of name u before) q.recovering target (length t.members) progress → v ≡ gone_back t u m target (incarnation_of t.table u + 1) progress → keep ≡ target - q.recovering.base → skipped ≡ length (places_of name u before) - live_count q.recovering
+        → places_of name u after ≡ take (skipped + keep) (places_of name u mid) → OthersKept name u mid after → Grows mid.records [] after.records → Went M name t u m target given a v before after
+    went plain replayed back count skips own others grows = record {
+      said = plain.1.1;
+      reply = plain.0;
+      progress = progress;
+      replayed = subst (λ (n : Member S). IsReplayed M before.records (places_of name u before) n.recovering target (length t.members) progress) alike replayed;
+      back = back;
+      own = own ∙ (λ i. take ((skips ∙ ap (λ (n : Member S). length (places_of name u before) - live_count n.recovering) alike) i + (count ∙ ap (λ (n : Member S). target - n.recovering.base) alike) i) (places_same before mid same name u i));
+      others = others_on others;
+      grows = grows_on grows;
+    }

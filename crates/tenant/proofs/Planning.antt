@@ -1,0 +1,41 @@
+-- What was planned for a receipt.
+use Rattle.std.proofs.Common.{◌≡◌, sym, ◌∙◌, ap, ℕ, ◌≤◌, List, length}
+use Rattle.std.specs.Prelude.{Option, Some, Ok, slice_get}
+use Rattle.std.proofs.lemmas.Option.{same_Some}
+use Rattle.model.specs.declared.names.Source.{Source}
+use Rattle.model.specs.declared.records.Record.{Record}
+use Rattle.model.specs.declared.refusals.Refusal.{Refusal}
+use Rattle.model.specs.Handler.{Turn}
+use Rattle.handler.specs.Inputs.{Input}
+use Rattle.compact.specs.Compact.{Progress}
+use Rattle.compact.specs.Steps.{Receipt}
+use Rattle.rollback.specs.Units.{asking}
+use Rattle.tenant.specs.declared.receipts.Plan.{Plan}
+use Rattle.tenant.specs.Kept.{IsAsking, IsNext, Kept, Member}
+use Rattle.tenant.specs.Outcomes.{IsPlain}
+use Rattle.tenant.specs.Plans.{IsPlan, IsPlanned}
+use Rattle.tenant.proofs.Asking.{asked_up}
+
+module _ {S : Type 0} (name : List ℕ) (t : Kept S) (u : ℕ) (m : Member S) (q : Receipt) (turn : Turn S) (plan : Plan) (planned : IsPlanned name t u m q turn (Ok plan))
+    (refusal : Option Refusal) (source : Source) (text : List ℕ) (input : Input S) (is : IsAsking refusal m.recovering source text input) where
+  up : (p : Progress S) × (m.recovering.progress ≡ Some p)
+  up = let a = asked_up m.recovering source text input is.asked in (a.0, a.1)
+
+  plan_is : IsPlan name t u m q turn up.0.sessions plan
+  plan_is = planned.1 up.0 up.1
+
+  pub planned_few : length plan.logged.vector ≤ 256
+  planned_few = plan_is.few
+
+  pub planned_plain : IsPlain plan.answer
+  planned_plain = plan_is.plain
+
+  -- the record is of the unit's next interval
+  pub planned_next : q.source ≡ source → q.text ≡ text → slice_get t.members u ≡ Some m → (n : Member S) → slice_get t.members u ≡ Some n → IsNext n plan.logged input
+  planned_next from said at n there =
+      let same : m ≡ n = same_Some m n (sym at ∙ there) in
+      rw (← same) (record {
+        room = is.room;
+        mark = ap (λ (r : Record). r.mark.index) plan_is.logged;
+        asked = (λ i. asking m.recovering ((ap (λ (r : Record). r.source) plan_is.logged ∙ from) i) ((ap (λ (r : Record). r.text) plan_is.logged ∙ said) i)) ∙ is.asked;
+      })

@@ -1,0 +1,286 @@
+-- What a tenant keeps, by lists.
+use Rattle.std.specs.Prelude.{◌≡◌, [], ◌∷◌, replicate, length, ◌++◌, ◌-◌, min, option_map, drop, map, slice_get, slice_set, ℕ, cond, nat_le, nat_lt, List, Option, Some, None, ◌+◌, take, ◌<◌, ◌^◌}
+use Rattle.std.specs.List.{fold, position}
+use Rattle.std.specs.Option.{is_some}
+use Rattle.handler.specs.Inputs.{Input}
+use Rattle.model.specs.declared.names.Mark.{Mark}
+use Rattle.model.specs.declared.names.Quota.{Quota}
+use Rattle.model.specs.declared.names.Row.{Row}
+use Rattle.model.specs.declared.names.Seat.{Seat}
+use Rattle.model.specs.declared.records.Record.{Record}
+use Rattle.model.specs.declared.refusals.Refusal.{Refusal}
+use Rattle.model.specs.declared.refusals.Refusal.TheVariants.{Down, Limit, NoUnit, Up}
+use Rattle.model.specs.Handler.{Meaning, Turn}
+use Rattle.model.specs.World.{incarnation_of}
+use Rattle.model.specs.declared.names.Source.{Source}
+use Rattle.model.specs.declared.names.Source.TheVariants.{Unit as FromUnit}
+use Rattle.model.specs.declared.replies.Reply.{Reply}
+use Rattle.model.specs.declared.replies.Reply.TheVariants.{Accepted}
+use Rattle.model.specs.Lists.{numbers_from}
+use Rattle.model.specs.Nodes.{sends_within}
+use Rattle.model.specs.Steps.{kind_or_0}
+use Rattle.session.specs.Counts.{Counts, advanced}
+use Rattle.output_commit.specs.declared.held.Held.{Held}
+use Rattle.output_commit.specs.Holds.{Line, below, held_of}
+use Rattle.checkpoint.specs.declared.snapshot.Snapshot.{Snapshot}
+use Rattle.checkpoint.specs.Shelves.{nearest_of}
+use Rattle.orphan.specs.Tests.{is_orphan_by}
+use Rattle.compact.specs.Compact.{Letter, Progress, Content}
+use Rattle.rollback.specs.Units.{Recovering, begun_unit, checkpointed, cut_behind, killed, marked_stable, places, restored, stable_places, widened_to, asking, took}
+use Rattle.unit_steps.specs.Receipts.{IsFrontier, frontier_of, Known, letter_refused, mark_upon, turn_refused, vector_upon}
+use Rattle.compact.specs.Steps.{Receipt, letters_by}
+
+-- One unit: what it needs to go on and to go back, its held outputs, and how many rows it knows.
+pub record Member (S : Type 0) : Type 0 where
+  pub recovering : Recovering S
+  pub unit : ℕ
+  pub outputs : List Held
+  pub known : ℕ
+
+-- An open tenant. For each unit it keeps how many of its intervals are stable and how many are firm, and what it released.
+pub record Kept (S : Type 0) : Type 0 where
+  pub quota : Quota
+  pub optimism : ℕ
+  pub table : List Row
+  pub members : List (Member S)
+  pub stable_lengths : List ℕ
+  pub frontiers : List ℕ
+  pub released : List (List (List ℕ))
+  pub letters : List Letter
+
+-- ---- a unit that is there and up
+
+-- why a unit can't do what only a unit that is up can
+abbrev pub up_refusal : {S : Type 0} → Option (Member S) → Option Refusal
+up_refusal None = Some NoUnit
+up_refusal (Some m) = cond (is_some m.recovering.progress) None (Some Down)
+
+-- ---- release
+
+-- what the units released
+abbrev pub released_of : List Line → List (List (List ℕ))
+released_of lines = map (λ l. l.texts) lines
+
+-- the texts of the outputs at the front that are of the first so many intervals
+abbrev pub firm_texts : List Held → ℕ → List (List ℕ)
+firm_texts outputs frontier = map (λ o. o.text) (below outputs frontier)
+
+-- and the outputs behind them
+abbrev pub unfirm : List Held → ℕ → List Held
+unfirm outputs frontier = drop (length (below outputs frontier)) outputs
+
+-- Some of a unit's firm outputs moved to what it released. As many firm outputs are left of them together.
+pub record AreMoved (frontier : ℕ) (outputs : List Held) (texts : List (List ℕ)) (left : List Held) (more : List (List ℕ)) : Type 0 where
+  pub all : more ++ firm_texts left frontier ≡ texts ++ firm_texts outputs frontier
+  pub rest : unfirm left frontier ≡ unfirm outputs frontier
+
+abbrev pub released_member : {S : Type 0} → Member S → ℕ → Member S
+released_member m frontier = record m { outputs = unfirm m.outputs frontier }
+
+-- the firm outputs of this unit left: the units then, and what they released
+abbrev pub with_firm_out : {S : Type 0} → List (Member S) → ℕ → Member S → ℕ → List (Member S)
+with_firm_out members u m frontier = slice_set members u (released_member m frontier)
+
+abbrev pub firm_of : {S : Type 0} → List (List (List ℕ)) → ℕ → Member S → ℕ → List (List ℕ) → List (List (List ℕ))
+firm_of released u m frontier texts = slice_set released u (texts ++ firm_texts m.outputs frontier)
+
+-- ---- kill
+
+-- the outputs of intervals below this index, which a path of more than 2^32 intervals would not have
+abbrev pub outputs_to : List Held → ℕ → List Held
+outputs_to outputs n = cond (nat_lt n 4294967296) (below outputs n) outputs
+
+abbrev pub killed_member : {S : Type 0} → Member S → Member S
+killed_member m = record m { recovering = killed m.recovering; outputs = outputs_to m.outputs (places (killed m.recovering)) }
+
+-- ---- checkpoint
+
+abbrev pub checkpointed_member : {S : Type 0} → Member S → Member S
+checkpointed_member m = record m { recovering = checkpointed m.recovering }
+
+-- ---- open
+
+-- a unit at its beginning, in a tenant of so many units, when there are so many rows
+abbrev pub begun_member : {S : Type 0} → Meaning S → ℕ → Seat → ℕ → Member S
+begun_member M width seat known = record { recovering = begun_unit M width seat; unit = seat.unit; outputs = []; known = known }
+
+-- one unit more, at its beginning
+abbrev pub with_begun : {S : Type 0} → Meaning S → ℕ → List (Member S) → ℕ → List (Member S)
+with_begun M width members kind = members ++ begun_member M width (record { unit = length members; kind = kind; home = width }) 0 ∷ []
+
+-- a tenant with units of these kinds, each at its beginning
+abbrev pub opened_kept : {S : Type 0} → Meaning S → List (List ℕ) → Quota → ℕ → Kept S
+opened_kept M kinds quota optimism = record {
+  quota = quota;
+  optimism = optimism;
+  table = [];
+  members = fold (λ ms n. with_begun M (length kinds) ms (kind_or_0 (M.kind n))) [] kinds;
+  stable_lengths = replicate (length kinds) 1;
+  frontiers = replicate (length kinds) 1;
+  released = replicate (length kinds) [];
+  letters = [];
+}
+
+-- ---- flush
+
+-- so many more of a unit's intervals are stable
+abbrev pub flushed_member : {S : Type 0} → Member S → ℕ → Member S
+flushed_member m count = record m { recovering = marked_stable m.recovering count }
+
+-- Each unit's frontier goes on as far as the vectors behind it are firm.
+abbrev pub GoOn : {S : Type 0} → List Row → List ℕ → List (Member S) → List ℕ → List ℕ → Type 0
+GoOn {S} table stable_lengths members before after =
+    (u : ℕ) (m : Member S) (f : ℕ) → slice_get members u ≡ Some m → slice_get before u ≡ Some f → IsFrontier (length stable_lengths) m.recovering f
+    → slice_get after u ≡ Some (frontier_of table stable_lengths m.recovering f)
+
+-- So many more intervals of the unit are stable, and the frontiers have gone on. All else is as it was.
+pub record IsFlushed {S : Type 0} (before : Kept S) (u count : ℕ) (m : Member S) (after : Kept S) : Type 0 where
+  pub quota : after.quota ≡ before.quota
+  pub optimism : after.optimism ≡ before.optimism
+  pub table : after.table ≡ before.table
+  pub members : after.members ≡ slice_set before.members u (flushed_member m count)
+  pub stable_lengths : after.stable_lengths ≡ slice_set before.stable_lengths u (stable_places (flushed_member m count).recovering)
+  pub fronts : length after.frontiers ≡ length before.frontiers
+  pub frontiers : GoOn before.table after.stable_lengths after.members before.frontiers after.frontiers
+  pub released : after.released ≡ before.released
+  pub letters : after.letters ≡ before.letters
+
+-- ---- join
+
+-- with an entry for each of n units in what it took and sent
+abbrev pub fitted_member : {S : Type 0} → ℕ → Member S → Member S
+fitted_member n m = record m { recovering = widened_to m.recovering n }
+
+-- so are the units from this place on
+abbrev pub fitted_from : {S : Type 0} → ℕ → List (Member S) → ℕ → List (Member S)
+fitted_from n members at = take at members ++ map (fitted_member n) (drop at members)
+
+-- one unit more, at its beginning, and the others fitted for it
+abbrev pub joined_kept : {S : Type 0} → Meaning S → Kept S → ℕ → Kept S
+joined_kept M t kind =
+    let width = length t.members + 1 in
+    record t {
+      members = map (fitted_member width) t.members ++ begun_member M width (record { unit = length t.members; kind = kind; home = width }) (length t.table) ∷ [];
+      stable_lengths = t.stable_lengths ++ 1 ∷ [];
+      frontiers = t.frontiers ++ 1 ∷ [];
+      released = t.released ++ [] ∷ [];
+    }
+
+-- ---- going back
+
+-- why a unit can't restart, whatever the store says
+abbrev pub restart_refusal : {S : Type 0} → List Row → ℕ → Option (Member S) → Option Refusal
+restart_refusal table u None = Some NoUnit
+restart_refusal table u (Some m) = cond (is_some m.recovering.progress) (Some Up) (cond (nat_le 65535 (incarnation_of table u)) (Some Limit) None)
+
+-- how many places of a path are kept, where this one is the first orphan, if there is one
+abbrev pub kept_before : Option ℕ → ℕ → ℕ
+kept_before None all = all
+kept_before (Some first) all = first
+
+-- how much of a path comes before its first orphan, by these rows
+abbrev pub kept_length : {S : Type 0} → List Row → Recovering S → ℕ
+kept_length rows r = kept_before (option_map (λ i. r.base + i) (position (λ x. is_orphan_by rows x.vector) r.intervals)) (places r)
+
+-- up to the target, with this progress
+abbrev pub returned : {S : Type 0} → Recovering S → ℕ → Option (Progress S) → Recovering S
+returned r target progress = record (cut_behind r target) { progress = progress }
+
+abbrev pub returned_member : {S : Type 0} → Member S → ℕ → Option (Progress S) → ℕ → Member S
+returned_member m target progress known = record m { recovering = returned m.recovering target progress; outputs = outputs_to m.outputs (target + 1); known = known }
+
+-- with the unit gone back to the target, and a row that says so
+abbrev pub gone_back : {S : Type 0} → Kept S → ℕ → Member S → ℕ → ℕ → Option (Progress S) → Kept S
+gone_back t u m target incarnation progress = record t {
+  table = t.table ++ record { unit = u; incarnation = incarnation; start = target + 1 } ∷ [];
+  members = slice_set t.members u (returned_member m target progress (length t.table + 1));
+  stable_lengths = slice_set t.stable_lengths u (stable_places (returned m.recovering target progress));
+}
+
+-- these records are those at these positions of a unit's live ones
+abbrev pub AreFetched : List (Option Record) → List ℕ → ℕ → ℕ → List Record → Type 0
+AreFetched records places first last fetched = map (λ r. Some (Some r)) fetched ≡ map (slice_get records) (take (last - first) (drop first places))
+
+-- how many records of a unit are live: those of its stable intervals behind the base
+abbrev pub live_count : {S : Type 0} → Recovering S → ℕ
+live_count r = stable_places r - 1 - r.base
+
+-- These are the stable records behind the snapshot from which the unit goes back to the target.
+abbrev pub AreNeeded : {S : Type 0} → List (Option Record) → List ℕ → Recovering S → ℕ → List Record → Type 0
+AreNeeded {S} records live r target fetched =
+    (s : Snapshot (Progress S)) → nearest_of r.shelf target ≡ Some s → AreFetched records (drop (length live - live_count r) live) (s.index - r.base) (min (target + 1) (stable_places r) - 1 - r.base) fetched
+
+-- the progress at the target is what replay of those records gives
+abbrev pub IsReplayed : {S : Type 0} → Meaning S → List (Option Record) → List ℕ → Recovering S → ℕ → ℕ → Option (Progress S) → Type 0
+IsReplayed M records live r target width progress = (fetched : List Record) × AreNeeded records live r target fetched × (progress ≡ (restored M r target width fetched).progress)
+
+-- ---- receipts
+
+-- a unit's held outputs, in order
+pub record Waits : Type 0 where
+  pub unit : ℕ
+  pub outputs : List Held
+
+-- The unit's turn upon this text has this input, and no test before the turn refuses the receipt.
+pub record IsAsking {S : Type 0} (refusal : Option Refusal) (r : Recovering S) (source : Source) (text : List ℕ) (input : Input S) : Type 0 where
+  pub passes : refusal ≡ None
+  pub room : places r < 2 ^ 32
+  pub asked : asking r source text ≡ Some input
+
+-- what the tenant tells a unit of its table and its other units
+abbrev pub known_of : {S : Type 0} → Kept S → Member S → Known
+known_of t m = record { table = t.table; rows = m.known; stable_lengths = t.stable_lengths }
+
+-- why a letter is refused before its turn
+abbrev pub letter_refusal_of : {S : Type 0} → Kept S → Member S → Letter → Option Refusal
+letter_refusal_of t m c = letter_refused (known_of t m) t.optimism t.quota.volatile m.recovering c.source c.number c.content
+
+-- The letter has a content, upon whose text its receiver's turn has this input, and no test before the turn refuses it.
+abbrev pub IsAskingBy : {S : Type 0} → Kept S → Member S → Letter → Option Content → Input S → Type 0
+IsAskingBy t m c None input = ⊥
+IsAskingBy t m c (Some content) input = IsAsking (letter_refusal_of t m c) m.recovering (FromUnit c.source) content.text input
+
+-- the mark, the vector and the record of the interval that a receipt makes
+abbrev pub next_mark_of : {S : Type 0} → Kept S → ℕ → Member S → Mark
+next_mark_of t u m = mark_upon t.table u m.recovering
+
+abbrev pub next_vector_of : {S : Type 0} → Kept S → ℕ → Member S → Receipt → List Mark
+next_vector_of t u m q = vector_upon t.table (length t.members) u m.recovering q.vector
+
+abbrev pub next_record_of : {S : Type 0} → List ℕ → Kept S → ℕ → Member S → Receipt → Record
+next_record_of name t u m q = record {
+  tenant = name;
+  unit = u;
+  mark = next_mark_of t u m;
+  source = q.source;
+  letter = q.letter;
+  number = q.number;
+  text = q.text;
+  vector = next_vector_of t u m q;
+}
+
+-- the letters that its turn makes, where the unit's sessions were these before
+abbrev pub next_letters_of : {S : Type 0} → Kept S → ℕ → Member S → Receipt → Turn S → Counts → List Letter
+next_letters_of t u m q turn sessions = letters_by u (next_vector_of t u m q) (advanced sessions q.source) (sends_within (length t.members) turn)
+
+-- and what it is answered
+abbrev pub next_reply_of : {S : Type 0} → Kept S → ℕ → Member S → Turn S → Reply
+next_reply_of t u m turn = Accepted (next_mark_of t u m) (length m.outputs + length turn.outputs) (numbers_from (length t.letters) (length (sends_within (length t.members) turn)))
+
+-- why it is refused for what its turn makes
+abbrev pub turn_refusal_of : {S : Type 0} → Kept S → Member S → Turn S → Option Refusal
+turn_refusal_of t m turn = turn_refused t.quota (length m.outputs) (length t.letters) (length t.members) turn
+
+-- a unit with one more interval, which has this record and these outputs
+abbrev pub received_member : {S : Type 0} → Meaning S → Member S → Record → List (List ℕ) → Member S
+received_member M m r outputs = record m { recovering = took M m.recovering r; outputs = m.outputs ++ held_of r.mark outputs }
+
+-- the tenant with such a unit, and with these letters
+abbrev pub received_kept : {S : Type 0} → Meaning S → Kept S → ℕ → Member S → Record → List (List ℕ) → List Letter → Kept S
+received_kept M t u m r outputs made = record t { members = slice_set t.members u (received_member M m r outputs); letters = t.letters ++ made }
+
+-- The record is of the unit's next interval, whose turn has this input.
+pub record IsNext {S : Type 0} (m : Member S) (r : Record) (input : Input S) : Type 0 where
+  pub room : places m.recovering < 2 ^ 32
+  pub mark : r.mark.index ≡ places m.recovering
+  pub asked : asking m.recovering r.source r.text ≡ Some input

@@ -1,0 +1,164 @@
+//! The step `deliver`.
+
+ghost use Rattle.std.specs.Prelude.{◌≡◌, ◌<◌, ◌^◌, ℕ, List, IfNone, IfOk, MatchOption, None, OnErr, Some, is_some, length, slice_get, true};
+ghost use Rattle.model.specs.declared.records.Record.{Record as RecordOf};
+ghost use Rattle.model.specs.Steps.{deliver as deliver_of};
+ghost use Rattle.model.specs.World.{World};
+ghost use Rattle.compact.specs.Compact.{Letter as LetterOf};
+ghost use Rattle.rollback.specs.Units.{places};
+ghost use Rattle.unit_steps.specs.Receipts.{IsWithin};
+ghost use Rattle.tenant.specs.Kept.{IsAskingBy, Member as MemberOf, letter_refusal_of};
+ghost use Rattle.tenant.specs.Needs.{IsAsked, deliver_needs};
+ghost use Rattle.tenant.specs.Outcomes.{IsPlain};
+ghost use Rattle.tenant.specs.Represents.{DoesAs, StandsFor};
+
+use crate::answer::Answer;
+use crate::member::Member;
+use crate::receipts::{Arrival, ask_upon};
+use crate::tenant::Tenant;
+use handler::{Ask, Done, Handler};
+use model::{Letter, NoMemory, Refusal, Source, TenantName};
+use std::alloc::Global;
+use unit_steps::{Known, SentLetter, letter_refusal};
+
+impl<H: Handler> Tenant<H> {
+    /// The letter of this number.
+    fn letter(&self, letter: Letter) -> Option<&SentLetter>
+        ensures { MatchOption result (slice_get self.now.letters letter ≡ None) (λ l. slice_get self.now.letters letter ≡ Some l.now) }
+    {
+        self.letters.get(letter.number() as usize)
+    }
+
+    /// Why a letter is refused before its turn.
+    fn letter_refusal(&self, member: &Member<H>, sent: &SentLetter) -> Option<Refusal>
+        ensures refusal { IsWithin (length self.now.stable_lengths) sent.now.content → result ≡ letter_refusal_of self.now member.now sent.now }
+        ensures within { IfNone result (IsWithin (length self.now.stable_lengths) sent.now.content) }
+        ensures content { IfNone result (is_some sent.now.content ≡ true) }
+        ensures room { IfNone result (places member.now.recovering < 2 ^ 32) }
+    {
+        let known = Known {
+            table: &self.table,
+            rows: member.known(),
+            stable_lengths: self.stable_lengths.as_slice(),
+        };
+        letter_refusal(
+            &known,
+            self.optimism,
+            self.quota.volatile,
+            member.recovering(),
+            sent,
+        )
+    }
+
+    /// The turn that a delivery needs, or why it needs none.
+    pub(crate) fn ask_letter(
+        &self,
+        alloc: Global,
+        handler: &H,
+        letter: Letter,
+    ) -> Result<Result<Ask<H>, Refusal>, NoMemory>
+        ensures asked { IfOk result (λ r. (name : List ℕ) (live : ℕ → List ℕ) (w : World) (log : List RecordOf) → StandsFor H.meaning name live self.now w log → IsAsked (deliver_needs H.meaning w letter) (deliver_of H.meaning w letter) w r) }
+        ensures input { IfOk result (λ r. IfOk r (λ input. (c : LetterOf) (m : MemberOf H.State) → slice_get self.now.letters letter ≡ Some c → slice_get self.now.members c.receiver ≡ Some m → IsAskingBy self.now m c c.content input)) }
+    {
+        let sent = match self.letter(letter) {
+            Some(sent) => sent,
+            None => {
+                return Ok(Err(Refusal::NoLetter));
+            }
+        };
+        let member = match self.member(sent.receiver) {
+            Some(member) => member,
+            None => {
+                return Ok(Err(Refusal::NoUnit));
+            }
+        };
+        match self.letter_refusal(member, sent) {
+            Some(refusal) => return Ok(Err(refusal)),
+            None => {}
+        }
+        let content = match &sent.content {
+            Some(content) => content,
+            // One that is forgotten is refused before.
+            None => {
+                return Ok(Err(Refusal::Repeat));
+            }
+        };
+        let source = Source::Unit(sent.source);
+        let asked = ask_upon(alloc, handler, member, source, &content.text)?;
+        Ok(asked)
+    }
+
+    /// A unit receives a letter, by the turn that this needs.
+    pub(crate) fn take_letter(
+        &mut self,
+        alloc: Global,
+        name: &TenantName,
+        letter: Letter,
+        worked: Done<H>,
+    ) -> Result<Answer, NoMemory>
+        requires { (c : LetterOf) (m : MemberOf H.State) → slice_get self.old.letters letter ≡ Some c → slice_get self.old.members c.receiver ≡ Some m → IsAskingBy self.old m c c.content worked.input }
+        ensures done { IfOk result (λ a. DoesAs H.meaning name.now (λ w. deliver_of H.meaning w letter) self.old a.reply self.new) }
+        ensures plain { IfOk result IsPlain }
+        ensures err { OnErr result (self.new ≡ self.old) }
+    {
+        let sent = match self.letter(letter) {
+            Some(sent) => sent,
+            None => {
+                return Ok(Answer::refused(Refusal::NoLetter));
+            }
+        };
+        let unit = sent.receiver;
+        let member = match self.member(unit) {
+            Some(member) => member,
+            None => {
+                return Ok(Answer::refused(Refusal::NoUnit));
+            }
+        };
+        let content = match &sent.content {
+            Some(content) => content,
+            // One that is forgotten needs no turn.
+            None => {
+                return Ok(Answer::refused(Refusal::Repeat));
+            }
+        };
+        let arrival = Arrival {
+            source: Source::Unit(sent.source),
+            letter: Some(letter),
+            number: sent.number,
+            text: &content.text,
+            vector: &content.vector,
+        };
+        match self.planned(alloc, name, unit, member, &arrival, worked.turn())? {
+            Err(refusal) => Ok(Answer::refused(refusal)),
+            Ok(plan) => {
+                let answer = self.enter(unit, plan, worked)?;
+                Ok(answer)
+            }
+        }
+    }
+
+    /// A unit receives a letter.
+    ///
+    /// # Errors
+    ///
+    /// `NoMemory` where the turn or what the receipt adds finds no memory; the tenant stays as it was.
+    pub(crate) fn deliver(
+        &mut self,
+        alloc: Global,
+        handler: &H,
+        name: &TenantName,
+        letter: Letter,
+    ) -> Result<Answer, NoMemory>
+        ensures done { IfOk result (λ a. DoesAs H.meaning name.now (λ w. deliver_of H.meaning w letter) self.old a.reply self.new) }
+        ensures plain { IfOk result IsPlain }
+        ensures err { OnErr result (self.new ≡ self.old) }
+    {
+        match self.ask_letter(alloc, handler, letter)? {
+            Err(refusal) => Ok(Answer::refused(refusal)),
+            Ok(ask) => {
+                let worked = ask.work(alloc, handler)?;
+                self.take_letter(alloc, name, letter, worked)
+            }
+        }
+    }
+}

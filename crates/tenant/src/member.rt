@@ -1,0 +1,349 @@
+//! One unit of a tenant.
+
+ghost use Rattle.std.specs.Prelude.{◌≡◌, ◌≢◌, ◌++◌, ◌+◌, ◌-◌, ◌<◌, ◌≤◌, ℕ, IfOk, IfSome, OnErr, Some, min, length, option_map, slice_index};
+ghost use Rattle.std.specs.Option.{is_some};
+ghost use Rattle.output_commit.specs.Holds.{room_of, texts_of};
+ghost use Rattle.compact.specs.Compact.{Unit as UnitOf};
+ghost use Rattle.compact.specs.Steps.{last_mark as last_mark_of};
+ghost use Rattle.checkpoint.specs.declared.snapshot.Snapshot.{Snapshot as SnapshotOf};
+ghost use Rattle.checkpoint.specs.Shelves.{nearest_of};
+ghost use Rattle.compact.specs.Compact.{Progress as ProgressOf};
+ghost use Rattle.rollback.specs.Units.{IsKept, IsTarget, OrphansAreTail, places, restored, stable_places};
+ghost use Rattle.session.specs.Counts.{widened};
+ghost use Rattle.rollback_laws.specs.Seen.{IsSeen};
+ghost use Rattle.tenant.specs.Kept.{begun_member, checkpointed_member, firm_texts, flushed_member, killed_member, outputs_to, released_member, fitted_member, kept_length, live_count, returned_member, IsNext, received_member};
+
+use crate::waiting::Waiting;
+use handler::{Done, Handler};
+use incarnation::StartTable;
+use model::{Mark, NoMemory, Record, Seat, Text, Unit};
+use output_commit::Outlet;
+use rollback::{Progress, RecoveryUnit};
+use session::Sessions;
+use std::alloc::Global;
+use std::marker::Model;
+
+/// What it needs to go on and to go back, its held outputs, and how many rows of the table it knows.
+#[derive(Drop)]
+pub struct Member<H: Handler> {
+    recovering: RecoveryUnit<H>,
+    unit: Unit,
+    hold: Waiting,
+    known: usize,
+}
+
+impl<H: Handler> Model for Member<H> {
+    ghost use Rattle.std.specs.Prelude.{◌≡◌};
+    ghost use Rattle.tenant.specs.Kept.{Member as MemberOf};
+
+    ghost Value = { MemberOf H.State };
+
+    ghost view = { λ m. record { recovering = m.recovering; unit = m.unit; outputs = m.hold.outputs; known = m.known } };
+
+    ghost invariant = { λ m. m.hold.unit ≡ m.unit };
+}
+
+/// Gives up the outputs that are not of the first so many intervals.
+fn cut_hold(hold: &mut Waiting, places: u64)
+    ensures unit { hold.new.unit ≡ hold.old.unit }
+    ensures outputs { hold.new.outputs ≡ outputs_to hold.old.outputs places }
+{
+    if places < 4_294_967_296 {
+        hold.cut(places as u32);
+    }
+}
+
+impl<H: Handler> Member<H> {
+    /// A unit at its beginning, in a tenant of `width` units, which knows so many rows.
+    ///
+    /// # Errors
+    ///
+    /// `NoMemory` where what it keeps finds no memory.
+    pub(crate) fn begin(
+        alloc: Global,
+        handler: &H,
+        seat: Seat,
+        width: usize,
+        known: usize,
+    ) -> Result<Member<H>, NoMemory>
+        requires { width ≤ 256 }
+        ensures { IfOk result (λ m. m ≡ begun_member H.meaning width seat known) }
+    {
+        let unit = seat.unit;
+        let hold = Waiting::new(alloc, unit);
+        let recovering = RecoveryUnit::begin(alloc, handler, seat, width)?;
+        Ok(Member {
+            recovering,
+            unit,
+            hold,
+            known,
+        })
+    }
+
+    /// What it needs to go on and to go back.
+    pub(crate) fn recovering(&self) -> &RecoveryUnit<H>
+        ensures { result.now ≡ self.now.recovering }
+    {
+        &self.recovering
+    }
+
+    /// Whether the unit is up.
+    pub(crate) fn is_up(&self) -> bool
+        ensures { result ≡ is_some self.now.recovering.progress }
+    {
+        self.recovering.is_up()
+    }
+
+    /// Which unit it is.
+    pub(crate) fn unit(&self) -> Unit
+        ensures { result ≡ self.now.unit }
+    {
+        self.unit
+    }
+
+    /// Its seat.
+    pub(crate) fn seat(&self) -> Seat
+        ensures { result ≡ self.now.recovering.seat }
+    {
+        self.recovering.seat()
+    }
+
+    /// How many outputs are held.
+    pub(crate) fn held_count(&self) -> usize
+        ensures { result ≡ length self.now.outputs }
+    {
+        self.hold.len()
+    }
+
+    /// How many rows the unit knows.
+    pub(crate) fn known(&self) -> usize
+        ensures { result ≡ self.now.known }
+    {
+        self.known
+    }
+
+    /// How many receipts of its path were from outside.
+    pub(crate) fn outside(&self) -> u64
+        ensures { result ≡ self.now.recovering.outside }
+    {
+        self.recovering.outside()
+    }
+
+    /// How many of its intervals are not stable.
+    pub(crate) fn volatile_count(&self) -> usize
+        ensures { result ≡ length self.now.recovering.volatile }
+    {
+        self.recovering.volatile_count()
+    }
+
+    /// How many are.
+    pub(crate) fn stable_count(&self) -> u64
+        ensures { result ≡ stable_places self.now.recovering }
+    {
+        let volatile = self.recovering.volatile_count() as u64;
+        self.recovering.places().saturating_sub(volatile)
+    }
+
+    /// The mark of its last interval.
+    pub(crate) fn last_mark(&self, unit: Unit) -> Mark
+        ensures { (x : UnitOf H.State) → IsKept self.now.recovering → IsSeen self.now.recovering x → result ≡ last_mark_of unit x }
+    {
+        let index = self.recovering.last_index();
+        let interval = self.recovering.interval(index);
+        interval.vector.get(unit)
+    }
+
+    /// Takes a receipt: its interval with its record, the turn that was worked for it, and the outputs of the turn.
+    ///
+    /// # Errors
+    ///
+    /// `NoMemory` where it finds no memory or can't be counted; the unit stays as it was.
+    pub(crate) fn receive(
+        &mut self,
+        logged: Record,
+        outputs: Vec<Text>,
+        worked: Done<H>,
+    ) -> Result<(), NoMemory>
+        requires few { length logged.vector ≤ 256 }
+        requires next { IsNext self.old logged worked.input }
+        ensures ok { IfOk result (λ _. self.new ≡ received_member H.meaning self.old logged outputs.items) }
+        ensures err { OnErr result (self.new ≡ self.old) }
+    {
+        let mark = logged.mark;
+        self.hold.add(mark, outputs)?;
+        match self.recovering.take(logged, worked) {
+            Ok(_) => Ok(()),
+            Err(NoMemory) => {
+                self.hold.cut(mark.index);
+                Err(NoMemory)
+            }
+        }
+    }
+
+    /// The unit fails: what is not stable is gone. Tells how many intervals were lost.
+    pub(crate) fn kill(&mut self) -> u64
+        ensures lost { result ≡ length self.old.recovering.volatile }
+        ensures member { self.new ≡ killed_member self.old }
+    {
+        let lost = self.recovering.kill();
+        let places = self.recovering.places();
+        cut_hold(&mut self.hold, places);
+        lost
+    }
+
+    /// Shelves a snapshot of the last interval, which is stable.
+    ///
+    /// # Errors
+    ///
+    /// `NoMemory` where the snapshot finds no memory; the unit stays as it was.
+    pub(crate) fn checkpoint(&mut self, alloc: Global, handler: &H) -> Result<(), NoMemory>
+        requires { length self.old.recovering.volatile ≡ 0 }
+        ensures ok { IfOk result (λ _. self.new ≡ checkpointed_member self.old) }
+        ensures err { OnErr result (self.new ≡ self.old) }
+    {
+        self.recovering.checkpoint(alloc, handler)?;
+        Ok(())
+    }
+
+    /// What it took and sent with entries for `n` units, where it is up.
+    pub(crate) fn widened_sessions(&self, n: usize) -> Result<Option<Sessions>, NoMemory>
+        ensures { IfOk result (λ sessions. sessions ≡ option_map (λ p. widened p.sessions n) self.now.recovering.progress) }
+    {
+        self.recovering.widened_sessions(n)
+    }
+
+    /// Adds the entries that `widened_sessions` made. Takes no memory.
+    pub(crate) fn fit(&mut self, sessions: Option<Sessions>)
+        ensures { (n : ℕ) → sessions ≡ option_map (λ p. widened p.sessions n) self.old.recovering.progress → self.new ≡ fitted_member n self.old }
+    {
+        self.recovering.fit(sessions);
+    }
+
+    /// Copies of the texts of the outputs at the front that are of the first so many intervals.
+    pub(crate) fn firm_texts(&self, alloc: Global, frontier: u64) -> Result<Vec<Text>, NoMemory>
+        ensures { IfOk result (λ texts. texts.items ≡ firm_texts self.now.outputs frontier) }
+    {
+        self.hold.copy_firm(alloc, frontier)
+    }
+
+    /// Lets the firm outputs at the front out, for which the outlet has room.
+    pub(crate) fn release(&mut self, outlet: &mut Outlet, frontiers: &[u64])
+        requires front { self.old.unit < length frontiers.now }
+        requires line { self.old.unit < length outlet.old }
+        requires room { length self.old.outputs ≤ room_of outlet.old self.old.unit }
+        ensures member { self.new ≡ released_member self.old (slice_index frontiers.now self.old.unit) }
+        ensures texts { texts_of outlet.new self.old.unit ≡ texts_of outlet.old self.old.unit ++ firm_texts self.old.outputs (slice_index frontiers.now self.old.unit) }
+        ensures others { (u : ℕ) → u ≢ self.old.unit → texts_of outlet.new u ≡ texts_of outlet.old u }
+        ensures len { length outlet.new ≡ length outlet.old }
+    {
+        self.hold.release(outlet, frontiers);
+    }
+
+    /// So many more of its intervals are stable. Takes no memory.
+    pub(crate) fn mark_stable(&mut self, count: usize)
+        requires { count ≤ length self.old.recovering.volatile }
+        ensures { self.new ≡ flushed_member self.old count }
+    {
+        self.recovering.mark_stable(count);
+    }
+
+    /// The index of its last interval.
+    pub(crate) fn last_index(&self) -> u32
+        ensures { result + 1 ≡ places self.now.recovering }
+    {
+        self.recovering.last_index()
+    }
+
+    /// The index of the last interval before its first orphan, by all rows. None is left that is kept where the first
+    /// orphan is the base, which is firm and so no orphan.
+    pub(crate) fn last_kept(&self, table: &StartTable) -> Option<u32>
+        ensures target { IfSome result (λ t. IsTarget self.now.recovering t) }
+        ensures kept { IfSome result (λ t. OrphansAreTail table.now self.now.recovering.intervals → t + 1 ≡ kept_length table.now self.now.recovering) }
+    {
+        match self.recovering.first_orphan(table) {
+            None => Some(self.recovering.last_index()),
+            Some(first) => {
+                if self.recovering.base() < first {
+                    Some(first - 1)
+                } else {
+                    None
+                }
+            }
+        }
+    }
+
+    /// The first position among its live records that it needs to go back to the target, and the position behind the
+    /// last.
+    pub(crate) fn needed(&self, target: u32) -> (usize, usize)
+        ensures first { (s : SnapshotOf (ProgressOf H.State)) → nearest_of self.now.recovering.shelf target ≡ Some s → result.0 ≡ s.index - self.now.recovering.base }
+        ensures last { result.1 ≡ min (target + 1) (stable_places self.now.recovering) - 1 - self.now.recovering.base }
+    {
+        let base = self.recovering.base();
+        let from = match self.recovering.restart_index(target) {
+            Some(index) => index,
+            None => base,
+        };
+        let kept = (u64::from(target) + 1).min(self.stable_count());
+        let last = kept.saturating_sub(1).saturating_sub(u64::from(base));
+        (from.saturating_sub(base) as usize, last as usize)
+    }
+
+    /// How many of its live records stand up to the target.
+    pub(crate) fn positions_to(&self, target: u32) -> usize
+        ensures { result ≡ target - self.now.recovering.base }
+    {
+        target.saturating_sub(self.recovering.base()) as usize
+    }
+
+    /// How many of its records are live: those of its stable intervals behind the base.
+    pub(crate) fn live_count(&self) -> usize
+        ensures { result ≡ live_count self.now.recovering }
+    {
+        let stable = self.stable_count().saturating_sub(1);
+        stable.saturating_sub(u64::from(self.recovering.base())) as usize
+    }
+
+    /// Its progress at the target, by replay of these records and then of its own volatile ones.
+    ///
+    /// # Errors
+    ///
+    /// `NoMemory` where the replay finds no memory.
+    pub(crate) fn rebuilt(
+        &self,
+        alloc: Global,
+        handler: &H,
+        target: u32,
+        width: usize,
+        records: &[Record],
+    ) -> Result<Option<Progress<H::State>>, NoMemory>
+        requires { IsTarget self.now.recovering target }
+        ensures { IfOk result (λ p. p ≡ (restored H.meaning self.now.recovering target width records.now).progress) }
+    {
+        let progress = self
+            .recovering
+            .rebuilt(alloc, handler, target, width, records)?;
+        Ok(progress)
+    }
+
+    /// It goes back to the target with this progress, and knows so many rows. Takes no memory.
+    pub(crate) fn return_to(
+        &mut self,
+        target: u32,
+        progress: Option<Progress<H::State>>,
+        known: usize,
+    )
+        requires { IsTarget self.old.recovering target }
+        ensures { self.new ≡ returned_member self.old target progress known }
+    {
+        self.recovering.return_to(target, progress);
+        cut_hold(&mut self.hold, u64::from(target) + 1);
+        self.known = known;
+    }
+
+    /// It knows so many rows.
+    pub(crate) fn learn(&mut self, known: usize)
+        ensures { self.new ≡ record self.old { known = known } }
+    {
+        self.known = known;
+    }
+}

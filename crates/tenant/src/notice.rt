@@ -1,0 +1,86 @@
+//! The step `notice`.
+
+ghost use Rattle.std.specs.Prelude.{◌≡◌, ◌<◌, IfOk, OnErr, List, ℕ, Some, ◌+◌, false, bytes_eq, length, nat_le, slice_get, slice_set};
+ghost use Rattle.rollback.specs.Units.{places};
+ghost use Rattle.model.specs.World.{World};
+ghost use Rattle.model.specs.declared.steps.TenantStep.TheVariants.{Notice};
+ghost use Rattle.tenant.specs.Kept.{Kept, Member as MemberOf};
+ghost use Rattle.tenant.specs.Stands.{Did, Stands};
+
+use crate::answer::Answer;
+use crate::member::Member;
+use crate::tenant::Tenant;
+use handler::Handler;
+use model::{NoMemory, Refusal, Reply, TenantName, Unit};
+use shared_log::{SharedLog, Store};
+use std::alloc::Global;
+
+/// The unit at this place knows so many rows.
+fn learn<H: Handler>(members: &mut Vec<Member<H>>, at: usize, known: usize)
+    requires { at < length members.old.items }
+    ensures { (m : MemberOf H.State) → slice_get members.old.items at ≡ Some m → members.new.items ≡ slice_set members.old.items at (record m { known = known }) }
+{
+    let member = &mut members[at];
+    member.learn(known);
+}
+
+impl<H: Handler> Tenant<H> {
+    /// The unit, which is there, knows all rows.
+    fn learn_rows(&mut self, unit: Unit)
+        requires { unit < length self.old.members }
+        ensures { (m : MemberOf H.State) → slice_get self.old.members unit ≡ Some m → self.new ≡ record self.old { members = slice_set self.old.members unit (record m { known = length self.old.table }) } }
+    {
+        let known = self.table.len();
+        learn(&mut self.members, usize::from(unit.number()), known);
+    }
+
+    /// Whether no interval of the unit, which is there, is behind this index.
+    fn is_last(&self, unit: Unit, index: u32) -> bool
+        requires { unit < length self.now.members }
+        ensures { (m : MemberOf H.State) → slice_get self.now.members unit ≡ Some m → result ≡ nat_le (places m.recovering) (index + 1) }
+    {
+        let member = self.member_there(unit);
+        member.last_index() <= index
+    }
+
+    /// A unit that is up learns the rows, and goes back where its path has an orphan. Only then is the store asked; a
+    /// device that failed is answered `store`, with nothing changed.
+    ///
+    /// # Errors
+    ///
+    /// `NoMemory` where records or replay find no memory; the tenant and the records of the log stay as they were.
+    pub(crate) fn notice<S: Store>(
+        &mut self,
+        alloc: Global,
+        handler: &H,
+        tenant: &TenantName,
+        unit: Unit,
+        log: &mut SharedLog<S>,
+    ) -> Result<Answer, NoMemory>
+        ensures kept { IfOk result (λ a. a.kept ≡ a.reply) }
+        ensures did { IfOk result (λ a. (w : World) → Stands H.meaning tenant.now self.old w log.old.records → Did H.meaning tenant.now w self.new (Notice unit) a.said a.reply log.old log.new) }
+        // What other tenants stand for stays.
+        ensures others { (k : Kept H.State) (w : World) (other : List ℕ) → bytes_eq other tenant.now ≡ false → Stands H.meaning other k w log.old.records → Stands H.meaning other k w log.new.records }
+        ensures err { OnErr result (self.new ≡ self.old) }
+        ensures err_log { OnErr result (log.new.records ≡ log.old.records) }
+    {
+        match self.up_member(unit) {
+            Ok(_) => {}
+            Err(refusal) => return Ok(Answer::refused(refusal)),
+        }
+        let target = match self.last_kept(unit) {
+            Some(target) => target,
+            None => return Err(NoMemory),
+        };
+        if self.is_last(unit, target) {
+            self.learn_rows(unit);
+            return Ok(Answer::twice(Reply::Noticed { row: None }, Reply::Noticed { row: None }));
+        }
+        if self.is_worn_out(unit) {
+            return Ok(Answer::refused(Refusal::Limit));
+        }
+        let row = Some(self.start_behind(unit, target));
+        let reply = Reply::Noticed { row };
+        self.return_to(alloc, handler, tenant, unit, target, reply, log)
+    }
+}

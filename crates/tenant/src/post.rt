@@ -1,0 +1,119 @@
+//! The step `post`.
+
+ghost use Rattle.std.specs.Prelude.{◌≡◌, ℕ, List, IfOk, OnErr, Some, slice_get};
+ghost use Rattle.model.specs.declared.names.Source.TheVariants.{Outside};
+ghost use Rattle.model.specs.declared.records.Record.{Record as RecordOf};
+ghost use Rattle.model.specs.Steps.{post as post_of};
+ghost use Rattle.model.specs.World.{World};
+ghost use Rattle.unit_steps.specs.Receipts.{post_refused};
+ghost use Rattle.tenant.specs.Kept.{IsAsking, Member as MemberOf};
+ghost use Rattle.tenant.specs.Needs.{IsAsked, post_needs};
+ghost use Rattle.tenant.specs.Outcomes.{IsPlain};
+ghost use Rattle.tenant.specs.Represents.{DoesAs, StandsFor};
+
+use crate::answer::Answer;
+use crate::receipts::{Arrival, ask_upon};
+use crate::tenant::Tenant;
+use depvector::DepVector;
+use handler::{Ask, Done, Handler};
+use model::{NoMemory, Refusal, Source, TenantName, Text, Unit};
+use std::alloc::Global;
+use unit_steps::post_refusal;
+
+impl<H: Handler> Tenant<H> {
+    /// The turn that a post needs, or why it needs none.
+    pub(crate) fn ask_post(
+        &self,
+        alloc: Global,
+        handler: &H,
+        unit: Unit,
+        number: u32,
+        text: &Text,
+    ) -> Result<Result<Ask<H>, Refusal>, NoMemory>
+        ensures asked { IfOk result (λ r. (name : List ℕ) (live : ℕ → List ℕ) (w : World) (log : List RecordOf) → StandsFor H.meaning name live self.now w log → IsAsked (post_needs H.meaning w unit number text.now) (post_of H.meaning w unit number text.now) w r) }
+        ensures input { IfOk result (λ r. IfOk r (λ input. (m : MemberOf H.State) → slice_get self.now.members unit ≡ Some m → IsAsking (post_refused self.now.quota.volatile m.recovering number text.now) m.recovering Outside text.now input)) }
+    {
+        let member = match self.member(unit) {
+            Some(member) => member,
+            None => {
+                return Ok(Err(Refusal::NoUnit));
+            }
+        };
+        match post_refusal(
+            self.quota.volatile,
+            member.recovering(),
+            u64::from(number),
+            text,
+        ) {
+            Some(refusal) => return Ok(Err(refusal)),
+            None => {}
+        }
+        let asked = ask_upon(alloc, handler, member, Source::Outside, text)?;
+        Ok(asked)
+    }
+
+    /// A unit receives a text from outside, by the turn that this needs.
+    pub(crate) fn take_post(
+        &mut self,
+        alloc: Global,
+        name: &TenantName,
+        unit: Unit,
+        number: u32,
+        text: Text,
+        worked: Done<H>,
+    ) -> Result<Answer, NoMemory>
+        requires { (m : MemberOf H.State) → slice_get self.old.members unit ≡ Some m → IsAsking (post_refused self.old.quota.volatile m.recovering number text) m.recovering Outside text worked.input }
+        ensures done { IfOk result (λ a. DoesAs H.meaning name.now (λ w. post_of H.meaning w unit number text) self.old a.reply self.new) }
+        ensures plain { IfOk result IsPlain }
+        ensures err { OnErr result (self.new ≡ self.old) }
+    {
+        let member = match self.member(unit) {
+            Some(member) => member,
+            None => {
+                return Ok(Answer::refused(Refusal::NoUnit));
+            }
+        };
+        let vector = DepVector::new(alloc, 0)?;
+        let arrival = Arrival {
+            source: Source::Outside,
+            letter: None,
+            number: u64::from(number),
+            text: &text,
+            vector: &vector,
+        };
+        match self.planned(alloc, name, unit, member, &arrival, worked.turn())? {
+            Err(refusal) => Ok(Answer::refused(refusal)),
+            Ok(plan) => {
+                let answer = self.enter(unit, plan, worked)?;
+                Ok(answer)
+            }
+        }
+    }
+
+    /// A unit receives a text from outside.
+    ///
+    /// # Errors
+    ///
+    /// `NoMemory` where the turn or what the receipt adds finds no memory; the tenant stays as it was.
+    pub(crate) fn post(
+        &mut self,
+        alloc: Global,
+        handler: &H,
+        name: &TenantName,
+        unit: Unit,
+        number: u32,
+        text: Text,
+    ) -> Result<Answer, NoMemory>
+        ensures done { IfOk result (λ a. DoesAs H.meaning name.now (λ w. post_of H.meaning w unit number text) self.old a.reply self.new) }
+        ensures plain { IfOk result IsPlain }
+        ensures err { OnErr result (self.new ≡ self.old) }
+    {
+        match self.ask_post(alloc, handler, unit, number, &text)? {
+            Err(refusal) => Ok(Answer::refused(refusal)),
+            Ok(ask) => {
+                let worked = ask.work(alloc, handler)?;
+                self.take_post(alloc, name, unit, number, text, worked)
+            }
+        }
+    }
+}

@@ -1,0 +1,84 @@
+//! What is read off a tenant by whoever stands above it.
+
+ghost use Rattle.std.specs.Prelude.{◌≡◌, ℕ, List, Option, IfOk, MatchOption, None, Some, slice_get};
+ghost use Rattle.model.specs.FailureFree.{opening_seats as opening_seats_of};
+ghost use Rattle.model.specs.World.{World};
+ghost use Rattle.model.specs.declared.records.Record.{Record};
+ghost use Rattle.tenant.specs.Reads.{opening_count as opening_count_of, opening_of, seats_of};
+ghost use Rattle.tenant.specs.Stands.{Stands, released_in};
+
+use crate::member::Member;
+use crate::tenant::Tenant;
+use handler::Handler;
+use model::{NoMemory, Row, Seat, Text, Unit};
+use std::alloc::Global;
+
+/// The seats of all of these.
+fn seats<H: Handler>(alloc: Global, members: &[Member<H>]) -> Result<Vec<Seat>, NoMemory>
+    ensures { IfOk result (λ seats. seats.items ≡ seats_of members.now) }
+{
+    let mut seats = Vec::new(alloc);
+    for member in members {
+        seats.push(member.seat())?;
+    }
+    Ok(seats)
+}
+
+/// How many units the tenant of these was opened with.
+fn opening_count<H: Handler>(members: &[Member<H>]) -> usize
+    ensures { result ≡ opening_count_of (seats_of members.now) }
+{
+    match members.first() {
+        Some(member) => usize::from(member.seat().home),
+        None => 0,
+    }
+}
+
+/// The seats at the front that the tenant of these was opened with.
+fn first_seats<H: Handler>(alloc: Global, members: &[Member<H>]) -> Result<Vec<Seat>, NoMemory>
+    ensures { IfOk result (λ seats. seats.items ≡ opening_of (seats_of members.now)) }
+{
+    let mut seats = seats(alloc, members)?;
+    seats.truncate(opening_count(members));
+    Ok(seats)
+}
+
+impl<H: Handler> Tenant<H> {
+    /// What is kept of what the unit released.
+    fn released_texts(&self, unit: Unit) -> Option<&[Text]>
+        ensures { MatchOption result (slice_get self.now.released unit ≡ None) (λ texts. slice_get self.now.released unit ≡ Some texts.now) }
+    {
+        if usize::from(unit.number()) < self.outlet.len() {
+            Some(self.outlet.released(unit))
+        } else {
+            None
+        }
+    }
+
+    /// The outputs that the unit has released so far, if the unit is there. Takes no memory.
+    pub fn released(&self, unit: Unit) -> Option<&[Text]>
+        ensures { (name : List ℕ) (w : World) (records : List (Option Record)) → Stands H.meaning name self.now w records → MatchOption result (released_in w unit ≡ None) (λ texts. released_in w unit ≡ Some texts.now) }
+    {
+        self.released_texts(unit)
+    }
+
+    /// The rows of the table: where units went back to, in order. Takes no memory.
+    pub fn rollbacks(&self) -> &[Row]
+        ensures { (name : List ℕ) (w : World) (records : List (Option Record)) → Stands H.meaning name self.now w records → result.now ≡ w.table }
+    {
+        self.table.known(self.table.len())
+    }
+
+    /// The seats that the tenant was opened with, unit 0 first.
+    ///
+    /// # Errors
+    ///
+    /// `NoMemory` where their list finds none.
+    pub fn opening_seats(&self, alloc: Global) -> Result<Vec<Seat>, NoMemory>
+        ensures { IfOk result (λ seats. (name : List ℕ) (w : World) (records : List (Option Record)) → Stands H.meaning name self.now w records → seats.items ≡ opening_seats_of w) }
+    {
+        let members = self.members.as_slice();
+        let seats = first_seats(alloc, members)?;
+        Ok(seats)
+    }
+}

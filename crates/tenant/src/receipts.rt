@@ -1,0 +1,303 @@
+//! A receipt, once its turn is worked: what it adds and answers.
+
+ghost use Rattle.std.specs.Prelude.{◌≡◌, ◌+◌, ◌<◌, ◌≤◌, ◌^◌, ◌++◌, IfOk, IfErr, None, OnErr, Some, length, slice_get, slice_set, vec_len};
+ghost use Rattle.model.specs.Lists.{numbers_from};
+ghost use Rattle.model.specs.Nodes.{sends_within};
+ghost use Rattle.model.specs.declared.refusals.Refusal.TheVariants.{Down};
+ghost use Rattle.session.specs.Counts.{advanced};
+ghost use Rattle.compact.specs.Steps.{letters_by as letters_of};
+ghost use Rattle.rollback.specs.Units.{asking, places};
+ghost use Rattle.tenant.specs.Kept.{IsNext, Member as MemberOf, next_record_of, next_reply_of, next_vector_of, received_kept, received_member};
+ghost use Rattle.tenant.specs.Outcomes.{IsPlain};
+ghost use Rattle.tenant.specs.Plans.{IsPlan, IsPlanned, arrived};
+
+use crate::answer::Answer;
+use crate::member::Member;
+use crate::tenant::Tenant;
+use depvector::DepVector;
+use handler::{Ask, Done, Handler, Turn};
+use model::{Letter, Letters, NoMemory, Record, Refusal, Reply, Source, TenantName, Text, Unit};
+use session::Sessions;
+use std::alloc::Global;
+use unit_steps::{SentLetter, letters_by, mark_upon, record_upon, turn_refusal, vector_upon};
+
+/// What a unit receives: from whom, which letter under which number, its text and its vector.
+#[derive(Drop)]
+pub(crate) struct Arrival<'a> {
+    pub(crate) source: Source,
+    pub(crate) letter: Option<Letter>,
+    pub(crate) number: u64,
+    pub(crate) text: &'a Text,
+    pub(crate) vector: &'a DepVector,
+}
+
+/// What a receipt adds and answers.
+#[derive(Drop)]
+pub(crate) struct Plan {
+    pub(crate) logged: Record,
+    pub(crate) made: Vec<SentLetter>,
+    pub(crate) outputs: Vec<Text>,
+    pub(crate) answer: Answer,
+}
+
+/// The n letters from k on.
+fn numbers(alloc: Global, k: usize, n: usize) -> Result<Letters, NoMemory>
+    requires { k + n < 2 ^ 32 }
+    ensures { IfOk result (λ ls. ls ≡ numbers_from k n) }
+{
+    let mut all = Vec::new(alloc);
+    for i in 0..n {
+        let letter = Letter::new((k + i) as u32);
+        all.push(letter)?;
+    }
+    Ok(Letters::new(all))
+}
+
+/// Equal texts.
+fn copies(alloc: Global, texts: &[Text]) -> Result<Vec<Text>, NoMemory>
+    ensures { IfOk result (λ ts. ts.items ≡ texts.now) }
+{
+    let mut all = Vec::new(alloc);
+    for text in texts {
+        all.push(text.copy(alloc)?)?;
+    }
+    Ok(all)
+}
+
+/// The turn that a unit has upon this text, or that it is down.
+pub(crate) fn ask_upon<H: Handler>(
+    alloc: Global,
+    handler: &H,
+    member: &Member<H>,
+    source: Source,
+    text: &Text,
+) -> Result<Result<Ask<H>, Refusal>, NoMemory>
+    ensures asked { IfOk result (λ r. IfOk r (λ input. asking member.now.recovering source text.now ≡ Some input)) }
+    ensures down { IfOk result (λ r. IfErr r (λ refusal. (refusal ≡ Down) × (member.now.recovering.progress ≡ None))) }
+{
+    let own_text = text.copy(alloc)?;
+    match member.recovering().ask(alloc, handler, source, own_text)? {
+        Some(ask) => Ok(Ok(ask)),
+        None => Ok(Err(Refusal::Down)),
+    }
+}
+
+/// Takes a receipt at the unit at this place, with the letters that its turn makes: all or nothing.
+fn receive_at<H: Handler>(
+    members: &mut Vec<Member<H>>,
+    letters: &mut Vec<SentLetter>,
+    at: usize,
+    logged: Record,
+    outputs: Vec<Text>,
+    made: Vec<SentLetter>,
+    worked: Done<H>,
+) -> Result<(), NoMemory>
+    requires within { at < length members.old.items }
+    requires few { length logged.vector ≤ 256 }
+    requires next { (m : MemberOf H.State) → slice_get members.old.items at ≡ Some m → IsNext m logged worked.input }
+    ensures members { IfOk result (λ _. (m : MemberOf H.State) → slice_get members.old.items at ≡ Some m → members.new.items ≡ slice_set members.old.items at (received_member H.meaning m logged outputs.items)) }
+    ensures letters { IfOk result (λ _. letters.new.items ≡ letters.old.items ++ made.items) }
+    ensures err_members { OnErr result (members.new.items ≡ members.old.items) }
+    ensures err_letters { OnErr result (letters.new.items ≡ letters.old.items) }
+{
+    let mut made = made;
+    letters.reserve(made.len())?;
+    let member = &mut members[at];
+    member.receive(logged, outputs, worked)?;
+    let _ = letters.append(&mut made);
+    Ok(())
+}
+
+impl<H: Handler> Tenant<H> {
+    /// How many units there are.
+    fn width(&self) -> usize
+        ensures { result ≡ length self.now.members }
+    {
+        self.members.len()
+    }
+
+    /// The vector of the interval that a receipt makes. A tenant has 16 units at most.
+    fn vector_upon(
+        &self,
+        unit: Unit,
+        member: &Member<H>,
+        arrival: &Arrival<'_>,
+    ) -> Result<DepVector, NoMemory>
+        requires { places member.now.recovering < 2 ^ 32 }
+        ensures { IfOk result (λ v. v ≡ next_vector_of self.now unit member.now (arrived arrival.now)) }
+    {
+        let width = self.width();
+        if width > 256 {
+            return Err(NoMemory);
+        }
+        vector_upon(
+            &self.table,
+            width,
+            unit,
+            member.recovering(),
+            arrival.vector,
+        )
+    }
+
+    /// The record of a receipt, whose interval has this vector.
+    fn record_upon(
+        &self,
+        alloc: Global,
+        name: &TenantName,
+        unit: Unit,
+        member: &Member<H>,
+        arrival: &Arrival<'_>,
+        vector: &DepVector,
+    ) -> Result<Record, NoMemory>
+        requires room { places member.now.recovering < 2 ^ 32 }
+        requires own { vector.now ≡ next_vector_of self.now unit member.now (arrived arrival.now) }
+        ensures record { IfOk result (λ r. r ≡ next_record_of name.now self.now unit member.now (arrived arrival.now)) }
+        ensures few { IfOk result (λ r. length r.vector ≤ 256) }
+    {
+        let mark = mark_upon(&self.table, unit, member.recovering());
+        let _units = vector.len();
+        record_upon(
+            alloc,
+            name,
+            unit,
+            mark,
+            arrival.source,
+            arrival.letter,
+            arrival.number,
+            arrival.text,
+            vector,
+        )
+    }
+
+    /// The letters that its turn makes, one for each send to a unit that is there, where the unit's sessions are these.
+    fn letters_upon(
+        &self,
+        alloc: Global,
+        unit: Unit,
+        vector: &DepVector,
+        sessions: &Sessions,
+        source: Source,
+        turn: &Turn<H::State>,
+    ) -> Result<Vec<SentLetter>, NoMemory>
+        ensures made { IfOk result (λ made. made.items ≡ letters_of unit vector.now (advanced sessions.now source) (sends_within (length self.now.members) turn.now)) }
+        ensures count { IfOk result (λ made. vec_len made ≡ length (sends_within (length self.now.members) turn.now)) }
+    {
+        let width = self.width();
+        let made = letters_by(alloc, unit, vector, sessions, source, turn.sends(), width)?;
+        Ok(made)
+    }
+
+    /// What a receipt is answered, whose turn makes so many letters.
+    fn reply_upon(
+        &self,
+        alloc: Global,
+        unit: Unit,
+        member: &Member<H>,
+        made: usize,
+        turn: &Turn<H::State>,
+    ) -> Result<Answer, NoMemory>
+        requires room { places member.now.recovering < 2 ^ 32 }
+        requires held { length member.now.outputs + length turn.now.outputs < 2 ^ 32 }
+        requires letters { length self.now.letters + length (sends_within (length self.now.members) turn.now) < 2 ^ 32 }
+        requires made { made ≡ length (sends_within (length self.now.members) turn.now) }
+        ensures reply { IfOk result (λ a. a.reply ≡ next_reply_of self.now unit member.now turn.now) }
+        ensures plain { IfOk result IsPlain }
+    {
+        let letters = numbers(alloc, self.letters.len(), made)?;
+        let reply = Reply::Accepted {
+            at: mark_upon(&self.table, unit, member.recovering()),
+            held: member.held_count() as u64 + turn.outputs().len() as u64,
+            letters,
+        };
+        Answer::plain(alloc, reply)
+    }
+
+    /// What a receipt adds and answers that passed all tests, where the unit's sessions are these.
+    fn plan(
+        &self,
+        alloc: Global,
+        name: &TenantName,
+        unit: Unit,
+        member: &Member<H>,
+        sessions: &Sessions,
+        arrival: &Arrival<'_>,
+        turn: &Turn<H::State>,
+    ) -> Result<Plan, NoMemory>
+        requires room { places member.now.recovering < 2 ^ 32 }
+        requires held { length member.now.outputs + length turn.now.outputs < 2 ^ 32 }
+        requires letters { length self.now.letters + length (sends_within (length self.now.members) turn.now) < 2 ^ 32 }
+        ensures { IfOk result (IsPlan name.now self.now unit member.now (arrived arrival.now) turn.now sessions.now) }
+    {
+        let vector = self.vector_upon(unit, member, arrival)?;
+        let made = self.letters_upon(alloc, unit, &vector, sessions, arrival.source, turn)?;
+        let logged = self.record_upon(alloc, name, unit, member, arrival, &vector)?;
+        let outputs = copies(alloc, turn.outputs())?;
+        let answer = self.reply_upon(alloc, unit, member, made.len(), turn)?;
+        Ok(Plan {
+            logged,
+            made,
+            outputs,
+            answer,
+        })
+    }
+
+    /// What a receipt adds and answers that passed the tests before its turn, or why it is refused for what its turn makes.
+    pub(crate) fn planned(
+        &self,
+        alloc: Global,
+        name: &TenantName,
+        unit: Unit,
+        member: &Member<H>,
+        arrival: &Arrival<'_>,
+        turn: &Turn<H::State>,
+    ) -> Result<Result<Plan, Refusal>, NoMemory>
+        requires { places member.now.recovering < 2 ^ 32 }
+        ensures { IfOk result (IsPlanned name.now self.now unit member.now (arrived arrival.now) turn.now) }
+    {
+        let held = member.held_count();
+        let width = self.width();
+        match turn_refusal(self.quota, held, self.letters.len(), width, turn) {
+            Some(refusal) => return Ok(Err(refusal)),
+            None => {}
+        }
+        // The tests before the turn refuse a unit that is down.
+        let progress = match member.recovering().progress() {
+            Some(progress) => progress,
+            None => return Err(NoMemory),
+        };
+        let plan = self.plan(alloc, name, unit, member, &progress.sessions, arrival, turn)?;
+        Ok(Ok(plan))
+    }
+
+    /// Takes a receipt as it was planned.
+    pub(crate) fn enter(
+        &mut self,
+        unit: Unit,
+        plan: Plan,
+        worked: Done<H>,
+    ) -> Result<Answer, NoMemory>
+        requires within { unit < length self.old.members }
+        requires few { length plan.logged.vector ≤ 256 }
+        requires next { (m : MemberOf H.State) → slice_get self.old.members unit ≡ Some m → IsNext m plan.logged worked.input }
+        ensures answer { IfOk result (λ a. a ≡ plan.answer) }
+        ensures ok { IfOk result (λ _. (m : MemberOf H.State) → slice_get self.old.members unit ≡ Some m → self.new ≡ received_kept H.meaning self.old unit m plan.logged plan.outputs.items plan.made.items) }
+        ensures err { OnErr result (self.new ≡ self.old) }
+    {
+        let Plan {
+            logged,
+            made,
+            outputs,
+            answer,
+        } = plan;
+        receive_at(
+            &mut self.members,
+            &mut self.letters,
+            usize::from(unit.number()),
+            logged,
+            outputs,
+            made,
+            worked,
+        )?;
+        Ok(answer)
+    }
+}

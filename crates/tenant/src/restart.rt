@@ -1,0 +1,69 @@
+//! The step `restart`.
+
+ghost use Rattle.std.specs.Prelude.{◌≡◌, ◌<◌, IfNone, IfOk, OnErr, List, ℕ, false, bytes_eq, length, slice_get};
+ghost use Rattle.model.specs.World.{World, incarnation_of};
+ghost use Rattle.model.specs.declared.steps.TenantStep.TheVariants.{Restart};
+ghost use Rattle.tenant.specs.Kept.{Kept, restart_refusal as restart_refusal_of};
+ghost use Rattle.tenant.specs.Stands.{Did, Stands};
+
+use crate::answer::Answer;
+use crate::tenant::Tenant;
+use handler::Handler;
+use model::{NoMemory, Refusal, Reply, TenantName, Unit};
+use shared_log::{SharedLog, Store};
+use std::alloc::Global;
+
+impl<H: Handler> Tenant<H> {
+    /// Why a unit can't restart, whatever the store says.
+    fn restart_refusal(&self, unit: Unit) -> Option<Refusal>
+        ensures refusal { result ≡ restart_refusal_of self.now.table unit (slice_get self.now.members unit) }
+        ensures there { IfNone result (unit < length self.now.members) }
+        ensures room { IfNone result (incarnation_of self.now.table unit < 65535) }
+    {
+        let member = match self.member(unit) {
+            Some(member) => member,
+            None => return Some(Refusal::NoUnit),
+        };
+        if member.is_up() {
+            Some(Refusal::Up)
+        } else if self.is_worn_out(unit) {
+            Some(Refusal::Limit)
+        } else {
+            None
+        }
+    }
+
+    /// A unit that is down goes back to its last interval that is no orphan, by replay of what the store gives, and is
+    /// up again. A device that failed is answered `store`, with nothing changed.
+    ///
+    /// # Errors
+    ///
+    /// `NoMemory` where records or replay find no memory; the tenant and the records of the log stay as they were.
+    pub(crate) fn restart<S: Store>(
+        &mut self,
+        alloc: Global,
+        handler: &H,
+        tenant: &TenantName,
+        unit: Unit,
+        log: &mut SharedLog<S>,
+    ) -> Result<Answer, NoMemory>
+        ensures kept { IfOk result (λ a. a.kept ≡ a.reply) }
+        ensures did { IfOk result (λ a. (w : World) → Stands H.meaning tenant.now self.old w log.old.records → Did H.meaning tenant.now w self.new (Restart unit) a.said a.reply log.old log.new) }
+        // What other tenants stand for stays.
+        ensures others { (k : Kept H.State) (w : World) (other : List ℕ) → bytes_eq other tenant.now ≡ false → Stands H.meaning other k w log.old.records → Stands H.meaning other k w log.new.records }
+        ensures err { OnErr result (self.new ≡ self.old) }
+        ensures err_log { OnErr result (log.new.records ≡ log.old.records) }
+    {
+        match self.restart_refusal(unit) {
+            Some(refusal) => return Ok(Answer::refused(refusal)),
+            None => {}
+        }
+        let target = match self.last_kept(unit) {
+            Some(target) => target,
+            None => return Err(NoMemory),
+        };
+        let row = self.start_behind(unit, target);
+        let reply = Reply::Restarted { row };
+        self.return_to(alloc, handler, tenant, unit, target, reply, log)
+    }
+}
