@@ -1,4 +1,4 @@
-"""Malicious lines: each is answered as the formats say, and none changes anything."""
+"""Malicious lines: each is answered as the formats say, and none changes anything. And lines in unusual layouts."""
 
 from program import joined
 
@@ -11,6 +11,10 @@ LONGEST = 65536
 
 def post(number=b"0", unit=b"0", tenant=b"a", more=b""):
     return b'{"do":"post","number":%s,"tenant":"%s","text":"x","unit":%s%s}' % (number, tenant, unit, more)
+
+
+def opening(units):
+    return b'{"do":"open","tenant":"b","units":%s}' % units
 
 
 def filled(length):
@@ -52,8 +56,62 @@ LINES = [
     ("a line of a megabyte", filled(1 << 20), BAD),
     ("a carriage return", STATUS + b"\r", BEGUN),
     ("a tab before it", b"\t" + STATUS, BEGUN),
+    ("a bracket", b"{", BAD),
+    ("a number alone", b"1", BAD),
+    ("an empty object", b"{}", BAD),
+    ("a text that is a number", post().replace(b'"x"', b"0"), BAD),
+    ("a step with a capital", STATUS.replace(b"status", b"Status"), BAD),
+    ("a status of no unit", b'{"do":"status","tenant":"a"}', BAD),
+    ("an open without units", b'{"do":"open","tenant":"b"}', BAD),
+    ("a unit that is no text", opening(b"[0]"), BAD),
+    ("an optimism that is null", opening(b'[],"optimism":null'), BAD),
+    ("an optimism of 33 bits", opening(b'[],"optimism":4294967296'), BAD),
+    ("a quota with a key too few", opening(b'[],"quota":{"held":1,"letters":2}'), BAD),
+    ("a quota with a key too many", opening(b'[],"quota":{"held":1,"letters":2,"volatile":3,"x":4}'), BAD),
+    ("an open of nothing", opening(b'[],"quota":{"held":0,"letters":0,"volatile":0},"optimism":0'), b'{"no":"bad-open"}'),
+    ("the greatest letter", b'{"do":"deliver","letter":4294967295,"tenant":"a"}', b'{"no":"no-letter"}'),
     ("a text of 4,097 bytes", post().replace(b'"x"', b'"%s"' % (b"x" * 4097)), b'{"no":"too-much"}'),
 ]
+
+
+# Each form with its keys in another order, blanks and escapes: lines and replies.
+UNUSUAL = [
+    (b' {"optimism":16,"quota":{"letters":9,"volatile":8,"held":7},"units" : ["echo","tee"],"tenant":"a-9","do":"open"} ',
+     b'{"ok":"open","units":2}'),
+    (b'{"kind":"r\\u0065lay","tenant":"a-9","do":"join"}', b'{"ok":"join","unit":2}'),
+    (b'\t{"text":"x\\n\\u00e9\\"","number":0,"unit":0,"tenant":"a-9","do":"post"}\r',
+     b'{"at":[0,1],"held":1,"letters":[],"ok":"accepted"}'),
+    (b'{"do" : "post" , "unit" : 1 , "text" : "\\u0061" , "number" : 0 , "tenant" : "a-9"}',
+     b'{"at":[0,1],"held":1,"letters":[0],"ok":"accepted"}'),
+    (b'{"letter":0,"tenant":"a-9","do":"deliver"}', b'{"at":[0,1],"held":0,"letters":[1],"ok":"accepted"}'),
+    (b'{"unit":0,"tenant":"a-9","do":"flush"}', b'{"count":1,"ok":"flush"}'),
+    (b'{"unit":0,"do":"checkpoint","tenant":"a-9"}', b'{"at":[0,1],"ok":"checkpoint"}'),
+    (b'{"tenant":"a-9","unit":0,"do":"kill"}', b'{"lost":0,"ok":"kill"}'),
+    (b'{"unit":0,"tenant":"a-9","do":"restart"}', b'{"ok":"restart","row":[1,2]}'),
+    (b'{"unit":1,"tenant":"a-9","do":"notice"}', b'{"ok":"notice","row":null}'),
+    (b'{"unit":0,"tenant":"a-9","do":"release"}', '{"ok":"released","outputs":["x\\né\\""]}'.encode()),
+    (b'{"unit":0,"tenant":"a\\u002d9","do":"status"}',
+     b'{"at":[0,1],"held":0,"known":1,"ok":"status","outside":1,"released":1,"rows":1,"stable":1,"up":true,"volatile":0}'),
+]
+
+# Input, and how many bad lines it is.
+ENDS = [(b"", 0), (b"\n", 1), (b"{\n", 1), (b"\n{", 2), (b"\r\n\n", 2)]
+
+
+def unusual(program):
+    """Each form in an unusual layout."""
+    out = program.run(joined(line for line, _ in UNUSUAL))
+    return 1, [] if (out[0], out[2]) == (joined(reply for _, reply in UNUSUAL), 0) else [f"{out[0]!r}, status {out[2]}"]
+
+
+def ends(program):
+    """As many lines as ends."""
+    wrong = []
+    for given, count in ENDS:
+        out = program.run(given)
+        if (out[0], out[2]) != (joined([BAD] * count), 0):
+            wrong.append(f"{given!r}: {out[0]!r}, status {out[2]}")
+    return len(ENDS), wrong
 
 
 def one(program, what, given, want):
@@ -73,3 +131,5 @@ def one(program, what, given, want):
 def checks():
     for what, given, want in LINES:
         yield f"line: {what}", lambda program, line=(what, given, want): one(program, *line)
+    yield "line: each form in an unusual layout", unusual
+    yield "line: as many as ends", ends

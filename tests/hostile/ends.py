@@ -1,6 +1,7 @@
 """Standard input that fails before each line in turn, and standard output that fails after each byte in turn.
 
-Each line that was read has its reply, and the status is 1.
+Each line that was read has its reply, and the status is 1. Where each second read and write is interrupted, and each write
+is short, nothing changes.
 """
 
 from program import joined, rows
@@ -33,7 +34,18 @@ def writer(program, name, steps, replies):
     return len(tried), wrong
 
 
+def interrupted(program, name, steps, replies):
+    """Interrupts each second read and write."""
+    given, wrong = joined(steps), []
+    for by_line in (0, 1):
+        out, _, status = program.run(given, interrupt=1, lines=by_line)
+        if (out, status) != (joined(replies), 0):
+            wrong.append(f"status {status}, {len(out.splitlines())} replies")
+    return 2, wrong
+
+
 def checks():
     for name, steps, replies in rows():
         yield f"input of {name}", lambda program, row_of=(name, steps, replies): reader(program, *row_of)
         yield f"output of {name}", lambda program, row_of=(name, steps, replies): writer(program, *row_of)
+        yield f"interrupted {name}", lambda program, row_of=(name, steps, replies): interrupted(program, *row_of)

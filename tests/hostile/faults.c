@@ -5,6 +5,7 @@
  *   RECALL_READ=n     after n bytes a read of its standard input fails with EIO
  *   RECALL_WRITE=n    after n bytes a write to its standard output fails with ENOSPC
  *   RECALL_LINES=1    a read of its standard input gives no more than one line
+ *   RECALL_INTERRUPT=1  each second read and write of these is interrupted (EINTR), and a write takes seven bytes at most
  *
  * It acts in the program whose file is named RECALL_ONLY, and in no other that inherits these words. */
 #define _GNU_SOURCE
@@ -19,6 +20,8 @@
 #include <sys/mman.h>
 #include <unistd.h>
 
+#define SHORT 7
+
 extern void *__libc_malloc(size_t);
 extern void *__libc_realloc(void *, size_t);
 extern void *__libc_calloc(size_t, size_t);
@@ -26,7 +29,7 @@ extern void *__libc_calloc(size_t, size_t);
 static atomic_long own_count;
 static atomic_long *requests = &own_count;
 static long refused, to_read = -1, to_write = -1;
-static int counts, by_line;
+static int counts, by_line, interrupts;
 
 static long number(const char *name, long otherwise) {
     const char *text = getenv(name);
@@ -54,6 +57,7 @@ __attribute__((constructor)) static void begin(void) {
     to_read = number("RECALL_READ", -1);
     to_write = number("RECALL_WRITE", -1);
     by_line = number("RECALL_LINES", 0);
+    interrupts = number("RECALL_INTERRUPT", 0);
     refused = number("RECALL_REFUSE", 0);
     counts = 1;
 }
@@ -78,11 +82,19 @@ static ssize_t allowed(long *left, size_t *size, int failure) {
     return 0;
 }
 
+/* Whether this call, one of those that `at` counts, is interrupted. */
+static int is_interrupted(long *at) {
+    if (!interrupts || (*at)++ % 2) return 0;
+    errno = EINTR;
+    return 1;
+}
+
 ssize_t read(int file, void *to, size_t size) {
+    static long reads;
     static ssize_t (*real)(int, void *, size_t);
     if (!real) real = (ssize_t (*)(int, void *, size_t))dlsym(RTLD_NEXT, "read");
     if (file != 0 || !counts) return real(file, to, size);
-    if (allowed(&to_read, &size, EIO)) return -1;
+    if (is_interrupted(&reads) || allowed(&to_read, &size, EIO)) return -1;
     ssize_t got = 0;
     if (by_line) {
         while ((size_t)got < size) {
@@ -99,10 +111,12 @@ ssize_t read(int file, void *to, size_t size) {
 }
 
 ssize_t write(int file, const void *from, size_t size) {
+    static long writes;
     static ssize_t (*real)(int, const void *, size_t);
     if (!real) real = (ssize_t (*)(int, const void *, size_t))dlsym(RTLD_NEXT, "write");
     if (file != 1 || !counts) return real(file, from, size);
-    if (allowed(&to_write, &size, ENOSPC)) return -1;
+    if (is_interrupted(&writes) || allowed(&to_write, &size, ENOSPC)) return -1;
+    if (interrupts && size > SHORT) size = SHORT;
     ssize_t put = real(file, from, size);
     if (to_write > 0 && put > 0) to_write -= put;
     return put;

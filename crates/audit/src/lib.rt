@@ -20,6 +20,3 @@ mod outputs;
 mod verdict;
 
 pub use verdict::{Verdict, check};
-
-#[cfg(test)]
-mod tests;

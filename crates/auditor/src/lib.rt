@@ -16,6 +16,3 @@ mod tenant_audit;
 pub use checkable::can_check;
 pub use line::audit_line;
 pub use tenant_audit::audit_tenant;
-
-#[cfg(test)]
-mod tests;

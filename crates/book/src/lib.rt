@@ -31,6 +31,3 @@ mod committed;
 
 pub use book::{Book, headline, isolated};
 pub use committed::Committed;
-
-#[cfg(test)]
-mod tests;

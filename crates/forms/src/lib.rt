@@ -19,6 +19,3 @@ pub use fault::LineFault;
 pub use reading::read_step;
 pub use records::write_record;
 pub use writing::write_reply;
-
-#[cfg(test)]
-mod tests;

@@ -23,6 +23,3 @@ pub use fault::ServeFault;
 pub use feed::read_feed;
 pub use forms::{LineFault, read_step, write_reply};
 pub use serving::{fault_reply, memory_aside, put_reply, serve};
-
-#[cfg(test)]
-mod tests;

@@ -22,6 +22,3 @@ pub use effects::Effects;
 pub use interval::Interval;
 pub use progress::Progress;
 pub use unit::RecoveryUnit;
-
-#[cfg(test)]
-mod tests;

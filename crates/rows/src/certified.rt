@@ -28,7 +28,7 @@ pub(crate) fn certified(alloc: Global, lines: &str) -> anyhow::Result<String> {
     Ok(text)
 }
 
-fn tenant_a(alloc: Global) -> anyhow::Result<TenantName> {
+pub(crate) fn tenant_a(alloc: Global) -> anyhow::Result<TenantName> {
     let Some(name) = TenantName::new(String::from_str(alloc, "a")?) else {
         bail!("no name");
     };
@@ -142,7 +142,7 @@ fn others(alloc: Global, released: &[Texts]) -> anyhow::Result<Vec<Texts>> {
 }
 
 /// Adds what the audit of these lists says, where it may be asked.
-fn add_audit(
+pub(crate) fn add_audit(
     alloc: Global,
     name: &TenantName,
     seats: &[Seat],

@@ -6,15 +6,20 @@
 //! and where the store fails any one append or fetch and the step that it refused is given again.
 //!
 //! For a name that begins with `turns-` the lines also tell which turns are worked beside
-//! the book, and for one that begins with `fails-` which calls of the store fail.
+//! the book, and for one that begins with `fails-` which calls of the store fail. Those of
+//! `certified-` show seats, moves and audits, those of `told-` what a book tells of its tenants and
+//! entries, and those of `audited-` are audits of lists from anywhere.
 #![tactic(auto)]
 
 mod answers;
+mod audited;
 mod beside;
 mod certified;
 mod failing;
+mod told;
 mod turned;
 
+use audited::audited;
 use beside::{every, with_noise};
 use book::Book;
 use certified::certified;
@@ -24,6 +29,7 @@ use lines::{Counted, serve};
 use stable_log::MemoryStore;
 use std::alloc::Global;
 use std::fs;
+use told::told;
 use turned::turned;
 
 fn main(rt: HostRuntime) -> anyhow::Result<()> {
@@ -55,6 +61,10 @@ fn row_verdict(
         failed_verdict(alloc, steps, replies)
     } else if name.starts_with("certified-") {
         certified_verdict(alloc, steps, replies)
+    } else if name.starts_with("told-") {
+        told_verdict(alloc, steps, replies)
+    } else if name.starts_with("audited-") {
+        audited_verdict(alloc, steps, replies)
     } else {
         worked_verdict(alloc, steps, replies)
     }
@@ -81,6 +91,22 @@ fn certified_verdict(alloc: Global, steps: &str, replies: &str) -> anyhow::Resul
         "seats, moves and audits are as they must be"
     } else {
         "seats, moves or audits differ"
+    })
+}
+
+fn told_verdict(alloc: Global, steps: &str, replies: &str) -> anyhow::Result<&'static str> {
+    Ok(if told(alloc, steps)?.as_str() == replies {
+        "what the book tells is as it must be"
+    } else {
+        "what the book tells differs"
+    })
+}
+
+fn audited_verdict(alloc: Global, steps: &str, replies: &str) -> anyhow::Result<&'static str> {
+    Ok(if audited(alloc, steps)?.as_str() == replies {
+        "the audits are as they must be"
+    } else {
+        "the audits differ"
     })
 }
 

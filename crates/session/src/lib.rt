@@ -15,6 +15,3 @@ mod sessions;
 pub use arrival::Arrival;
 pub use exchange::Exchange;
 pub use sessions::Sessions;
-
-#[cfg(test)]
-mod tests;

@@ -1,7 +1,7 @@
 //! Tests of the small crates: each public call once on its happy path, and what no clause says.
 //!
-//! They stand in one crate since a crate with tests is proved twice. Larger crates have their own, and
-//! `rows` has the worked rows.
+//! They stand in one crate since a crate with tests is proved twice. The larger crates are called by the rows of `rows`
+//! and `bench_rollback`, which are programs over data, and by what is put to the built program.
 #![tactic(auto)]
 
 #[cfg(test)]
@@ -19,8 +19,12 @@ mod orphan_calls;
 #[cfg(test)]
 mod output_commit_calls;
 #[cfg(test)]
+mod session_calls;
+#[cfg(test)]
 mod shared_log_calls;
 #[cfg(test)]
 mod stable_log_calls;
+#[cfg(test)]
+mod volatile_log_calls;
 #[cfg(test)]
 mod written_calls;

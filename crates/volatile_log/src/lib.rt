@@ -9,6 +9,3 @@ mod log;
 
 pub use log::VolatileLog;
 pub use model::Record;
-
-#[cfg(test)]
-mod tests;

@@ -1,5 +1,5 @@
-use crate::{Arrival, Sessions};
 use model::{Source, Unit};
+use session::{Arrival, Sessions};
 use std::test::Fail;
 
 #[test]

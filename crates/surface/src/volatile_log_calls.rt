@@ -1,7 +1,7 @@
-use crate::{Record, VolatileLog};
 use model::{Mark, Marks, NoMemory, Source, TenantName, Text, Unit};
 use std::alloc::Global;
 use std::test::Fail;
+use volatile_log::{Record, VolatileLog};
 
 fn logged(alloc: Global, index: u32) -> Result<Record, NoMemory> {
     let Some(tenant) = TenantName::new(String::from_str(alloc, "a")?) else {

@@ -1,0 +1,111 @@
+//! Rows of audits of lists from anywhere.
+//!
+//! | line | what it adds |
+//! |---|---|
+//! | `seat UNIT KIND HOME` | a seat |
+//! | `outside UNIT TEXT`, `letter TO FROM`, `join KIND` | a move |
+//! | `released TEXT..` | the list of one more unit |
+//! | `audit` | the outcome for all since the last one |
+//! | `memory` | the line of an audit that found no memory |
+
+use crate::certified::{add_audit, tenant_a};
+use anyhow::{Context, bail};
+use auditor::audit_line;
+use model::{Flaw, Kind, Move, Seat, TenantName, Text, Texts, Unit};
+use std::alloc::Global;
+
+/// What is audited.
+#[derive(Drop)]
+struct Case {
+    seats: Vec<Seat>,
+    moves: Vec<Move>,
+    released: Vec<Texts>,
+}
+
+impl Case {
+    fn new(alloc: Global) -> Case {
+        Case {
+            seats: Vec::new(alloc),
+            moves: Vec::new(alloc),
+            released: Vec::new(alloc),
+        }
+    }
+}
+
+/// The outcomes that these lines ask for.
+pub(crate) fn audited(alloc: Global, lines: &str) -> anyhow::Result<String> {
+    let name = tenant_a(alloc)?;
+    let mut case = Case::new(alloc);
+    let mut text = String::new(alloc);
+    for line in lines.lines() {
+        if line == "audit" {
+            outcome(alloc, &name, &case, &mut text)?;
+            case = Case::new(alloc);
+        } else if line == "memory" {
+            add_memory(alloc, &name, &mut text)?;
+        } else {
+            add(alloc, &mut case, line)?;
+        }
+    }
+    Ok(text)
+}
+
+fn outcome(alloc: Global, name: &TenantName, case: &Case, text: &mut String) -> anyhow::Result<()> {
+    let (seats, moves) = (case.seats.as_slice(), case.moves.as_slice());
+    add_audit(alloc, name, seats, moves, case.released.as_slice(), text)
+}
+
+/// Adds the line of an audit that found no memory.
+fn add_memory(alloc: Global, name: &TenantName, text: &mut String) -> anyhow::Result<()> {
+    text.push_str(audit_line(alloc, name, &Err(Flaw::NoMemory))?.as_str())?;
+    text.push('\n')?;
+    Ok(())
+}
+
+/// Adds what a line says.
+fn add(alloc: Global, case: &mut Case, line: &str) -> anyhow::Result<()> {
+    let words: Vec<&str> = line.split_whitespace().collect(alloc)?;
+    match words.as_slice() {
+        ["seat", unit, kind, home] => case.seats.push(seat(unit, kind, home)?)?,
+        ["released", texts @ ..] => case.released.push(list(alloc, texts)?)?,
+        other => case.moves.push(move_of(alloc, other)?)?,
+    }
+    Ok(())
+}
+
+fn number(word: &str) -> anyhow::Result<u8> {
+    word.parse::<u8>().context("a number is wanted")
+}
+
+fn seat(unit: &str, kind: &str, home: &str) -> anyhow::Result<Seat> {
+    Ok(Seat {
+        unit: Unit::new(number(unit)?),
+        kind: Kind::new(number(kind)?),
+        home: number(home)?,
+    })
+}
+
+fn list(alloc: Global, texts: &[&str]) -> anyhow::Result<Texts> {
+    let mut all = Vec::new(alloc);
+    for text in texts {
+        all.push(Text::of(alloc, text)?)?;
+    }
+    Ok(Texts::new(all))
+}
+
+fn move_of(alloc: Global, words: &[&str]) -> anyhow::Result<Move> {
+    Ok(match words {
+        ["outside", unit, text] => Move::Outside {
+            unit: Unit::new(number(unit)?),
+            text: Text::of(alloc, text)?,
+        },
+        ["letter", to, from] => Move::Letter {
+            to: Unit::new(number(to)?),
+            from: Unit::new(number(from)?),
+        },
+        ["join", kind] => Move::Join {
+            kind: Kind::new(number(kind)?),
+        },
+        _ => bail!("no such line"),
+    })
+}
