@@ -1,0 +1,5 @@
+pub mod Roles
+pub mod Requests
+pub mod Accounts
+pub mod Billing
+pub mod Laws

@@ -1,0 +1,54 @@
+//! The handler.
+
+ghost use Rattle.billing.specs.Billing.{billing, accounts_equal_are_equal};
+
+use crate::accounts::Accounts;
+use crate::card::card_turn;
+use crate::ledger::ledger_turn;
+use crate::replies::stay_idle;
+use crate::role::Role;
+use handler::{Handler, Turn};
+use ident::{Kind, NoMemory, Seat, Source};
+use std::alloc::Global;
+
+/// Runs ledgers and cards. The state of a ledger is its accounts; a card has none.
+#[derive(Debug, Clone, Copy, PartialEq, Eq)]
+pub(crate) struct Billing;
+
+impl Handler for Billing {
+    type State = Accounts;
+
+    ghost meaning = { billing };
+
+    ghost equality = { accounts_equal_are_equal };
+
+    fn copy(&self, alloc: Global, state: &Accounts) -> Result<Accounts, NoMemory> {
+        state.copy(alloc)
+    }
+
+    fn kind(&self, name: &str) -> Option<Kind> {
+        match Role::named(name) {
+            Some(role) => Some(role.kind()),
+            None => None,
+        }
+    }
+
+    fn begin(&self, alloc: Global, _seat: Seat) -> Result<Accounts, NoMemory> {
+        Ok(Accounts::new(alloc))
+    }
+
+    fn handle(
+        &self,
+        alloc: Global,
+        seat: Seat,
+        state: &Accounts,
+        source: Source,
+        text: &str,
+    ) -> Result<Turn<Accounts>, NoMemory> {
+        match Role::of(seat.kind) {
+            Some(Role::Ledger) => ledger_turn(alloc, state, text),
+            Some(Role::Card) => card_turn(alloc, state, source, text),
+            None => stay_idle(alloc, state),
+        }
+    }
+}
