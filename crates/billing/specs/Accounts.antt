@@ -1,6 +1,7 @@
 -- The balances of a ledger.
-use Rattle.std.specs.Prelude.{ℕ, Bool, ◌==◌, ◌&&◌, if◌then◌else◌, List, [], ◌∷◌, bytes_eq}
+use Rattle.std.specs.Prelude.{ℕ, Bool, nat_eq, if◌then◌else◌, List, [], ◌∷◌, bytes_eq}
 use Rattle.std.specs.Cmp.Lexicographic.{pointwise}
+use Rattle.std.specs.Ordering.{on, eq_of_both}
 use Rattle.billing.specs.declared.accounts.Account.{Account}
 
 -- the balance of an account: nothing where it was never charged
@@ -17,4 +18,4 @@ with_balance (account ∷ others) name cents =
 
 -- what `==` says of two ledgers' accounts
 abbrev pub accounts_equal : List Account → List Account → Bool
-accounts_equal = pointwise (λ a b. bytes_eq a.name b.name && (a.cents == b.cents))
+accounts_equal = pointwise (eq_of_both (on (λ a. a.name) bytes_eq) (on (λ a. a.cents) nat_eq))

@@ -35,7 +35,7 @@ accepted accounts request after = record { state = with_balance accounts request
 
 -- nothing moves, and whoever asked is told the balance
 abbrev pub refused : State → Request → ℕ → Turn State
-refused accounts request now = puts_out accounts (codes "refused " ++ line_of request ++ codes ": the balance is " ++ decimal now)
+refused accounts request now = puts_out accounts (codes "refused " ++ (line_of request ++ (codes ": the balance is " ++ decimal now)))
 
 abbrev pub settled_by : State → Request → Option ℕ → Turn State
 settled_by accounts request (Some after) = accepted accounts request after

@@ -24,13 +24,16 @@ abbrev pub moved : Movement → ℕ → ℕ → Option ℕ
 moved Charge balance cents = if nat_le (balance + cents) greatest then Some (balance + cents) else None
 moved Refund balance cents = if nat_le cents balance then Some (balance - cents) else None
 
--- one digit or more, behind a plus sign or none, whose value fits
-abbrev pub is_cents : List ℕ → Bool
-is_cents text =
-    nat_lt 0 (length (without_leading_plus text)) && (all_ascii_digits (without_leading_plus text) && nat_le (digits_value 10 (without_leading_plus text)) greatest)
+-- one digit or more, whose value fits 64 bits
+abbrev pub is_number : List ℕ → Bool
+is_number digits = nat_lt 0 (length digits) && (all_ascii_digits digits && nat_le (digits_value 10 digits) greatest)
 
+abbrev pub number_in : List ℕ → Option ℕ
+number_in digits = if is_number digits then Some (digits_value 10 digits) else None
+
+-- as Rust reads a `u64`: a plus sign may stand first
 abbrev pub cents_told : List ℕ → Option ℕ
-cents_told text = if is_cents text then Some (digits_value 10 (without_leading_plus text)) else None
+cents_told text = number_in (without_leading_plus text)
 
 -- which way, whose balance, and how much
 pub record Request : Type 0 where
@@ -58,4 +61,4 @@ request_in text =
     else None
 
 abbrev pub line_of : Request → List ℕ
-line_of request = name_of request.movement ++ codes " " ++ request.account ++ codes " " ++ decimal request.cents
+line_of request = name_of request.movement ++ (codes " " ++ (request.account ++ (codes " " ++ decimal request.cents)))

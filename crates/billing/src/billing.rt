@@ -1,6 +1,7 @@
 //! The handler.
 
-ghost use Rattle.billing.specs.Billing.{billing, accounts_equal_are_equal};
+ghost use Rattle.billing.specs.Billing.{billing};
+ghost use Rattle.billing.specs.States.{states_equal};
 
 use crate::accounts::Accounts;
 use crate::card::card_turn;
@@ -20,7 +21,7 @@ impl Handler for Billing {
 
     ghost meaning = { billing };
 
-    ghost equality = { accounts_equal_are_equal };
+    ghost equality = { states_equal };
 
     fn copy(&self, alloc: Global, state: &Accounts) -> Result<Accounts, NoMemory> {
         state.copy(alloc)
