@@ -7,7 +7,7 @@ use Rattle.std.proofs.lemmas.Slice.Eq.{bytes_eq-Decides}
 use Rattle.billing.specs.declared.accounts.Account.{Account}
 use Rattle.billing.specs.declared.request.Movement.{Movement}
 use Rattle.billing.specs.declared.request.Movement.TheVariants.{Charge, Refund}
-use Rattle.billing.specs.Requests.{Request, moved, request_in, line_of, greatest}
+use Rattle.billing.specs.Requests.{Request, balance_after, request_in, line_of, greatest}
 use Rattle.billing.specs.Accounts.{balance, with_balance}
 use Rattle.billing.specs.Billing.{State, card_unit, ledger, settled_by, answered}
 use Rattle.billing.specs.Laws.{AddsUp, accounts_after, letters_of, carried_out, carried_out_of, requests_of, charged, refunded, charges_cents, refunds_cents}
@@ -35,16 +35,16 @@ balance-with_balance (first ∷ others) account cents name =
     ] refl
 
 -- a movement that may be made
-moved_adds : (movement : Movement) (now cents after : ℕ) → moved movement now cents ≡ Some after → after + refunds_cents movement cents ≡ now + charges_cents movement cents
-moved_adds Charge now cents after e = grind (arith, nat_tests)
-moved_adds Refund now cents after e = grind (arith, nat_tests)
+movement_adds : (movement : Movement) (now cents after : ℕ) → balance_after movement now cents ≡ Some after → after + refunds_cents movement cents ≡ now + charges_cents movement cents
+movement_adds Charge now cents after e = grind (arith, nat_tests)
+movement_adds Refund now cents after e = grind (arith, nat_tests)
 
-named_adds : (is_its : Bool) (movement : Movement) (own now cents after : ℕ) → (is_its ≡ true → own ≡ now) → moved movement own cents ≡ Some after → (if is_its then after else now) + ((if is_its then refunds_cents movement cents else 0) + 0) ≡ now + ((if is_its then charges_cents movement cents else 0) + 0)
-named_adds true movement own now cents after same e = let m = moved_adds movement own cents after e in let s : own ≡ now = same refl in omega arith
+named_adds : (is_its : Bool) (movement : Movement) (own now cents after : ℕ) → (is_its ≡ true → own ≡ now) → balance_after movement own cents ≡ Some after → (if is_its then after else now) + ((if is_its then refunds_cents movement cents else 0) + 0) ≡ now + ((if is_its then charges_cents movement cents else 0) + 0)
+named_adds true movement own now cents after same e = let m = movement_adds movement own cents after e in let s : own ≡ now = same refl in omega arith
 named_adds false movement own now cents after same e = refl
 
 -- one turn
-settled_adds : (accounts : State) (request : Request) (after : Option ℕ) (name : List ℕ) → moved request.movement (balance accounts request.account) request.cents ≡ after → balance (settled_by accounts request after).state name + refunded name (carried_out request after) ≡ balance accounts name + charged name (carried_out request after)
+settled_adds : (accounts : State) (request : Request) (after : Option ℕ) (name : List ℕ) → balance_after request.movement (balance accounts request.account) request.cents ≡ after → balance (settled_by accounts request after).state name + refunded name (carried_out request after) ≡ balance accounts name + charged name (carried_out request after)
 settled_adds accounts request None name e = refl
 settled_adds accounts request (Some after) name e =
     rw (balance-with_balance accounts request.account after name)

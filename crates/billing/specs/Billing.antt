@@ -9,7 +9,7 @@ use Rattle.billing.specs.declared.accounts.Account.{Account}
 use Rattle.billing.specs.declared.role.Role.{Role}
 use Rattle.billing.specs.declared.role.Role.TheVariants.{Ledger, Card}
 use Rattle.billing.specs.Roles.{role_named, kind_of, role_of}
-use Rattle.billing.specs.Requests.{Request, moved, request_in, line_of}
+use Rattle.billing.specs.Requests.{Request, balance_after, request_in, line_of}
 use Rattle.billing.specs.Accounts.{balance, with_balance}
 
 -- the state of every unit: the accounts that it keeps
@@ -42,7 +42,7 @@ settled_by accounts request (Some after) = accepted accounts request after
 settled_by accounts request None = refused accounts request (balance accounts request.account)
 
 abbrev pub settled : State → Request → Turn State
-settled accounts request = settled_by accounts request (moved request.movement (balance accounts request.account) request.cents)
+settled accounts request = settled_by accounts request (balance_after request.movement (balance accounts request.account) request.cents)
 
 abbrev pub answered : State → List ℕ → Option Request → Turn State
 answered accounts text (Some request) = settled accounts request

@@ -2,7 +2,7 @@
 use Rattle.std.specs.Prelude.{◌≡◌, ℕ, ◌+◌, Bool, if◌then◌else◌, ◌&&◌, true, false, List, [], ◌∷◌, ◌++◌, Option, Some, None, map, bytes_eq}
 use Rattle.billing.specs.declared.request.Movement.{Movement}
 use Rattle.billing.specs.declared.request.Movement.TheVariants.{Charge, Refund}
-use Rattle.billing.specs.Requests.{Request, moved, request_in, line_of}
+use Rattle.billing.specs.Requests.{Request, balance_after, request_in, line_of}
 use Rattle.billing.specs.Accounts.{balance}
 use Rattle.billing.specs.Billing.{State, card_unit, ledger}
 
@@ -22,7 +22,7 @@ carried_out request (Some after) = request ∷ []
 carried_out request None = []
 
 abbrev pub carried_out_of : State → Option Request → List Request
-carried_out_of accounts (Some request) = carried_out request (moved request.movement (balance accounts request.account) request.cents)
+carried_out_of accounts (Some request) = carried_out request (balance_after request.movement (balance accounts request.account) request.cents)
 carried_out_of accounts None = []
 
 -- the requests among the texts that it carried out

@@ -20,9 +20,9 @@ abbrev pub greatest : ℕ
 greatest = 18446744073709551615
 
 -- the balance after a movement of some cents, if it may be made: a charge has to fit, and no more is refunded than was charged
-abbrev pub moved : Movement → ℕ → ℕ → Option ℕ
-moved Charge balance cents = if nat_le (balance + cents) greatest then Some (balance + cents) else None
-moved Refund balance cents = if nat_le cents balance then Some (balance - cents) else None
+abbrev pub balance_after : Movement → ℕ → ℕ → Option ℕ
+balance_after Charge balance cents = if nat_le (balance + cents) greatest then Some (balance + cents) else None
+balance_after Refund balance cents = if nat_le cents balance then Some (balance - cents) else None
 
 -- one digit or more, whose value fits 64 bits
 abbrev pub is_number : List ℕ → Bool

@@ -6,8 +6,8 @@ ghost use Rattle.billing.specs.States.{states_equal};
 use crate::accounts::Accounts;
 use crate::card::card_turn;
 use crate::ledger::ledger_turn;
-use crate::replies::stay_idle;
 use crate::role::Role;
+use crate::turns::stay_idle;
 use handler::{Handler, Turn};
 use ident::{Kind, NoMemory, Seat, Source};
 use std::alloc::Global;
@@ -28,10 +28,7 @@ impl Handler for Billing {
     }
 
     fn kind(&self, name: &str) -> Option<Kind> {
-        match Role::named(name) {
-            Some(role) => Some(role.kind()),
-            None => None,
-        }
+        Role::named(name).map(|role| role.kind())
     }
 
     fn begin(&self, alloc: Global, _seat: Seat) -> Result<Accounts, NoMemory> {

@@ -4,7 +4,7 @@ ghost use Rattle.std.specs.Prelude.{◌≡◌, IfOk};
 ghost use Rattle.billing.specs.Billing.{card};
 
 use crate::accounts::Accounts;
-use crate::replies::{misunderstand, put_out};
+use crate::turns::{misunderstand, put_out};
 use handler::Turn;
 use ident::{NoMemory, Source};
 use std::alloc::Global;

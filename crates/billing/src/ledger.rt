@@ -4,13 +4,13 @@ ghost use Rattle.std.specs.Prelude.{◌≡◌, IfOk};
 ghost use Rattle.billing.specs.Billing.{accepted, refused, settled, ledger};
 
 use crate::accounts::Accounts;
-use crate::replies::{misunderstand, put_out};
 use crate::request::Request;
+use crate::turns::{misunderstand, put_out};
 use handler::Turn;
 use ident::{NoMemory, Unit};
 use std::alloc::Global;
 
-/// The unit that a ledger's letters go to: a card, in a tenant of `["ledger","card"]`.
+/// The unit that a ledger's letters go to. It must be a card, as in a tenant of `["ledger","card"]`.
 const CARD_UNIT: u8 = 1;
 
 /// The turn of a ledger that keeps these accounts.
@@ -35,7 +35,7 @@ fn settle(
     ensures { IfOk result (λ t. t ≡ settled accounts.now request.now) }
 {
     let balance = accounts.balance(request.account);
-    match request.movement.moves(balance, request.cents) {
+    match request.movement.balance_after(balance, request.cents) {
         Some(after) => accept(alloc, accounts, request, after),
         None => refuse(alloc, accounts, request, balance),
     }

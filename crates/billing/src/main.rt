@@ -9,7 +9,7 @@
 //! - `role`: what the units are for, in place of the bare numbers of kinds;
 //! - `request`: a text as a charge or a refund;
 //! - `accounts`: the balances, which are the state of a unit;
-//! - `ledger`, `card`: the turn of a unit of each role;
+//! - `ledger`, `card`: the turn of a unit of each role; `turns`: those that they share;
 //! - `laws`: what follows for whoever runs it.
 //!
 //! `specs/Billing` says what all of it means.
@@ -20,9 +20,9 @@ mod billing;
 mod card;
 mod laws;
 mod ledger;
-mod replies;
 mod request;
 mod role;
+mod turns;
 
 use billing::Billing;
 use book::Book;

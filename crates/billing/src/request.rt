@@ -1,7 +1,7 @@
 //! A text as a charge or a refund.
 
 ghost use Rattle.std.specs.Prelude.{◌≡◌, IfOk};
-ghost use Rattle.billing.specs.Requests.{movement_named, name_of, moved, cents_told, request_in, line_of};
+ghost use Rattle.billing.specs.Requests.{movement_named, name_of, balance_after, cents_told, request_in, line_of};
 
 use ident::{NoMemory, Text};
 use std::alloc::Global;
@@ -38,8 +38,8 @@ impl Movement {
 
     /// The balance after it: none where a charge would take it past 64 bits, or where more would be
     /// refunded than was charged.
-    pub(crate) fn moves(self, balance: u64, cents: u64) -> Option<u64>
-        ensures { result ≡ moved self balance cents }
+    pub(crate) fn balance_after(self, balance: u64, cents: u64) -> Option<u64>
+        ensures { result ≡ balance_after self balance cents }
     {
         match self {
             Movement::Charge => balance.checked_add(cents),
