@@ -1,13 +1,12 @@
 -- The letters and the balances of a ledger add up, turn by turn.
-use Rattle.std.proofs.Common.{◌≡◌, ◌∙◌, ℕ, ◌+◌, Bool, if◌then◌else◌, true, false, List, [], ◌∷◌, ◌++◌, Option, Some, None, refl, sym, ap, arith, rules}
+use Rattle.std.proofs.Common.{◌≡◌, ◌∙◌, ℕ, ◌+◌, Bool, if◌then◌else◌, true, false, List, [], ◌∷◌, ◌++◌, Option, Some, None, refl, sym, ap, arith}
 use Rattle.std.specs.Prelude.{bytes_eq, map}
 use Rattle.std.proofs.lemmas.List.{map-append}
 use Rattle.std.proofs.lemmas.Bool.Decides.{nat_tests}
 use Rattle.std.proofs.lemmas.Slice.Eq.{bytes_eq-Decides}
-use Rattle.billing.specs.declared.accounts.Account.{Account}
 use Rattle.billing.specs.declared.request.Movement.{Movement}
 use Rattle.billing.specs.declared.request.Movement.TheVariants.{Charge, Refund}
-use Rattle.billing.specs.Requests.{Request, balance_after, request_in, line_of, greatest}
+use Rattle.billing.specs.Requests.{Request, balance_after, request_in, line_of}
 use Rattle.billing.specs.Accounts.{balance, with_balance}
 use Rattle.billing.specs.Billing.{State, card_unit, ledger, settled_by, answered}
 use Rattle.billing.specs.Laws.{AddsUp, accounts_after, letters_of, carried_out, carried_out_of, requests_of, charged, refunded, charges_cents, refunds_cents}
@@ -27,11 +26,11 @@ balance-with_balance : (accounts : State) (account : List ℕ) (cents : ℕ) (na
 balance-with_balance [] account cents name = refl
 balance-with_balance (first ∷ others) account cents name =
     elim (bytes_eq first.name account) as (λ v. bytes_eq first.name account ≡ v → balance (if v then record { name = account; cents = cents } ∷ others else first ∷ with_balance others account cents) name ≡ (if bytes_eq account name then cents else (if bytes_eq first.name name then first.cents else balance others name))) [
-      true ↦ λ e. at_it (bytes_eq account name) (bytes_eq first.name name) cents first.cents (balance others name) (ap (λ x. bytes_eq x name) ((bytes_eq-Decides first.name account).0 e))
-    | false ↦ λ e. past_it (bytes_eq account name) (bytes_eq first.name name) cents first.cents (balance others name) _
-        (λ f g. let same : first.name ≡ account = (bytes_eq-Decides first.name name).0 g ∙ sym ((bytes_eq-Decides account name).0 f) in
+      | true ↦ λ e. at_it (bytes_eq account name) (bytes_eq first.name name) cents first.cents (balance others name) (ap (λ x. bytes_eq x name) ((bytes_eq-Decides first.name account).0 e))
+      | false ↦ λ e. past_it (bytes_eq account name) (bytes_eq first.name name) cents first.cents (balance others name) _
+          (λ f g. let same : first.name ≡ account = (bytes_eq-Decides first.name name).0 g ∙ sym ((bytes_eq-Decides account name).0 f) in
           let d : bytes_eq first.name account ≡ true = (bytes_eq-Decides first.name account).1 same in cc)
-        (balance-with_balance others account cents name)
+          (balance-with_balance others account cents name)
     ] refl
 
 -- a movement that may be made
@@ -94,4 +93,5 @@ letters accounts (text ∷ texts) =
 pub adds_up : (texts : List (List ℕ)) → AddsUp texts
 adds_up texts = record {
   letters = letters [] texts;
-  balances = λ name. let h = balances [] texts name in omega arith }
+  balances = λ name. let h = balances [] texts name in omega arith;
+}

@@ -1,7 +1,6 @@
 -- What the handler means.
 use Rattle.std.specs.Prelude.{ℕ, ◌++◌, List, [], ◌∷◌, Option, Some, None, codes, decimal}
 use Rattle.std.specs.Option.{option_map}
-use Rattle.model.specs.declared.names.Seat.{Seat}
 use Rattle.model.specs.declared.names.Source.{Source}
 use Rattle.model.specs.declared.names.Source.TheVariants.{Outside, Unit as FromUnit}
 use Rattle.model.specs.Handler.{Turn, Meaning}
@@ -66,4 +65,5 @@ abbrev pub billing : Meaning State
 billing = record {
   kind = λ name. option_map kind_of (role_named name);
   begin = λ seat. [];
-  handle = λ seat accounts source text. handle_as (role_of seat.kind) accounts source text }
+  handle = λ seat accounts source text. handle_as (role_of seat.kind) accounts source text;
+}

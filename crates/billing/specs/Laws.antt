@@ -1,5 +1,5 @@
 -- What follows: what a ledger told its card adds up to its balances.
-use Rattle.std.specs.Prelude.{◌≡◌, ℕ, ◌+◌, Bool, if◌then◌else◌, ◌&&◌, true, false, List, [], ◌∷◌, ◌++◌, Option, Some, None, map, bytes_eq}
+use Rattle.std.specs.Prelude.{◌≡◌, ℕ, ◌+◌, if◌then◌else◌, List, [], ◌∷◌, ◌++◌, Option, Some, None, map, bytes_eq}
 use Rattle.billing.specs.declared.request.Movement.{Movement}
 use Rattle.billing.specs.declared.request.Movement.TheVariants.{Charge, Refund}
 use Rattle.billing.specs.Requests.{Request, balance_after, request_in, line_of}

@@ -1,7 +1,7 @@
 -- States that compare equal are equal.
 use Rattle.std.specs.Prelude.{◌≡◌, ◌==◌, ◌&&◌, List, true, bytes_eq}
 use Rattle.std.specs.Bool.{Decides}
-use Rattle.std.proofs.Common.{refl, rules, arith}
+use Rattle.std.proofs.Common.{refl, rules}
 use Rattle.std.proofs.lemmas.Slice.Eq.{slice_eq-Decides, bytes_eq-Decides}
 use Rattle.std.proofs.lemmas.Bool.Decides.{nat_tests}
 use Rattle.billing.specs.declared.accounts.Account.{Account}

@@ -28,9 +28,8 @@ use billing::Billing;
 use book::Book;
 use lines::{Counted, ServeFault, serve};
 use shared_log::MemoryStore;
-use std::io;
 use std::io::{BufReader, BufWriter, Write};
-use std::mem;
+use std::{io, mem};
 
 fn main(rt: HostRuntime) -> Result<(), ServeFault> {
     let alloc = rt.alloc();
