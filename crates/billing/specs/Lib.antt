@@ -1,0 +1,6 @@
+pub mod Roles
+pub mod Requests
+pub mod Accounts
+pub mod Billing
+pub mod States
+pub mod Laws
