@@ -76,23 +76,28 @@ impl Again {
     /// Adds the reply to a line. A flush that the store stopped counts what both times logged.
     fn add(&mut self, alloc: Global, book: &mut Books, line: &str) -> anyhow::Result<()> {
         let first = answer(alloc, book, line)?;
-        let reply = match first {
-            Reply::Stopped {
-                count,
-                refusal: Refusal::Store,
-            } => {
+        let reply = match logged_before(&first) {
+            Some(count) => {
                 self.refused = true;
                 with_more(answer(alloc, book, line)?, count)
             }
-            Reply::Refused {
-                refusal: Refusal::Store,
-            } => {
-                self.refused = true;
-                answer(alloc, book, line)?
-            }
-            other => other,
+            None => first,
         };
         push_reply(alloc, &mut self.replies, &reply)
+    }
+}
+
+/// How many records a step had logged when the store failed it, if it did.
+fn logged_before(reply: &Reply) -> Option<u64> {
+    match reply {
+        Reply::Stopped {
+            count,
+            refusal: Refusal::Store,
+        } => Some(*count),
+        Reply::Refused {
+            refusal: Refusal::Store,
+        } => Some(0),
+        _ => None,
     }
 }
 

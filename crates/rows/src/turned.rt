@@ -7,8 +7,8 @@
 use crate::answers::{answer, push_reply, step_of};
 use anyhow::bail;
 use book::{Book, Committed};
-use handler::{Done, Sample};
-use model::Who;
+use handler::{Ask, Done, Sample};
+use model::{Step, Who};
 use stable_log::MemoryStore;
 use std::alloc::Global;
 
@@ -37,9 +37,18 @@ pub(crate) fn turned(alloc: Global, lines: &str) -> anyhow::Result<String> {
 /// The turn that the step needs.
 fn work(alloc: Global, book: &Books, line: &str) -> anyhow::Result<Done<Sample>> {
     let step = step_of(alloc, line)?;
-    let Some(ask) = book.prepare(&step)? else {
-        bail!("the step needs no turn");
-    };
+    match needed(book, &step)? {
+        Some(ask) => worked(alloc, ask),
+        None => bail!("the step needs no turn"),
+    }
+}
+
+/// What `prepare` gives, without what its contract says: the rows see it by the replies.
+fn needed(book: &Books, step: &Step) -> anyhow::Result<Option<Ask<Sample>>> {
+    Ok(book.prepare(step)?)
+}
+
+fn worked(alloc: Global, ask: Ask<Sample>) -> anyhow::Result<Done<Sample>> {
     Ok(ask.work(alloc, &Sample)?)
 }
 
