@@ -93,11 +93,11 @@ fn add_short_arrow(
     }
     let gone = if sender.removal.is_some() { " gone" } else { "" };
     let (x, y) = (layout.x(sender.column), layout.y(sender.unit));
-    // Downwards to a unit below, else upwards, past the marks' labels.
+    // Downwards to a unit below, past the mark's label, or else upwards, past its badge.
     let course = if letter.source < letter.receiver {
-        "l20 36"
+        "l28 24"
     } else {
-        "l18 -34"
+        "l8 -36"
     };
     write!(
         svg,

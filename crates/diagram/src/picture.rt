@@ -1,7 +1,7 @@
 //! The picture of one tenant as a plain value, and what can be read off it.
 
 use crate::interval::{Cause, Downtime, Interval, Lane, Removal, Sent, Sign, Status};
-use ident::{Letter, Mark, Source, Unit};
+use ident::{Letter, Mark, NoMemory, Seat, Source, Unit};
 use std::alloc::Global;
 
 /// All that is drawn of one tenant.
@@ -32,6 +32,28 @@ impl<'a> Picture<'a> {
             rows: 0,
             columns: 0,
         }
+    }
+
+    /// Adds a unit that begins in the present column. The path is empty; its first interval is to be
+    /// logged from the start.
+    pub(crate) fn add_lane(
+        &mut self,
+        seat: Seat,
+        kind: &'a str,
+        path: Vec<usize>,
+    ) -> Result<(), NoMemory> {
+        let column = self.columns;
+        self.lanes.push(Lane {
+            seat,
+            kind,
+            column,
+            path,
+            stable: 1,
+            known: 0,
+            released: 0,
+            down: None,
+        })?;
+        Ok(())
     }
 
     /// The unit, if the tenant has it.

@@ -1,6 +1,6 @@
 //! The picture of a tenant from the entries of a history.
 
-use crate::interval::{Cause, Interval, Lane, Sent};
+use crate::interval::{Cause, Interval, Sent};
 use crate::picture::Picture;
 use depvector::DepVector;
 use handler::{Handler, Turn};
@@ -128,27 +128,12 @@ impl<'h, 'a, H: Handler> Replay<'h, 'a, H> {
 
     /// The unit at this seat begins.
     fn begin(&mut self, seat: Seat, kind: &'a str) -> Result<(), NoMemory> {
-        let alloc = self.alloc;
-        let state = self.handler.begin(alloc, seat)?;
-        self.states.push(state)?;
-        let lane = self.new_lane(seat, kind);
-        self.picture.lanes.push(lane)?;
-        let vector = DepVector::new(alloc, usize::from(seat.home))?;
-        self.add_interval(seat.unit, BEGINNING, Cause::Begin, vector, Vec::new(alloc))
-    }
-
-    /// A unit that stands on no interval yet, of which the first is to be logged.
-    fn new_lane(&self, seat: Seat, kind: &'a str) -> Lane<'a> {
-        Lane {
-            seat,
-            kind,
-            column: self.picture.columns,
-            path: Vec::new(self.alloc),
-            stable: 1,
-            known: 0,
-            released: 0,
-            down: None,
-        }
+        let (alloc, handler) = (self.alloc, self.handler);
+        let Seat { unit, home, .. } = seat;
+        self.picture.add_lane(seat, kind, Vec::new(alloc))?;
+        self.states.push(handler.begin(alloc, seat)?)?;
+        let vector = DepVector::new(alloc, usize::from(home))?;
+        self.add_interval(unit, BEGINNING, Cause::Begin, vector, Vec::new(alloc))
     }
 
     /// The letter's receiver receives it.
