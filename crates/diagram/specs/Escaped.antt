@@ -1,5 +1,5 @@
 -- Text that XML reads as characters alone.
-use Rattle.std.specs.Prelude.{◌≡◌, ◌==◌, ◌&&◌, ◌||◌, not, nat_lt, ℕ, Bool, List, [], ◌∷◌, codes}
+use Rattle.std.specs.Prelude.{◌≡◌, ◌==◌, ◌&&◌, ◌||◌, ◌⊎◌, not, nat_lt, ℕ, Bool, List, [], ◌∷◌, codes}
 use Rattle.std.specs.List.{All, Contains, concat}
 use Rattle.std.specs.Str.{NoCharPasses}
 

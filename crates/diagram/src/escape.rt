@@ -1,11 +1,16 @@
 //! Text as XML.
 
+ghost use Rattle.std.specs.Prelude.{◌≡◌, false, IfOk, MatchOption, string_bytes};
+ghost use Rattle.diagram.specs.Escaped.{IsEscaped, IsPiece, is_markup};
+
 use ident::NoMemory;
 use std::alloc::Global;
 
 /// What stands for a character that may not stand in XML as it is; none where it may. A character
 /// that XML doesn't allow at all is replaced.
-fn reference(character: char) -> Option<&'static str> {
+fn reference(character: char) -> Option<&'static str>
+    ensures { MatchOption result (is_markup character ≡ false) (λ r. IsPiece r.now) }
+{
     match character {
         '<' => Some("&lt;"),
         '>' => Some("&gt;"),
@@ -19,8 +24,11 @@ fn reference(character: char) -> Option<&'static str> {
     }
 }
 
-/// The text with a reference for each character that markup is made of.
-pub(crate) fn escape(alloc: Global, text: &str) -> Result<String, NoMemory> {
+/// The text with a reference for each character that markup is made of, and a mark of replacement for
+/// each that XML doesn't allow.
+pub(crate) fn escape(alloc: Global, text: &str) -> Result<String, NoMemory>
+    ensures { IfOk result (λ s. IsEscaped (string_bytes s)) }
+{
     let mut escaped = String::new(alloc);
     for character in text.chars() {
         match reference(character) {
