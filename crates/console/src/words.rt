@@ -143,20 +143,27 @@ fn feeds_command<'a>(alloc: Global) -> Result<Command<'a>, Error> {
 /// The command `draw`.
 fn draw_command<'a>(alloc: Global) -> Result<Command<'a>, Error> {
     let draw = Command::new(alloc, "draw")
-        .about("Runs the step lines of standard input, and draws a tenant's space-time diagram as SVG")
-        .arg(Arg::new(alloc, TENANT).long(TENANT).value_name("NAME").help(
-            "The tenant; without it the first one that is opened",
-        ))?
-        .arg(Arg::new(alloc, TO).long(TO).value_name("FILE").help(
-            "Makes FILE anew and draws to it; without it to standard output",
-        ))?
+        .about(
+            "Runs the step lines of standard input, and draws a tenant's space-time diagram as SVG",
+        )
+        .arg(
+            Arg::new(alloc, TENANT)
+                .long(TENANT)
+                .value_name("NAME")
+                .help("The tenant; without it the first one that is opened"),
+        )?
+        .arg(
+            Arg::new(alloc, TO).long(TO).value_name("FILE").help(
+                "Makes FILE anew and draws to it; without it to standard output",
+            ),
+        )?
         .arg(column_count(alloc, FROM).help(
             "The first column that is drawn, from 0; 500 at most are drawn",
         ))?
         .arg(
-            column_count(alloc, LAST)
-                .conflicts_with(FROM)?
-                .help("How many last columns are drawn; without it and --from, 500"),
+            column_count(alloc, LAST).conflicts_with(FROM)?.help(
+                "How many last columns are drawn; without it and --from, 500",
+            ),
         )?;
     Ok(draw)
 }

@@ -13,10 +13,11 @@ escaped-nil = ([], refl, λ k d h. absurd (omega arith))
 
 -- one more piece
 pub escaped-more : (text piece : List ℕ) → IsEscaped text → IsPiece piece → IsEscaped (text ++ piece)
-escaped-more text piece escaped one =
-    (escaped.0 ++ piece ∷ [],
-     concat-append escaped.0 (piece ∷ []) ∙ rw (escaped.1, append-nil piece) refl,
-     All-push IsPiece escaped.0 piece escaped.2 one)
+escaped-more text piece escaped one = (
+  escaped.0 ++ piece ∷ [],
+  concat-append escaped.0 (piece ∷ []) ∙ rw (escaped.1, append-nil piece) refl,
+  All-push IsPiece escaped.0 piece escaped.2 one,
+)
 
 -- one more character that stands for itself
 pub escaped-char : (text : List ℕ) (c : ℕ) → IsEscaped text → is_markup c ≡ false → IsEscaped (text ++ encode_utf8 c)

@@ -33,6 +33,7 @@ const FEW: usize = 60;
 
 /// A digit of a label, and the room beside a label.
 const DIGIT: usize = 7;
+
 const GAP: usize = 10;
 
 /// Where things stand.
@@ -80,7 +81,9 @@ impl Layout {
         if column < self.columns.first {
             return LEFT.saturating_sub(16);
         }
-        let count = column.min(self.columns.end).saturating_sub(self.columns.first);
+        let count = column
+            .min(self.columns.end)
+            .saturating_sub(self.columns.first);
         count
             .saturating_mul(self.step)
             .saturating_add(self.step / 2)

@@ -91,7 +91,11 @@ fn add_short_arrow(
     if !layout.columns.has(sender.column) {
         return Ok(());
     }
-    let gone = if sender.removal.is_some() { " gone" } else { "" };
+    let gone = if sender.removal.is_some() {
+        " gone"
+    } else {
+        ""
+    };
     let (x, y) = (layout.x(sender.column), layout.y(sender.unit));
     // Downwards to a unit below, past the mark's label, or else upwards, past its badge.
     let course = if letter.source < letter.receiver {

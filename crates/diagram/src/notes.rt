@@ -94,7 +94,11 @@ fn add_outputs<'a>(
 ) -> Result<(), NoMemory> {
     let state = match interval.removal {
         Some(_) => "undone",
-        None => if picture.is_released(interval) { "released" } else { "held" },
+        None => if picture.is_released(interval) {
+            "released"
+        } else {
+            "held"
+        },
     };
     for output in &interval.outputs {
         let text = escape(alloc, output.as_str())?;

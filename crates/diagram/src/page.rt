@@ -91,11 +91,7 @@ fn add_title(
         "<text class=\"name\" x=\"24\" y=\"34\">tenant {name}</text>\n",
     )?;
     add_counts(svg, picture)?;
-    let (first, end, all) = (
-        layout.columns.first,
-        layout.columns.end,
-        picture.columns,
-    );
+    let (first, end, all) = (layout.columns.first, layout.columns.end, picture.columns);
     if layout.columns.count() < all {
         write!(
             svg,
@@ -170,11 +166,7 @@ fn add_lane(
 }
 
 /// Adds the part of a unit's line where it was down.
-fn add_downtime(
-    svg: &mut String,
-    layout: &Layout,
-    downtime: &Downtime,
-) -> Result<(), NoMemory> {
+fn add_downtime(svg: &mut String, layout: &Layout, downtime: &Downtime) -> Result<(), NoMemory> {
     let (y, x) = (layout.y(downtime.unit), layout.x(downtime.first));
     let end = match downtime.end {
         Some(column) => layout.x(column),

@@ -150,9 +150,7 @@ impl<'a> Picture<'a> {
     /// Whether the outputs of the interval have left.
     pub(crate) fn is_released(&self, interval: &Interval<'a>) -> bool {
         match self.lane(interval.unit) {
-            Some(lane) => {
-                interval.removal.is_none() && interval.outputs_before < lane.released
-            }
+            Some(lane) => { interval.removal.is_none() && interval.outputs_before < lane.released }
             None => false,
         }
     }

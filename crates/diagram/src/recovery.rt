@@ -15,7 +15,11 @@ impl<'a> Picture<'a> {
             Reply::Checkpointed { at } => self.add_sign(unit, Event::Checkpoint { mark: *at }),
             Reply::Killed { lost } => self.kill(unit, *lost),
             Reply::Restarted { row } => self.restart(unit, *row),
-            Reply::Noticed { row: Some(row) } => self.roll_back(unit, Event::Rollback { row: *row }, *row),
+            Reply::Noticed { row: Some(row) } => self.roll_back(
+                unit,
+                Event::Rollback { row: *row },
+                *row,
+            ),
             Reply::Noticed { row: None } => self.learn(unit),
             _ => Ok(()),
         }

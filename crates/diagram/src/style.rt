@@ -39,26 +39,38 @@ text { fill: var(--ink); paint-order: stroke; stroke: var(--paper); stroke-width
 
 /// The shapes of intervals.
 pub(crate) const FIRM: &str = r#"<circle class="shape" r="9"/>"#;
+
 pub(crate) const STABLE: &str = r#"<rect class="shape" x="-8" y="-8" width="16" height="16"/>"#;
+
 pub(crate) const VOLATILE: &str = r#"<circle class="shape" r="8.5"/>"#;
+
 pub(crate) const LOST: &str = r#"<path class="shape" d="M-7-7L7 7M7-7L-7 7"/>"#;
+
 pub(crate) const CUT: &str = r#"<path class="shape" d="M0-10L10 0L0 10L-10 0Z"/>"#;
 
 /// The badges of outputs.
 pub(crate) const HELD: &str = r#"<circle class="held" cx="11" cy="-12" r="4"/>"#;
+
 pub(crate) const RELEASED: &str = r#"<circle class="released" cx="11" cy="-12" r="4.5"/>"#;
 
 /// The signs.
 pub(crate) const FLUSH: &str = r#"<path class="sign flush" d="M0-9V9"/>"#;
+
 pub(crate) const RELEASE: &str = r#"<path class="sign release" d="M0 8V-9M-5-4L0-9L5-4"/>"#;
+
 pub(crate) const CHECKPOINT: &str = r#"<path class="sign checkpoint" d="M-7-7H7V7H-7ZM-7 0H7"/>"#;
+
 pub(crate) const KILL: &str = r#"<path class="sign kill" d="M-4-13H4L2 4H-2ZM-3 8H3V13H-3Z"/>"#;
+
 pub(crate) const RESTART: &str = r#"<path class="sign restart" d="M-7-10L10 0L-7 10Z"/>"#;
+
 pub(crate) const ROLLBACK: &str = r#"<path class="sign rollback" d="M7-10L-10 0L7 10Z"/>"#;
+
 pub(crate) const NOTICE: &str = r#"<path class="sign notice" d="M-8-7H8L0 8Z"/>"#;
 
 /// What the shapes, badges, arrows and signs stand for. Its top left is at 0, 0.
-pub(crate) const LEGEND: &str = r#"<g transform="translate(24 16)"><g class="interval firm"><circle class="shape" r="9"/></g><text x="18" y="4">firm: all of its past is logged</text></g>
+pub(crate) const LEGEND: &str =
+    r#"<g transform="translate(24 16)"><g class="interval firm"><circle class="shape" r="9"/></g><text x="18" y="4">firm: all of its past is logged</text></g>
 <g transform="translate(24 44)"><g class="interval stable"><rect class="shape" x="-8" y="-8" width="16" height="16"/></g><text x="18" y="4">stable: logged, not yet firm</text></g>
 <g transform="translate(24 72)"><g class="interval volatile"><circle class="shape" r="8.5"/></g><text x="18" y="4">volatile: not logged</text></g>
 <g transform="translate(24 100)"><g class="interval lost"><path class="shape" d="M-7-7L7 7M7-7L-7 7"/></g><text x="18" y="4">lost: cut by a kill</text></g>
