@@ -3,6 +3,7 @@
 //! - `words`: the words of the command line, read with `clap`;
 //! - `run`: `recall run`, thin over `lines::serve`, which carries the theorem;
 //! - `feeds`: `recall feeds`, thin over `workers::run_feeds`, which carries its own;
+//! - `draw`: `recall draw`, thin over `diagram::draw`;
 //! - `log_file`: the file of `--log`, thin over `stable_log::WriterStore`, which carries its own;
 //! - `audits`: the audit lines, thin over `auditor::audit_tenant`, which carries its own;
 //! - `complaints`: what goes to standard error.
@@ -10,30 +11,33 @@
 
 mod audits;
 mod complaints;
+mod draw;
 mod feeds;
 mod log_file;
 mod run;
 mod words;
 
 use complaints::Complaints;
+use draw::diagram_of;
 use feeds::feeds_on;
-use log::{LevelFilter, Logged, error};
+use log::{LevelFilter, Log, Logged, error};
 use log_file::LogFile;
 use run::run_on;
 use stable_log::{MemoryStore, Store, WriterStore};
 use std::fs::{File, Files};
 use std::io;
-use std::io::ErrorKind;
+use std::io::{ErrorKind, Write};
 use std::process::ExitCode;
 use std::sync::Wait;
 use std::thread::Threads;
-use words::{Asked, FeedsWords, RunWords, read_words};
+use words::{Asked, DrawWords, FeedsWords, RunWords, read_words};
 
 fn main(rt: HostRuntime) -> ExitCode {
     let status = match words_of(&rt) {
         Ok(words) => match read_words(&rt, words.as_slice()) {
             Asked::Run(run) => run_as_asked(&rt, &run),
             Asked::Feeds(feeds) => feeds_as_asked(&rt, &feeds),
+            Asked::Draw(draw) => draw_as_asked(&rt, &draw),
             Asked::Ended(status) => status,
         },
         Err(error) => {
@@ -118,4 +122,32 @@ fn feeds_as_asked<R: Threads + Wait + Sync + Files + Print + Eprint + AllocGloba
         }
     }
     feeds_on(rt, &told, alloc, inputs, io::writer(rt), feeds.audit)
+}
+
+/// `recall draw`: draws to the file that is named, or to standard output.
+fn draw_as_asked(rt: &HostRuntime, draw: &DrawWords<'_>) -> u8 {
+    let told = Logged::new(rt, LevelFilter::Warn, Complaints(rt));
+    let found = diagram_of(&told, rt.alloc(), rt.reader(), draw.tenant, draw.window);
+    let Some(diagram) = found else {
+        return 1;
+    };
+    let Some(path) = draw.to else {
+        return put_diagram(&told, &mut io::writer(rt), diagram.as_str());
+    };
+    match File::create(rt, path) {
+        Ok(mut file) => put_diagram(&told, &mut file, diagram.as_str()),
+        Err(error) => {
+            error!(&told; "can't make {path}: {error}");
+            1
+        }
+    }
+}
+
+/// Writes a diagram, and tells the status to end with.
+fn put_diagram<L: Log, W: Write>(told: &L, writer: &mut W, diagram: &str) -> u8 {
+    if writer.write_all(diagram.as_bytes()).is_err() || writer.flush().is_err() {
+        error!(told; "the diagram can't be written");
+        return 1;
+    }
+    0
 }

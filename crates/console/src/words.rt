@@ -1,7 +1,8 @@
 //! The words of the command line.
 
 use clap::error::ErrorKind;
-use clap::{Arg, ArgAction, ArgMatches, Command, Error};
+use clap::{Arg, ArgAction, ArgMatches, Command, Error, value_parser};
+use diagram::Window;
 use ident::MAX_FEEDS;
 use std::alloc::Global;
 
@@ -11,6 +12,8 @@ pub(crate) enum Asked<'a> {
     Run(RunWords<'a>),
     /// `recall feeds`.
     Feeds(FeedsWords<'a>),
+    /// `recall draw`.
+    Draw(DrawWords<'a>),
     /// Help was printed, or the words were bad: the status to end with.
     Ended(u8),
 }
@@ -33,6 +36,17 @@ pub(crate) struct FeedsWords<'a> {
     pub files: Vec<&'a str>,
 }
 
+/// What `recall draw` is to draw, and where to.
+#[derive(Clone, Copy, Debug)]
+pub(crate) struct DrawWords<'a> {
+    /// The tenant, or else the first one opened.
+    pub tenant: Option<&'a str>,
+    /// The file, or else the output.
+    pub to: Option<&'a str>,
+    /// The columns.
+    pub window: Window,
+}
+
 /// The flag that asks for audit lines.
 const AUDIT: &str = "audit";
 
@@ -41,6 +55,18 @@ const LOG: &str = "log";
 
 /// The files of the feeds.
 const FILE: &str = "FILE";
+
+/// The option that names the tenant that is drawn.
+const TENANT: &str = "tenant";
+
+/// The option that names the drawing's file.
+const TO: &str = "to";
+
+/// The option that has the first column.
+const FROM: &str = "from";
+
+/// The option that has how many last columns.
+const LAST: &str = "last";
 
 /// The version of the program.
 const VERSION: &str = "0.1.0";
@@ -114,6 +140,56 @@ fn feeds_command<'a>(alloc: Global) -> Result<Command<'a>, Error> {
     Ok(feeds)
 }
 
+/// The command `draw`.
+fn draw_command<'a>(alloc: Global) -> Result<Command<'a>, Error> {
+    let draw = Command::new(alloc, "draw")
+        .about(
+            "Runs the step lines of standard input, and draws a tenant's space-time diagram as SVG",
+        )
+        .arg(
+            Arg::new(alloc, TENANT)
+                .long(TENANT)
+                .value_name("NAME")
+                .help("The tenant; without it the first one that is opened"),
+        )?
+        .arg(
+            Arg::new(alloc, TO).long(TO).value_name("FILE").help(
+                "Makes FILE anew and draws to it; without it to standard output",
+            ),
+        )?
+        .arg(column_count(alloc, FROM).help(
+            "The first column that is drawn, from 0; 500 at most are drawn",
+        ))?
+        .arg(
+            column_count(alloc, LAST).conflicts_with(FROM)?.help(
+                "How many last columns are drawn; without it and --from, 500",
+            ),
+        )?;
+    Ok(draw)
+}
+
+/// An option of `draw` that has a number of columns.
+fn column_count<'a>(alloc: Global, name: &'a str) -> Arg<'a> {
+    Arg::new(alloc, name)
+        .long(name)
+        .value_name("N")
+        .value_parser(value_parser!(usize))
+}
+
+/// What `recall draw` is to draw, and where to.
+fn draw_words<'a>(draw: &ArgMatches<'a>) -> DrawWords<'a> {
+    let window = match (draw.get_one::<usize>(FROM), draw.get_one::<usize>(LAST)) {
+        (Some(first), _) => Window::From(first),
+        (None, Some(count)) => Window::Last(count),
+        (None, None) => Window::Latest,
+    };
+    DrawWords {
+        tenant: draw.get_str(TENANT),
+        to: draw.get_str(TO),
+        window,
+    }
+}
+
 /// The files that the words name.
 fn files_of<'a>(alloc: Global, feeds: &ArgMatches<'a>) -> Result<Vec<&'a str>, Error> {
     let mut files = Vec::new(alloc);
@@ -136,7 +212,8 @@ fn read_command<'a, R: AllocGlobal>(rt: &R, words: &'a [String]) -> Result<Asked
         .after_help(EXAMPLE)
         .subcommand_required(true)
         .subcommand(run_command(alloc)?)?
-        .subcommand(feeds_command(alloc)?)?;
+        .subcommand(feeds_command(alloc)?)?
+        .subcommand(draw_command(alloc)?)?;
     let matches = recall.try_get_matches_from(words)?;
     if let Some(run) = matches.subcommand_matches("run") {
         return Ok(Asked::Run(RunWords {
@@ -149,6 +226,9 @@ fn read_command<'a, R: AllocGlobal>(rt: &R, words: &'a [String]) -> Result<Asked
             audit: feeds.get_flag(AUDIT),
             files: files_of(alloc, feeds)?,
         }));
+    }
+    if let Some(draw) = matches.subcommand_matches("draw") {
+        return Ok(Asked::Draw(draw_words(draw)));
     }
     Ok(Asked::Ended(2))
 }

@@ -1,0 +1,72 @@
+//! `recall draw`: the step lines of the input are run, and a tenant's diagram is drawn.
+
+use crate::run::BLOCK;
+use book::Book;
+use diagram::{Window, draw, find_tenant};
+use handler::Sample;
+use lines::{Counted, ServeFault, read_feed};
+use log::{Log, error};
+use model::{Entry, NoMemory, TenantName};
+use stable_log::MemoryStore;
+use std::alloc::Global;
+use std::io::{BufReader, Read};
+
+/// The diagram of the tenant that is named, or of the first one opened, after all step lines of the
+/// input, over a store in memory. A line that is no step changes nothing. None where it can't be
+/// drawn, which is told.
+pub(crate) fn diagram_of<L: Log, R: Read + Drop>(
+    told: &L,
+    alloc: Global,
+    input: R,
+    name: Option<&str>,
+    window: Window,
+) -> Option<String> {
+    let book = match book_of(alloc, input) {
+        Ok(book) => book,
+        Err(fault) => {
+            tell(told, fault);
+            return None;
+        }
+    };
+    let tenant = find_tenant(book.history(), name);
+    if let (None, Some(name)) = (tenant, name) {
+        error!(told; "the tenant {name} is not open");
+        return None;
+    }
+    match draw(alloc, &Sample, book.history(), tenant, window) {
+        Ok(diagram) => Some(diagram),
+        Err(NoMemory) => {
+            tell(told, ServeFault::NoMemory);
+            None
+        }
+    }
+}
+
+/// The book after all steps of the input.
+fn book_of<R: Read + Drop>(
+    alloc: Global,
+    input: R,
+) -> Result<Book<Sample, MemoryStore>, ServeFault> {
+    let Ok(reader) = BufReader::with_capacity(alloc, BLOCK, input) else {
+        return Err(ServeFault::NoMemory);
+    };
+    let mut book = Book::new(alloc, Sample, MemoryStore::new(alloc));
+    for line in read_feed(alloc, &mut Counted::new(reader))? {
+        if let Ok(step) = line {
+            book.step(step);
+        }
+    }
+    Ok(book)
+}
+
+/// Says why nothing is drawn.
+fn tell<L: Log>(told: &L, fault: ServeFault) {
+    match fault {
+        ServeFault::NoMemory => {
+            error!(told; "there is no memory for the diagram: nothing is drawn");
+        }
+        _ => {
+            error!(told; "the input can't be read: nothing is drawn");
+        }
+    }
+}

@@ -1,0 +1,30 @@
+//! Space-time diagrams (Lamport 1978) of a tenant's history, as SVG.
+//!
+//! - `draw`: the picture of one tenant. A line for each unit; on it a mark for each interval, told
+//!   apart by shape and colour as firm, stable, volatile, lost or cut; arrows for letters; signs for
+//!   flushes, releases, checkpoints, kills, restarts and notices.
+//! - `find_tenant`: whose picture to draw.
+//! - `Window`: which columns of it. Each event that changed something has a column of its own, in
+//!   the order of the tenant's history, so that time goes from left to right.
+//!
+//! The picture follows from the entries alone: `replay` works the handler's turns over the accepted
+//! receipts, which tell to whom each letter went and what was put out, and the replies tell the rest.
+//! `interval` and `picture` have what it then knows, as plain values, and `page`, `marks`, `letters`
+//! and `notes` write that as SVG. `escape` carries a contract: no text from a step can end or open an element.
+#![tactic(auto)]
+
+mod escape;
+mod interval;
+mod layout;
+mod letters;
+mod marks;
+mod notes;
+mod page;
+mod picture;
+mod recovery;
+mod replay;
+mod style;
+mod window;
+
+pub use page::{draw, find_tenant};
+pub use window::Window;

@@ -1,0 +1,275 @@
+//! The picture of a tenant from the entries of a history.
+
+use crate::interval::{Cause, Interval, Sent};
+use crate::picture::Picture;
+use depvector::DepVector;
+use handler::{Handler, Turn};
+use ident::{Kind, Letter, Mark, NoMemory, Seat, TenantName, Text, Unit};
+use model::{Entry, Reply, Step};
+use std::alloc::Global;
+
+/// Units that a vector can have an entry for.
+const MOST_ENTRIES: usize = 256;
+
+/// The mark of every unit's beginning.
+const BEGINNING: Mark = Mark {
+    incarnation: 0,
+    index: 0,
+};
+
+/// Follows a tenant's entries, and works its turns.
+#[derive(Drop)]
+struct Replay<'h, 'a, H: Handler> {
+    alloc: Global,
+    handler: &'h H,
+    /// The state at each interval.
+    states: Vec<H::State>,
+    picture: Picture<'a>,
+}
+
+/// The picture of a tenant by its entries of a history. The only error is want of memory.
+pub(crate) fn picture_of<'a, H: Handler>(
+    alloc: Global,
+    handler: &H,
+    history: &'a [Entry],
+    tenant: &TenantName,
+) -> Result<Picture<'a>, NoMemory> {
+    let mut replay = Replay {
+        alloc,
+        handler,
+        states: Vec::new(alloc),
+        picture: Picture::new(alloc),
+    };
+    for entry in history {
+        if *tenant == *entry.step.tenant() {
+            replay.enter(entry)?;
+        }
+    }
+    let Replay { mut picture, .. } = replay;
+    mark_received(&mut picture);
+    Ok(picture)
+}
+
+/// Marks the letters that an interval on a path received.
+fn mark_received(picture: &mut Picture<'_>) {
+    for interval in &picture.intervals {
+        if let (Cause::Letter { place }, None) = (interval.cause, interval.removal) {
+            if let Some(letter) = picture.letters.get_mut(place) {
+                letter.is_received = true;
+            }
+        }
+    }
+}
+
+impl<'h, 'a, H: Handler> Replay<'h, 'a, H> {
+    /// Follows one entry.
+    fn enter(&mut self, entry: &'a Entry) -> Result<(), NoMemory> {
+        match &entry.step {
+            Step::Open { kinds, .. } => self.open(kinds.as_slice(), &entry.reply),
+            Step::Join { kind, .. } => self.join(kind.as_str(), &entry.reply),
+            Step::Post {
+                unit,
+                number,
+                text,
+                ..
+            } => self.receive(
+                *unit,
+                Cause::Outside {
+                    number: *number,
+                    text: text.as_str(),
+                },
+                &entry.reply,
+            ),
+            Step::Deliver { letter, .. } => self.deliver(*letter, &entry.reply),
+            Step::Flush { unit, .. }
+            | Step::Checkpoint { unit, .. }
+            | Step::Kill { unit, .. }
+            | Step::Restart { unit, .. }
+            | Step::Notice { unit, .. }
+            | Step::Release { unit, .. } => self.picture.change(*unit, &entry.reply),
+            Step::Status { .. } => Ok(()),
+        }
+    }
+
+    /// The first units begin, in one column.
+    fn open(&mut self, kinds: &'a [Text], reply: &Reply) -> Result<(), NoMemory> {
+        if let Reply::Opened { .. } = reply {
+            for kind in kinds {
+                self.add_unit(kind.as_str(), kinds.len())?;
+            }
+            self.picture.columns = self.picture.columns.saturating_add(1);
+        }
+        Ok(())
+    }
+
+    /// One more unit begins.
+    fn join(&mut self, kind: &'a str, reply: &Reply) -> Result<(), NoMemory> {
+        if let Reply::Joined { .. } = reply {
+            let home = self.picture.lanes.len().saturating_add(1);
+            self.add_unit(kind, home)?;
+            self.picture.columns = self.picture.columns.saturating_add(1);
+        }
+        Ok(())
+    }
+
+    /// Adds a unit with its beginning, in the present column. No tenant has more than 255 units.
+    fn add_unit(&mut self, kind: &'a str, home: usize) -> Result<(), NoMemory> {
+        let number = u8::try_from(self.picture.lanes.len());
+        if let (Ok(number), Ok(home)) = (number, u8::try_from(home)) {
+            let seat = Seat {
+                unit: Unit::new(number),
+                kind: self.handler.kind(kind).unwrap_or(Kind::new(0)),
+                home,
+            };
+            self.begin(seat, kind)?;
+        }
+        Ok(())
+    }
+
+    /// The unit at this seat begins.
+    fn begin(&mut self, seat: Seat, kind: &'a str) -> Result<(), NoMemory> {
+        let (alloc, handler) = (self.alloc, self.handler);
+        let Seat { unit, home, .. } = seat;
+        self.picture.add_lane(seat, kind, Vec::new(alloc))?;
+        self.states.push(handler.begin(alloc, seat)?)?;
+        let vector = DepVector::new(alloc, usize::from(home))?;
+        self.add_interval(unit, BEGINNING, Cause::Begin, vector, Vec::new(alloc))
+    }
+
+    /// The letter's receiver receives it.
+    fn deliver(&mut self, letter: Letter, reply: &Reply) -> Result<(), NoMemory> {
+        let Some(place) = self.picture.letter_place(letter) else {
+            return Ok(());
+        };
+        let cause = Cause::Letter { place };
+        let Some(letter) = self.picture.letter(cause) else {
+            return Ok(());
+        };
+        let receiver = letter.receiver;
+        self.receive(receiver, cause, reply)
+    }
+
+    /// A unit receives something: where it was accepted, an interval begins.
+    fn receive(&mut self, unit: Unit, cause: Cause<'a>, reply: &Reply) -> Result<(), NoMemory> {
+        let Reply::Accepted { at, letters, .. } = reply else {
+            return Ok(());
+        };
+        let (Some(turn), Some(vector)) = (self.turn(unit, cause)?, self.vector(unit, *at, cause)?)
+        else {
+            return Ok(());
+        };
+        let Turn {
+            state,
+            sends,
+            outputs,
+        } = turn;
+        self.states.push(state)?;
+        self.add_letters(unit, sends, letters.as_slice())?;
+        self.add_interval(unit, *at, cause, vector, outputs)?;
+        self.picture.columns = self.picture.columns.saturating_add(1);
+        Ok(())
+    }
+
+    /// The turn of the unit, if the tenant has the unit.
+    fn turn(&self, unit: Unit, cause: Cause<'a>) -> Result<Option<Turn<H::State>>, NoMemory> {
+        let (Some(lane), Some(state)) = (self.picture.lane(unit), self.state(unit)) else {
+            return Ok(None);
+        };
+        let (source, text) = self.picture.received(cause);
+        let turn = self
+            .handler
+            .handle(self.alloc, lane.seat, state, source, text)?;
+        Ok(Some(turn))
+    }
+
+    /// The state of the unit at the end of its path.
+    fn state(&self, unit: Unit) -> Option<&H::State> {
+        let place = *self.picture.lane(unit)?.path.last()?;
+        self.states.get(place)
+    }
+
+    /// The vector of the interval that begins: the later marks of the interval before it and of the
+    /// letter's sender, with its own mark.
+    fn vector(
+        &self,
+        unit: Unit,
+        mark: Mark,
+        cause: Cause<'a>,
+    ) -> Result<Option<DepVector>, NoMemory> {
+        let Some(before) = self.picture.last(unit) else {
+            return Ok(None);
+        };
+        let mut vector = before.vector.copy()?;
+        vector.widen(self.picture.lanes.len().min(MOST_ENTRIES))?;
+        if let Some(sender) = self.sender(cause) {
+            if sender.vector.len() <= vector.len() {
+                vector.join(&sender.vector);
+            }
+        }
+        if usize::from(unit.number()) < vector.len() {
+            vector.set_own(unit, mark);
+        }
+        Ok(Some(vector))
+    }
+
+    /// The interval that sent what is received, if it is a letter.
+    fn sender(&self, cause: Cause<'a>) -> Option<&Interval<'a>> {
+        let letter = self.picture.letter(cause)?;
+        self.picture.intervals.get(letter.sender)
+    }
+
+    /// Adds the letters that the next interval sends. A send to a unit that the tenant doesn't have
+    /// goes nowhere, and has no number.
+    fn add_letters(
+        &mut self,
+        unit: Unit,
+        sends: Vec<(Unit, Text)>,
+        numbers: &[Letter],
+    ) -> Result<(), NoMemory> {
+        let sender = self.picture.intervals.len();
+        let mut left = numbers.iter();
+        for (receiver, text) in sends {
+            if self.picture.lane(receiver).is_some() {
+                if let Some(number) = left.next() {
+                    self.picture.letters.push(Sent {
+                        number: *number,
+                        sender,
+                        source: unit,
+                        receiver,
+                        text,
+                        is_received: false,
+                    })?;
+                }
+            }
+        }
+        Ok(())
+    }
+
+    /// Adds the interval to the end of its unit's path, in the present column.
+    fn add_interval(
+        &mut self,
+        unit: Unit,
+        mark: Mark,
+        cause: Cause<'a>,
+        vector: DepVector,
+        outputs: Vec<Text>,
+    ) -> Result<(), NoMemory> {
+        let place = self.picture.intervals.len();
+        let outputs_before = self.picture.outputs(unit);
+        let column = self.picture.columns;
+        self.picture.intervals.push(Interval {
+            unit,
+            mark,
+            column,
+            cause,
+            vector,
+            outputs,
+            outputs_before,
+            removal: None,
+        })?;
+        if let Some(lane) = self.picture.lanes.get_mut(usize::from(unit.number())) {
+            lane.path.push(place)?;
+        }
+        Ok(())
+    }
+}
