@@ -2,6 +2,7 @@
 //!
 //! - `words`: the words of the command line, read with `clap`;
 //! - `run`: `recall run`, thin over `lines::serve`, which carries the theorem;
+//! - `explained`: `recall run --explain`, thin over `lines::serve` for each line, and over `reasons`;
 //! - `feeds`: `recall feeds`, thin over `workers::run_feeds`, which carries its own;
 //! - `draw`: `recall draw`, thin over `diagram::draw`;
 //! - `log_file`: the file of `--log`, thin over `stable_log::WriterStore`, which carries its own;
@@ -12,6 +13,7 @@
 mod audits;
 mod complaints;
 mod draw;
+mod explained;
 mod feeds;
 mod log_file;
 mod run;
@@ -79,7 +81,7 @@ fn run_as_asked(rt: &HostRuntime, run: &RunWords<'_>) -> u8 {
             &mut rt.reader(),
             &mut io::writer(rt),
             store,
-            run.audit,
+            run,
         );
     };
     let file = match File::create(rt, path) {
@@ -96,7 +98,7 @@ fn run_as_asked(rt: &HostRuntime, run: &RunWords<'_>) -> u8 {
         &mut rt.reader(),
         &mut io::writer(rt),
         store,
-        run.audit,
+        run,
     )
 }
 

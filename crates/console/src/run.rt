@@ -3,28 +3,31 @@
 ghost use Rattle.std.specs.Prelude.{◌≡◌, []};
 
 use crate::audits::audit_all;
+use crate::explained::serve_explained;
+use crate::words::RunWords;
 use book::Book;
 use handler::Sample;
 use lines::{Counted, ServeFault, serve};
 use log::{Log, error};
 use stable_log::Store;
 use std::alloc::Global;
-use std::io::{BufReader, BufWriter, Read, Write};
+use std::io::{BufRead, BufReader, BufWriter, Read, Write};
 use std::mem;
 
 /// Bytes that are read or written at once.
 pub(crate) const BLOCK: usize = 65536;
 
 /// Answers each line of the input, over a store that acknowledged nothing yet, and tells the status
-/// to end with: 0 where all lines are answered, 1 after a fault of input, output or memory. With
-/// `audit`, audits each open tenant after the last line; 1 too where an audit doesn't say yes.
+/// to end with: 0 where all lines are answered, 1 after a fault of input, output or memory. Where it is
+/// asked for, each refusal is told with its reason, and each open tenant is audited after the last
+/// line; 1 too where an audit doesn't say yes.
 pub(crate) fn run_on<L: Log, R: Read + Drop, W: Write + Drop, S: Store>(
     rt: &L,
     alloc: Global,
     input: R,
     output: W,
     store: S,
-    audit: bool,
+    asked: &RunWords<'_>,
 ) -> u8
     requires { S.log store ≡ [] }
 {
@@ -38,9 +41,16 @@ pub(crate) fn run_on<L: Log, R: Read + Drop, W: Write + Drop, S: Store>(
     let mut reader = Counted::new(reader);
     let mut writer = Counted::new(writer);
     let mut book = Book::new(alloc, Sample, store);
-    let status = match serve(alloc, &mut reader, &mut writer, &mut book) {
-        Ok(_) if audit => audit_all(rt, alloc, &mut writer.inner, &book),
-        Ok(_) => 0,
+    let status = match answer_all(
+        rt,
+        alloc,
+        &mut reader,
+        &mut writer,
+        &mut book,
+        asked.explain,
+    ) {
+        Ok(()) if asked.audit => audit_all(rt, alloc, &mut writer.inner, &book),
+        Ok(()) => 0,
         Err(fault) => {
             // What was answered goes out, as far as it can.
             let _ = writer.inner.flush();
@@ -51,6 +61,22 @@ pub(crate) fn run_on<L: Log, R: Read + Drop, W: Write + Drop, S: Store>(
     // The process ends with this: to let go of each text of the history would take a fifth of its time.
     mem::forget(book);
     status
+}
+
+/// Answers each line, and tells why it was refused where that is asked for.
+fn answer_all<L: Log, R: BufRead, W: Write, S: Store>(
+    told: &L,
+    alloc: Global,
+    reader: &mut Counted<R>,
+    writer: &mut Counted<W>,
+    book: &mut Book<Sample, S>,
+    explain: bool,
+) -> Result<(), ServeFault> {
+    if explain {
+        return serve_explained(told, alloc, &mut reader.inner, &mut writer.inner, book);
+    }
+    serve(alloc, reader, writer, book)?;
+    Ok(())
 }
 
 /// Says what failed, and what to do.

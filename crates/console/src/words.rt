@@ -23,6 +23,8 @@ pub(crate) enum Asked<'a> {
 pub(crate) struct RunWords<'a> {
     /// Audit the tenants after the last line.
     pub audit: bool,
+    /// Tell why each line was refused.
+    pub explain: bool,
     /// The file that the log is written to.
     pub log: Option<&'a str>,
 }
@@ -49,6 +51,9 @@ pub(crate) struct DrawWords<'a> {
 
 /// The flag that asks for audit lines.
 const AUDIT: &str = "audit";
+
+/// The flag that asks for reasons.
+const EXPLAIN: &str = "explain";
 
 /// The option that names the log's file.
 const LOG: &str = "log";
@@ -119,6 +124,12 @@ fn run_command<'a>(alloc: Global) -> Result<Command<'a>, Error> {
             Arg::new(alloc, LOG).long(LOG).value_name("FILE").help(
                 "Makes FILE anew, and writes a line to it for each record that is logged",
             ),
+        )?
+        .arg(
+            Arg::new(alloc, EXPLAIN)
+                .long(EXPLAIN)
+                .action(ArgAction::SetTrue)
+                .help("Writes to standard error why each line was refused, and what would help"),
         )?
         .arg(audit_flag(alloc))?;
     Ok(run)
@@ -218,6 +229,7 @@ fn read_command<'a, R: AllocGlobal>(rt: &R, words: &'a [String]) -> Result<Asked
     if let Some(run) = matches.subcommand_matches("run") {
         return Ok(Asked::Run(RunWords {
             audit: run.get_flag(AUDIT),
+            explain: run.get_flag(EXPLAIN),
             log: run.get_str(LOG),
         }));
     }

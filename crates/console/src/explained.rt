@@ -1,0 +1,119 @@
+//! `recall run --explain`: lines are answered one by one, and each refusal is told with its reason.
+
+use book::Book;
+use handler::Sample;
+use ident::MAX_LINE_BYTES;
+use lines::{Counted, ServeFault, serve};
+use log::{Log, warn};
+use reasons::{reason, refusal_in};
+use stable_log::Store;
+use std::alloc::Global;
+use std::io::{BufRead, ErrorKind, Read, Write};
+use std::{io, str};
+
+/// A line that is no longer than it may be, with its line feed.
+const WHOLE_LINE: u64 = MAX_LINE_BYTES as u64 + 1;
+
+/// Answers each line as `serve` answers it, and tells for each that was refused its number, why, and what would help.
+/// Each reply is out before its reason, and before the next line is read.
+pub(crate) fn serve_explained<L: Log, R: BufRead, W: Write, S: Store>(
+    told: &L,
+    alloc: Global,
+    reader: &mut R,
+    writer: &mut W,
+    book: &mut Book<Sample, S>,
+) -> Result<(), ServeFault> {
+    let mut line = Vec::new(alloc);
+    for number in 1..u64::MAX {
+        line.clear();
+        if !read_line(alloc, reader, &mut line)? {
+            return Ok(());
+        }
+        let reply = reply_to(alloc, line.as_slice(), book)?;
+        put(writer, reply.as_slice())?;
+        explain(told, alloc, number, line.as_slice(), reply.as_slice());
+    }
+    Ok(())
+}
+
+/// Reads the next line with its line feed, and tells whether there is one. Of one that is too long as much is kept as
+/// shows that it is, and the rest is read past.
+fn read_line<R: BufRead>(
+    alloc: Global,
+    reader: &mut R,
+    line: &mut Vec<u8>,
+) -> Result<bool, ServeFault> {
+    if read_part(reader, line)? && !is_ended(line.as_slice()) {
+        skip_rest(alloc, reader)?;
+    }
+    Ok(!line.is_empty())
+}
+
+fn is_ended(line: &[u8]) -> bool {
+    line.last() == Some(&b'\n')
+}
+
+/// Reads up to a line feed, or as much as a line may have, and tells whether it was as much.
+fn read_part<R: BufRead>(reader: &mut R, part: &mut Vec<u8>) -> Result<bool, ServeFault> {
+    match reader.by_ref().take(WHOLE_LINE).read_until(b'\n', part) {
+        Ok(count) => Ok(count as u64 == WHOLE_LINE),
+        Err(error) => Err(fault_of(&error)),
+    }
+}
+
+fn fault_of(error: &io::Error) -> ServeFault {
+    if error.kind() == ErrorKind::OutOfMemory {
+        ServeFault::NoMemory
+    } else {
+        ServeFault::Read
+    }
+}
+
+/// Reads past the rest of a line.
+fn skip_rest<R: BufRead>(alloc: Global, reader: &mut R) -> Result<(), ServeFault> {
+    let mut part = Vec::new(alloc);
+    for _ in 0..u64::MAX {
+        part.clear();
+        if !read_part(reader, &mut part)? || is_ended(part.as_slice()) {
+            return Ok(());
+        }
+    }
+    Ok(())
+}
+
+/// The reply line to a line.
+fn reply_to<S: Store>(
+    alloc: Global,
+    line: &[u8],
+    book: &mut Book<Sample, S>,
+) -> Result<Vec<u8>, ServeFault> {
+    let mut reader = Counted::new(line);
+    let mut writer = Counted::new(Vec::new(alloc));
+    match serve(alloc, &mut reader, &mut writer, book) {
+        Ok(_) => Ok(writer.inner),
+        // A list fails to take bytes for want of memory alone.
+        Err(_) => Err(ServeFault::NoMemory),
+    }
+}
+
+fn put<W: Write>(writer: &mut W, reply: &[u8]) -> Result<(), ServeFault> {
+    if writer.write_all(reply).is_err() || writer.flush().is_err() {
+        return Err(ServeFault::Write);
+    }
+    Ok(())
+}
+
+/// Tells why a line was refused, if it was.
+fn explain<L: Log>(told: &L, alloc: Global, number: u64, line: &[u8], reply: &[u8]) {
+    let Ok(reply) = str::from_utf8(reply) else {
+        return;
+    };
+    let Some(refusal) = refusal_in(reply) else {
+        return;
+    };
+    let line = line.strip_suffix(b"\n").unwrap_or(line);
+    match reason(alloc, &Sample, line, refusal) {
+        Ok(reason) => warn!(told; "line {number}: {reason}"),
+        Err(_) => warn!(told; "line {number}: {refusal}"),
+    }
+}
