@@ -4,7 +4,7 @@
 //! - `refusal_in`: the refusal that a reply line tells, if it tells one.
 //!
 //! A refused step is told by its own words and the refusal (`steps`), a line that is no step by the first thing that is
-//! wrong with it (`bad_lines`), form by form (`forms_of`). Nothing is asked of the tenant: what a reason says follows from
+//! wrong with it (`bad_lines`), form by form (`keys`). Nothing is asked of the tenant: what a reason says follows from
 //! the line and its reply alone.
 #![tactic(auto)]
 
