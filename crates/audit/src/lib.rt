@@ -12,6 +12,24 @@
 //! - `verdict`: `check`, which puts these together.
 //!
 //! The definitions are those of `model`'s `FailureFree`; `specs/Audits` says what a verdict means.
+//!
+//! For an auditor, who trusts nothing else of the runtime. A caller:
+//!
+//! ```
+//! /// The outcome of the audit of these lists, where it may be asked.
+//! pub(crate) fn audit_of_lists(
+//!     alloc: Global,
+//!     seats: &[Seat],
+//!     moves: &[Move],
+//!     released: &[Texts],
+//! ) -> Option<Result<Verdict, Flaw>> {
+//!     if can_check(seats, moves, released) {
+//!         Some(check(alloc, &Sample, seats, moves, released))
+//!     } else {
+//!         None
+//!     }
+//! }
+//! ```
 #![tactic(auto)]
 
 mod moves;

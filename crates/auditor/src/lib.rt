@@ -7,6 +7,15 @@
 //! - `can_check` (`checkable`): whether `audit::check` may be asked of lists from elsewhere.
 //!
 //! `check` itself stands in `audit`, so that an auditor need read nothing of the runtime.
+//!
+//! For a host that shows what it released to be right. A caller:
+//!
+//! ```
+//! /// The outcome of the audit of a book's tenant.
+//! pub(crate) fn audit_of(alloc: Global, book: &Books, name: &TenantName) -> Result<Verdict, Flaw> {
+//!     audit_tenant(alloc, &Sample, book, name)
+//! }
+//! ```
 #![tactic(auto)]
 
 mod checkable;

@@ -23,6 +23,20 @@
 //! The words of the contracts are in `specs/`: `Entries` says how a step is entered, and `History`
 //! what a history makes of tenants and log. The work of one step is `answer::answer`, and the lemma
 //! `entered` of `proofs/Replays` shows that the book is still the replay of its history after it.
+//!
+//! For a host that does steps by calls, and for whoever relies on what was released. A caller:
+//!
+//! ```
+//! /// A new book that did these steps, one by one.
+//! fn book_after(alloc: Global, lines: &str) -> anyhow::Result<Books> {
+//!     let mut book = new_book(alloc);
+//!     for line in lines.lines() {
+//!         let (who, step) = given(line)?;
+//!         let _ = calls::step_as(&mut book, who, step_of(alloc, step)?);
+//!     }
+//!     Ok(book)
+//! }
+//! ```
 #![tactic(auto)]
 
 mod answer;

@@ -8,6 +8,15 @@
 //! - `LineFault` (`fault`): a line that is no step, or no memory to tell.
 //!
 //! None knows of line feeds or of the limit on a line's length: `lines` cuts the input.
+//!
+//! For whoever speaks the lines without serving them: a client, a tool. A caller:
+//!
+//! ```
+//! /// The step that a line must be.
+//! pub(crate) fn step_of(alloc: Global, line: &str) -> anyhow::Result<Step> {
+//!     Ok(read_step(alloc, line.as_bytes())?)
+//! }
+//! ```
 #![tactic(auto)]
 
 mod fault;

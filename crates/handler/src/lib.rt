@@ -6,6 +6,14 @@
 //! - `Ask` and `Done`: the whole input of a turn, and a turn that was worked from one. They part
 //!   the working of a turn from the tenant whose turn it is.
 //! - `Sample`: the handler of the program, with the kinds echo, relay, count, adder and tee.
+//!
+//! For whoever writes a handler (`docs/HANDLERS.md`), and for a host that works turns beside its tenants. A caller:
+//!
+//! ```
+//! fn worked(alloc: Global, ask: Ask<Sample>) -> anyhow::Result<Done<Sample>> {
+//!     Ok(ask.work(alloc, &Sample)?)
+//! }
+//! ```
 #![tactic(auto)]
 
 mod ask;

@@ -1,6 +1,18 @@
 //! Names, marks, refusals and limits: the words that all crates share.
 //!
 //! The types are those of `model`, which says what they mean. Here are their limits as numbers.
+//!
+//! For everybody: a host, a handler, an auditor. A caller:
+//!
+//! ```
+//! /// The name of a tenant.
+//! pub(crate) fn name_of(alloc: Global, text: &str) -> anyhow::Result<TenantName> {
+//!     match TenantName::new(String::from_str(alloc, text)?) {
+//!         Some(name) => Ok(name),
+//!         None => bail!("no name"),
+//!     }
+//! }
+//! ```
 #![tactic(auto)]
 
 mod limits;

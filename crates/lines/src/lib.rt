@@ -9,6 +9,19 @@
 //!
 //! A line ends at a line feed, which is no part of it; what follows the last line feed is a line
 //! where it isn't empty. `specs/Lines` says so, and `specs/Serving` what is answered.
+//!
+//! For a host that takes lines from anything that can be read, and answers to anything that can be written. A caller:
+//!
+//! ```
+//! /// The reply lines of a new book to these step lines.
+//! fn served(alloc: Global, steps: &[u8]) -> anyhow::Result<Vec<u8>> {
+//!     let mut reader = Counted::new(steps);
+//!     let mut writer = Counted::new(Vec::new(alloc));
+//!     let mut book = new_book(alloc);
+//!     serve_all(alloc, &mut reader, &mut writer, &mut book)?;
+//!     Ok(writer.inner)
+//! }
+//! ```
 #![tactic(auto)]
 
 mod counted;

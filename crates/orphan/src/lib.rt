@@ -8,6 +8,17 @@
 //! that past: `tenant::laws::vectors_tell`, and `layer_laws` for the count and the first orphan. None
 //! takes memory, and each looks at every entry a constant number of times, however long paths and the
 //! table are.
+//!
+//! For the writer of another host that has to tell which messages and intervals are void. A caller:
+//!
+//! ```
+//! /// Whether a letter with this vector may be taken by a unit that knows so many rows.
+//! pub fn may_be_taken(vector: &DepVector, table: &StartTable, known: usize) -> bool
+//!     ensures { result ≡ (not (is_blind_by (take known table.now) vector.now) && not (is_orphan_by (take known table.now) vector.now)) }
+//! {
+//!     !is_blind(vector, table, known) && !is_orphan(vector, table, known)
+//! }
+//! ```
 #![tactic(auto)]
 
 mod paths;

@@ -9,6 +9,28 @@
 //!
 //! Contracts see them by `specs/Holds`. That a hold gives a ticket just for a firm front is a law of
 //! `layer_laws`. A look at the front is one comparison, however long paths and histories are.
+//!
+//! For the writer of another host whose outputs can't be taken back. A caller:
+//!
+//! ```
+//! /// Lets the first output of a hold out, if it is firm, and tells whether it did. Nothing is lost where it can't leave.
+//! pub fn release_first(hold: &mut Hold, outlet: &mut Outlet, view: &StableView) -> bool
+//!     requires unit { hold.old.unit < length outlet.old }
+//!     requires front { hold.old.unit < length view.now.frontiers.now }
+//!     ensures { IsTrue result → length outlet.new ≡ length outlet.old }
+//! {
+//!     let Some(ticket) = hold.take_front(view) else {
+//!         return false;
+//!     };
+//!     match outlet.emit(ticket) {
+//!         Ok(()) => true,
+//!         Err(ticket) => {
+//!             hold.put_back(ticket);
+//!             false
+//!         }
+//!     }
+//! }
+//! ```
 #![tactic(auto)]
 
 mod held;

@@ -8,6 +8,22 @@
 //! - `Effects`: what the turn of a receipt sends and puts out.
 //!
 //! That what is kept is enough is said of the definitions in `compact`.
+//!
+//! For the writer of another host: one whole unit, without letters and outputs. A caller:
+//!
+//! ```
+//! /// Shelves a snapshot of the last interval and forgets what is before it.
+//! fn shelve(alloc: Global, unit: &mut RecoveryUnit<Sample>) -> Result<(), NoMemory> {
+//!     if unit.volatile_count() == 0 {
+//!         unit.checkpoint(alloc, &Sample)?;
+//!     }
+//!     let last = unit.last_index();
+//!     if unit.has_snapshot(last) {
+//!         unit.forget(last);
+//!     }
+//!     Ok(())
+//! }
+//! ```
 #![tactic(auto)]
 
 mod effects;

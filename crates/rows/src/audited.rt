@@ -8,9 +8,9 @@
 //! | `audit` | the outcome for all since the last one |
 //! | `memory` | the line of an audit that found no memory |
 
-use crate::certified::{add_audit, tenant_a};
+use crate::calls::{name_of, outcome_line};
+use crate::certified::add_audit;
 use anyhow::{Context, bail};
-use auditor::audit_line;
 use model::{Flaw, Kind, Move, Seat, TenantName, Text, Texts, Unit};
 use std::alloc::Global;
 
@@ -34,7 +34,7 @@ impl Case {
 
 /// The outcomes that these lines ask for.
 pub(crate) fn audited(alloc: Global, lines: &str) -> anyhow::Result<String> {
-    let name = tenant_a(alloc)?;
+    let name = name_of(alloc, "a")?;
     let mut case = Case::new(alloc);
     let mut text = String::new(alloc);
     for line in lines.lines() {
@@ -57,7 +57,7 @@ fn outcome(alloc: Global, name: &TenantName, case: &Case, text: &mut String) -> 
 
 /// Adds the line of an audit that found no memory.
 fn add_memory(alloc: Global, name: &TenantName, text: &mut String) -> anyhow::Result<()> {
-    text.push_str(audit_line(alloc, name, &Err(Flaw::NoMemory))?.as_str())?;
+    text.push_str(outcome_line(alloc, name, &Err(Flaw::NoMemory))?.as_str())?;
     text.push('\n')?;
     Ok(())
 }

@@ -4,35 +4,21 @@
 //! without the last and without the first, of other outputs, and of one seat alone.
 
 use crate::answers::answer;
-use anyhow::bail;
-use audit::check;
-use auditor::{audit_line, can_check};
-use book::Book;
-use handler::Sample;
-use model::{Move, Seat, TenantName, Text, Texts, Unit};
-use stable_log::MemoryStore;
+use crate::calls::{self, Books, audit_of_lists, name_of, new_book, outcome_line};
+use model::{Move, Seat, TenantName, Text, Texts};
 use std::alloc::Global;
-
-type Books = Book<Sample, MemoryStore>;
 
 const MOST_UNITS: u8 = 16;
 
 /// What a new book shows of tenant `a` before and after these lines.
 pub(crate) fn certified(alloc: Global, lines: &str) -> anyhow::Result<String> {
-    let name = tenant_a(alloc)?;
+    let name = name_of(alloc, "a")?;
     let mut text = String::new(alloc);
-    let mut book: Books = Book::new(alloc, Sample, MemoryStore::new(alloc));
+    let mut book = new_book(alloc);
     add_lists(alloc, &book, &name, &mut text)?;
     answer_all(alloc, &mut book, lines)?;
     add_lists(alloc, &book, &name, &mut text)?;
     Ok(text)
-}
-
-pub(crate) fn tenant_a(alloc: Global) -> anyhow::Result<TenantName> {
-    let Some(name) = TenantName::new(String::from_str(alloc, "a")?) else {
-        bail!("no name");
-    };
-    Ok(name)
 }
 
 /// Answers these lines.
@@ -50,8 +36,8 @@ fn add_lists(
     name: &TenantName,
     text: &mut String,
 ) -> anyhow::Result<()> {
-    let seats = book.seats(alloc, name)?;
-    let moves = book.certificate(alloc, name)?;
+    let seats = calls::seats(alloc, book, name)?;
+    let moves = calls::certificate(alloc, book, name)?;
     let released = released(alloc, book, name)?;
     text.push_str(format!(in alloc; "{} seats\n", seats.len())?.as_str())?;
     for moved in moves.iter() {
@@ -71,7 +57,7 @@ fn add_lists(
 fn released(alloc: Global, book: &Books, name: &TenantName) -> anyhow::Result<Vec<Texts>> {
     let mut lists = Vec::new(alloc);
     for number in 0..MOST_UNITS {
-        match book.released(name, Unit::new(number)) {
+        match calls::released(book, name, number) {
             Some(outputs) => lists.push(copies(alloc, outputs)?)?,
             None => return Ok(lists),
         }
@@ -150,12 +136,10 @@ pub(crate) fn add_audit(
     released: &[Texts],
     text: &mut String,
 ) -> anyhow::Result<()> {
-    if !can_check(seats, moves, released) {
-        text.push_str("these lists don't fit\n")?;
-        return Ok(());
+    match audit_of_lists(alloc, seats, moves, released) {
+        Some(outcome) => text.push_str(outcome_line(alloc, name, &outcome)?.as_str())?,
+        None => text.push_str("these lists don't fit")?,
     }
-    let outcome = check(alloc, &Sample, seats, moves, released);
-    text.push_str(audit_line(alloc, name, &outcome)?.as_str())?;
     text.push('\n')?;
     Ok(())
 }

@@ -14,6 +14,7 @@
 mod answers;
 mod audited;
 mod beside;
+mod calls;
 mod certified;
 mod failing;
 mod told;
@@ -21,12 +22,10 @@ mod turned;
 
 use audited::audited;
 use beside::{every, with_noise};
-use book::Book;
+use calls::{new_book, serve_all};
 use certified::certified;
 use failing::{failed, survives_each};
-use handler::Sample;
-use lines::{Counted, serve};
-use stable_log::MemoryStore;
+use lines::Counted;
 use std::alloc::Global;
 use std::fs;
 use told::told;
@@ -137,7 +136,7 @@ fn is_same_beside(alloc: Global, steps: &str, replies: &str) -> anyhow::Result<b
 fn served(alloc: Global, steps: &[u8]) -> anyhow::Result<Vec<u8>> {
     let mut reader = Counted::new(steps);
     let mut writer = Counted::new(Vec::new(alloc));
-    let mut book = Book::new(alloc, Sample, MemoryStore::new(alloc));
-    serve(alloc, &mut reader, &mut writer, &mut book)?;
+    let mut book = new_book(alloc);
+    serve_all(alloc, &mut reader, &mut writer, &mut book)?;
     Ok(writer.inner)
 }

@@ -5,16 +5,11 @@
 //! its units released, its rows, and the audit; then who gave each entry and how many records the store took of it; and
 //! the replies of a new book that runs the same steps at once.
 
-use crate::answers::{push_reply, step_of};
-use anyhow::{Context, bail};
-use auditor::{audit_line, audit_tenant};
-use book::Book;
-use handler::Sample;
-use model::{Entry, TenantName, Unit, Who};
-use stable_log::MemoryStore;
+use crate::answers::push_reply;
+use crate::calls::{self, Books, name_of, new_book, outcome_line, step_of};
+use anyhow::Context;
+use model::{Entry, TenantName, Who};
 use std::alloc::Global;
-
-type Books = Book<Sample, MemoryStore>;
 
 const MOST_UNITS: u8 = 16;
 
@@ -22,30 +17,23 @@ const MOST_UNITS: u8 = 16;
 pub(crate) fn told(alloc: Global, lines: &str) -> anyhow::Result<String> {
     let mut text = String::new(alloc);
     let book = book_after(alloc, lines)?;
-    for name in book.tenants(alloc)?.iter() {
+    for name in calls::tenants(alloc, &book)?.iter() {
         add_tenant(alloc, &book, name, &mut text)?;
     }
-    add_tenant(alloc, &book, &nobody(alloc)?, &mut text)?;
-    for entry in book.history() {
+    add_tenant(alloc, &book, &name_of(alloc, "nobody")?, &mut text)?;
+    for entry in calls::history(&book) {
         add_entry(alloc, entry, &mut text)?;
     }
     add_run(alloc, lines, &mut text)?;
     Ok(text)
 }
 
-fn nobody(alloc: Global) -> anyhow::Result<TenantName> {
-    let Some(name) = TenantName::new(String::from_str(alloc, "nobody")?) else {
-        bail!("no name");
-    };
-    Ok(name)
-}
-
 /// A new book that did these steps, one by one.
 fn book_after(alloc: Global, lines: &str) -> anyhow::Result<Books> {
-    let mut book: Books = Book::new(alloc, Sample, MemoryStore::new(alloc));
+    let mut book = new_book(alloc);
     for line in lines.lines() {
         let (who, step) = given(line)?;
-        let _ = book.step_as(who, step_of(alloc, step)?);
+        let _ = calls::step_as(&mut book, who, step_of(alloc, step)?);
     }
     Ok(book)
 }
@@ -77,13 +65,13 @@ fn add_tenant(
     text: &mut String,
 ) -> anyhow::Result<()> {
     text.push_str(format!(in alloc; "{}:\n", name.as_str())?.as_str())?;
-    for reply in book.replies_of(alloc, name)?.iter() {
+    for reply in calls::replies_of(alloc, book, name)?.iter() {
         push_reply(alloc, text, reply)?;
     }
     add_released(book, name, text)?;
     add_rows(alloc, book, name, text)?;
-    let outcome = audit_tenant(alloc, &Sample, book, name);
-    text.push_str(audit_line(alloc, name, &outcome)?.as_str())?;
+    let outcome = calls::audit_of(alloc, book, name);
+    text.push_str(outcome_line(alloc, name, &outcome)?.as_str())?;
     text.push('\n')?;
     Ok(())
 }
@@ -91,7 +79,7 @@ fn add_tenant(
 /// Adds a line for each unit of the tenant, with what it released.
 fn add_released(book: &Books, name: &TenantName, text: &mut String) -> anyhow::Result<()> {
     for number in 0..MOST_UNITS {
-        let Some(outputs) = book.released(name, Unit::new(number)) else {
+        let Some(outputs) = calls::released(book, name, number) else {
             return Ok(());
         };
         text.push_str("released:")?;
@@ -111,7 +99,7 @@ fn add_rows(
     name: &TenantName,
     text: &mut String,
 ) -> anyhow::Result<()> {
-    let Some(rows) = book.rollbacks(name) else {
+    let Some(rows) = calls::rollbacks(book, name) else {
         text.push_str("not open\n")?;
         return Ok(());
     };
@@ -146,8 +134,8 @@ fn add_run(alloc: Global, lines: &str, text: &mut String) -> anyhow::Result<()> 
         let (_, step) = given(line)?;
         steps.push(step_of(alloc, step)?)?;
     }
-    let mut book: Books = Book::new(alloc, Sample, MemoryStore::new(alloc));
-    for reply in book.run(steps.as_slice())?.iter() {
+    let mut book = new_book(alloc);
+    for reply in calls::run(&mut book, steps.as_slice())?.iter() {
         push_reply(alloc, text, reply)?;
     }
     Ok(())

@@ -4,19 +4,17 @@
 //! a step, which is done by the turn that was kept. `work` has no reply, and a step that is given
 //! back has the reply `stale`.
 
-use crate::answers::{answer, push_reply, step_of};
+use crate::answers::{answer, push_reply};
+use crate::calls::{Books, new_book, step_of, step_with};
 use anyhow::bail;
-use book::{Book, Committed};
+use book::Committed;
 use handler::{Ask, Done, Sample};
-use model::{Step, Who};
-use stable_log::MemoryStore;
+use model::Step;
 use std::alloc::Global;
-
-type Books = Book<Sample, MemoryStore>;
 
 /// The replies of a new book to these lines.
 pub(crate) fn turned(alloc: Global, lines: &str) -> anyhow::Result<String> {
-    let mut book: Books = Book::new(alloc, Sample, MemoryStore::new(alloc));
+    let mut book = new_book(alloc);
     let mut kept = None;
     let mut text = String::new(alloc);
     for line in lines.lines() {
@@ -61,7 +59,7 @@ fn do_with(
     text: &mut String,
 ) -> anyhow::Result<()> {
     let step = step_of(alloc, line)?;
-    match book.step_with(Who::Caller, step, worked) {
+    match step_with(book, step, worked) {
         Committed::Stale(_) => text.push_str("stale\n")?,
         Committed::Reply(reply) => push_reply(alloc, text, &reply)?,
     }

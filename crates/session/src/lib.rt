@@ -6,6 +6,22 @@
 //! - `Exchange`: what passed between two units.
 //!
 //! That these counts are those of the receipts and sends along a unit's path is a law of `layer_laws`.
+//!
+//! For the writer of another host whose units exchange numbered messages. A caller:
+//!
+//! ```
+//! /// Counts a receipt if it is the next of its session, and tells whether it was.
+//! pub fn take_next(sessions: &mut Sessions, source: Source, number: u64) -> bool
+//!     ensures { IsTrue result → sessions.new ≡ advanced sessions.old source }
+//! {
+//!     let is_next = sessions.test(source, number) == Arrival::Next;
+//!     if is_next && sessions.has_room(source, 0) {
+//!         sessions.advance(source);
+//!         return true;
+//!     }
+//!     false
+//! }
+//! ```
 #![tactic(auto)]
 
 mod arrival;

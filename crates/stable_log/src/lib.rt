@@ -7,6 +7,26 @@
 //! - `FuseWriter`: takes some bytes and then fails, for tests.
 //!
 //! `specs/Writing` says what a writer store is seen as, and what its lines are.
+//!
+//! For whoever opens a book over a log that people can read, and for tests of what a failing store leaves. A caller:
+//!
+//! ```
+//! /// Whether the first post's line is written to the log before the second post's turn.
+//! pub(crate) fn log_is_written_meanwhile<R: Threads + Wait + Sync>(
+//!     rt: &R,
+//!     alloc: Global,
+//! ) -> anyhow::Result<bool> {
+//!     let written = AtomicBool::new(false);
+//!     let seen = AtomicBool::new(false);
+//!     let store = WriterStore::new(alloc, TellingWriter(&written));
+//!     let gate = UntilTold {
+//!         told: &written,
+//!         seen: &seen,
+//!     };
+//!     run(rt, alloc, Sample, store, two_posts(alloc)?, &gate)?;
+//!     Ok(seen.load(Ordering::SeqCst))
+//! }
+//! ```
 #![tactic(auto)]
 
 mod fuse_store;

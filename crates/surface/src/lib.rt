@@ -4,6 +4,7 @@
 //! and `bench_rollback`, which are programs over data, and by what is put to the built program.
 #![tactic(auto)]
 
+pub mod callers;
 #[cfg(test)]
 mod checkpoint_calls;
 #[cfg(test)]

@@ -28,6 +28,26 @@
 //!
 //! Contracts see the tenant as `Kept` of `specs/Kept`. `specs/Represents` says which world that is over a whole log, and
 //! what a step does whatever the log; `specs/Stands` says it over a log that may have forgotten records.
+//!
+//! For the writer of another host that has tenants of its own; whoever wants all of them takes `book`. A caller:
+//!
+//! ```
+//! /// The input of the turn that a step of any tenant now needs, if it needs one.
+//! pub(crate) fn ask<H: Handler>(
+//!     alloc: Global,
+//!     handler: &H,
+//!     tenants: &Tenants<H>,
+//!     step: &Step,
+//! ) -> Result<Option<Ask<H>>, NoMemory>
+//!     ensures { IfOk result (λ a. (w : Option World) (records : List (Option Record)) → StandsAt H.meaning (addressed step.now).0 (get bytes_eq tenants.now (addressed step.now).0) w records → a ≡ needs_at H.meaning w (addressed step.now).1) }
+//! {
+//!     let Some(tenant) = tenants.get(step.tenant()) else {
+//!         return Ok(None);
+//!     };
+//!     let own_step = step.tenant_step(alloc)?;
+//!     tenant.prepare(alloc, handler, &own_step)
+//! }
+//! ```
 #![tactic(auto)]
 
 mod answer;

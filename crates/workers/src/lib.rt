@@ -11,6 +11,19 @@
 //! What the threads do is not trusted for any of this: the book keeps that it is the replay of its
 //! history, and at the end `matched` compares that history with the feeds, and its replies with the
 //! receipts that the threads kept.
+//!
+//! For a host that has several producers at once. A caller:
+//!
+//! ```
+//! /// Whether two feeds meet before the turns of their posts, outside the lock.
+//! pub(crate) fn feeds_meet<R: Threads + Wait + Sync>(rt: &R, alloc: Global) -> anyhow::Result<bool> {
+//!     let meeting = Meeting::new();
+//!     let store = MemoryStore::new(alloc);
+//!     let steps = feeds(alloc, 1, ["x", "y"])?;
+//!     run(rt, alloc, Sample, store, steps, &AtGate(&meeting))?;
+//!     Ok(meeting.have_met())
+//! }
+//! ```
 #![tactic(auto)]
 
 mod closed;
@@ -26,5 +39,3 @@ pub use fault::RunFault;
 pub use gate::Gate;
 pub use run::run_feeds;
 
-#[cfg(test)]
-mod tests;

@@ -5,6 +5,24 @@
 //! - `is_interrupted`: whether a call was interrupted. Both make such a call again.
 //!
 //! `specs/Beginnings` says what a beginning is.
+//!
+//! For a store or a server whose bytes must be out whole. A caller:
+//!
+//! ```
+//! /// Writes all of the bytes, or a beginning of them.
+//! pub(crate) fn put(&mut self, bytes: &[u8]) -> Result<(), Failed>
+//!     ensures ok { OnOk result (Appends (W.contents self.old.inner) (W.contents self.new.inner) bytes.now) }
+//!     ensures err { OnErr result (AppendsBeginning (W.contents self.old.inner) (W.contents self.new.inner) bytes.now) }
+//!     ensures risen { OnErr result (HasRisen self.old.failed self.new.failed) }
+//!     ensures same { OnOk result (self.new.failed ≡ self.old.failed) }
+//! {
+//!     let put = put_all(&mut self.inner, bytes);
+//!     if put.is_err() {
+//!         self.count_failure();
+//!     }
+//!     put
+//! }
+//! ```
 #![tactic(auto)]
 
 mod whole;

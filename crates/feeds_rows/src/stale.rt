@@ -1,0 +1,100 @@
+//! A turn that another feed makes stale.
+//!
+//! Unit 0 is a `tee`, which sends a letter to unit 1, a `count`, upon each text. Feed 0 opens the tenant, posts to unit 0
+//! three times, and delivers some of the letters; feed 1, once these are made, posts to unit 1. Each delivery changes the
+//! state that the post's turn was asked for.
+
+ghost use Rattle.std.specs.Prelude.{◌<◌, ◌^◌, IfOk, vec_len};
+
+use crate::calls::{replies, run};
+use crate::gates::Overtaking;
+use crate::steps::{both, deliver, open, post};
+use handler::Sample;
+use model::{Mark, NoMemory, Reply, Step};
+use shared_log::MemoryStore;
+use std::alloc::Global;
+use std::sync::Wait;
+use std::sync::atomic::{AtomicBool, AtomicU32, Ordering};
+use std::thread::Threads;
+
+/// How many letters are made.
+const LETTERS: u32 = 3;
+
+/// The feed that opens the tenant, and delivers so many letters.
+fn first_feed(alloc: Global, deliveries: u32) -> Result<Vec<Step>, NoMemory> {
+    let mut steps = Vec::new(alloc);
+    steps.push(open(alloc, "a", &["tee", "count"])?)?;
+    for number in 0..LETTERS {
+        steps.push(post(alloc, "a", 0, number, "x")?)?;
+    }
+    for letter in 0..deliveries {
+        steps.push(deliver(alloc, "a", letter)?)?;
+    }
+    Ok(steps)
+}
+
+/// The feed that is overtaken. What it does for a tenant of its own is a place to wait at.
+fn second_feed(alloc: Global) -> Result<Vec<Step>, NoMemory> {
+    let mut steps = Vec::new(alloc);
+    steps.push(open(alloc, "b", &["echo"])?)?;
+    steps.push(post(alloc, "b", 0, 0, "y")?)?;
+    steps.push(post(alloc, "a", 1, 0, "y")?)?;
+    Ok(steps)
+}
+
+fn steps(alloc: Global, deliveries: u32) -> Result<Vec<Vec<Step>>, NoMemory>
+    ensures { IfOk result (λ all. vec_len all < 2 ^ 32) }
+{
+    both(alloc, first_feed(alloc, deliveries)?, second_feed(alloc)?)
+}
+
+/// Whether the last of these replies is of a receipt that was accepted at this index.
+fn ends_accepted_at(replies: &[Reply], index: u32) -> bool {
+    let at = Mark {
+        incarnation: 0,
+        index,
+    };
+    match replies.last() {
+        Some(Reply::Accepted { at: found, .. }) => *found == at,
+        _ => false,
+    }
+}
+
+/// How often the turn of a post was asked for that was overtaken so often; none where it wasn't accepted behind the
+/// letters that overtook it.
+fn asked_when_overtaken<R: Threads + Wait + Sync>(
+    rt: &R,
+    alloc: Global,
+    times: u32,
+) -> anyhow::Result<Option<u32>> {
+    let ready = AtomicBool::new(false);
+    let asked = AtomicU32::new(0);
+    let delivered = AtomicU32::new(0);
+    let gate = Overtaking {
+        times,
+        ready: &ready,
+        asked: &asked,
+        delivered: &delivered,
+    };
+    let store = MemoryStore::new(alloc);
+    let closed = run(rt, alloc, Sample, store, steps(alloc, times)?, &gate)?;
+    let told = replies(alloc, &closed, 1)?;
+    if ends_accepted_at(told.as_slice(), times.saturating_add(1)) {
+        Ok(Some(asked.load(Ordering::SeqCst)))
+    } else {
+        Ok(None)
+    }
+}
+
+/// Whether a turn that was made stale once is asked for once more.
+pub(crate) fn is_asked_again<R: Threads + Wait + Sync>(
+    rt: &R,
+    alloc: Global,
+) -> anyhow::Result<bool> {
+    Ok(asked_when_overtaken(rt, alloc, 1)? == Some(2))
+}
+
+/// Whether a step whose turn was made stale three times is done all the same, and its turn not asked for again.
+pub(crate) fn falls_back<R: Threads + Wait + Sync>(rt: &R, alloc: Global) -> anyhow::Result<bool> {
+    Ok(asked_when_overtaken(rt, alloc, 3)? == Some(3))
+}

@@ -1,0 +1,97 @@
+//! The steps of feeds.
+
+ghost use Rattle.std.specs.Prelude.{◌<◌, ◌^◌, IfOk, vec_len};
+
+use model::{Letter, NoMemory, Quota, Step, TenantName, Text, Texts, Unit};
+use std::alloc::Global;
+
+fn name(alloc: Global, text: &str) -> Result<TenantName, NoMemory> {
+    match TenantName::new(String::from_str(alloc, text)?) {
+        Some(name) => Ok(name),
+        None => Err(NoMemory),
+    }
+}
+
+/// The opening of a tenant with units of these kinds.
+pub(crate) fn open(alloc: Global, tenant: &str, kinds: &[&str]) -> Result<Step, NoMemory> {
+    let mut names = Vec::new(alloc);
+    for kind in kinds {
+        names.push(Text::of(alloc, kind)?)?;
+    }
+    Ok(Step::Open {
+        tenant: name(alloc, tenant)?,
+        kinds: Texts::new(names),
+        quota: Quota {
+            volatile: 1024,
+            held: 1024,
+            letters: 1_000_000,
+        },
+        optimism: 16,
+    })
+}
+
+/// A post to a unit.
+pub(crate) fn post(
+    alloc: Global,
+    tenant: &str,
+    unit: u8,
+    number: u32,
+    text: &str,
+) -> Result<Step, NoMemory> {
+    Ok(Step::Post {
+        tenant: name(alloc, tenant)?,
+        unit: Unit::new(unit),
+        number,
+        text: Text::of(alloc, text)?,
+    })
+}
+
+/// The delivery of a letter.
+pub(crate) fn deliver(alloc: Global, tenant: &str, letter: u32) -> Result<Step, NoMemory> {
+    Ok(Step::Deliver {
+        tenant: name(alloc, tenant)?,
+        letter: Letter::new(letter),
+    })
+}
+
+/// An open of one echo, so many posts of this text, and a status.
+pub(crate) fn feed(
+    alloc: Global,
+    tenant: &str,
+    posts: u32,
+    text: &str,
+) -> Result<Vec<Step>, NoMemory> {
+    let mut steps = Vec::new(alloc);
+    steps.push(open(alloc, tenant, &["echo"])?)?;
+    for number in 0..posts {
+        steps.push(post(alloc, tenant, 0, number, text)?)?;
+    }
+    steps.push(Step::Status {
+        tenant: name(alloc, tenant)?,
+        unit: Unit::new(0),
+    })?;
+    Ok(steps)
+}
+
+/// These two feeds.
+pub(crate) fn both(
+    alloc: Global,
+    first: Vec<Step>,
+    second: Vec<Step>,
+) -> Result<Vec<Vec<Step>>, NoMemory>
+    ensures { IfOk result (λ all. vec_len all < 2 ^ 32) }
+{
+    let mut all = Vec::new(alloc);
+    all.push(first)?;
+    all.push(second)?;
+    Ok(all)
+}
+
+/// One feed of tenant `a` and one of tenant `b`.
+pub(crate) fn feeds(alloc: Global, posts: u32, texts: [&str; 2]) -> Result<Vec<Vec<Step>>, NoMemory>
+    ensures { IfOk result (λ all. vec_len all < 2 ^ 32) }
+{
+    let first = feed(alloc, "a", posts, texts[0])?;
+    let second = feed(alloc, "b", posts, texts[1])?;
+    both(alloc, first, second)
+}

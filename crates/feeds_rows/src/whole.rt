@@ -1,0 +1,70 @@
+//! What a run leaves.
+
+use crate::calls::{history, replies, run};
+use crate::gates::Idle;
+use crate::steps::feeds;
+use handler::Sample;
+use model::{Entry, Mark, Reply, Who};
+use shared_log::MemoryStore;
+use std::alloc::Global;
+use std::sync::Wait;
+use std::thread::Threads;
+
+/// How many posts a feed has between its opening and its status.
+const POSTS: u32 = 98;
+
+/// Whether these are an opening, 98 posts that were accepted, and a status after them.
+fn are_all_accepted(replies: &[Reply]) -> bool {
+    let accepted = replies
+        .iter()
+        .filter(|reply| matches!(reply, Reply::Accepted { .. }))
+        .count();
+    replies.len() == 100
+        && accepted == 98
+        && matches!(&replies[0], Reply::Opened { units: 1 })
+        && is_status_after_posts(&replies[99])
+}
+
+fn is_status_after_posts(reply: &Reply) -> bool {
+    let last = Mark {
+        incarnation: 0,
+        index: POSTS,
+    };
+    match reply {
+        Reply::Status { at, outside, .. } => *outside == u64::from(POSTS) && *at == last,
+        _ => false,
+    }
+}
+
+/// How many of these entries are by feeds.
+fn count_by_feeds(entries: &[Entry]) -> usize {
+    entries
+        .iter()
+        .filter(|entry| matches!(&entry.who, Who::Feed { .. }))
+        .count()
+}
+
+/// Whether two feeds of 100 steps have all their replies, and the history all their steps.
+pub(crate) fn are_entered_whole<R: Threads + Wait + Sync>(
+    rt: &R,
+    alloc: Global,
+) -> anyhow::Result<bool> {
+    let store = MemoryStore::new(alloc);
+    let steps = feeds(alloc, POSTS, ["x", "y"])?;
+    let closed = run(rt, alloc, Sample, store, steps, &Idle)?;
+    let first = replies(alloc, &closed, 0)?;
+    let second = replies(alloc, &closed, 1)?;
+    let third = replies(alloc, &closed, 2)?;
+    let are_accepted = are_all_accepted(first.as_slice()) && are_all_accepted(second.as_slice());
+    Ok(are_accepted && third.is_empty() && count_by_feeds(history(&closed)) == 200)
+}
+
+/// Whether no feeds leave an empty history.
+pub(crate) fn leave_no_history<R: Threads + Wait + Sync>(
+    rt: &R,
+    alloc: Global,
+) -> anyhow::Result<bool> {
+    let store = MemoryStore::new(alloc);
+    let closed = run(rt, alloc, Sample, store, Vec::new(alloc), &Idle)?;
+    Ok(history(&closed).is_empty())
+}
