@@ -8,6 +8,7 @@
 //!
 //! ```
 //! /// The vector of an interval that comes after one with `before` and takes a letter of one with `sent`.
+//! #[tactic(auto, using(depvector::proofs::Joins::joins))]
 //! pub fn vector_of_receipt(
 //!     mut before: DepVector,
 //!     sent: &DepVector,

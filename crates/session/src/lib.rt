@@ -14,12 +14,11 @@
 //! pub fn take_next(sessions: &mut Sessions, source: Source, number: u64) -> bool
 //!     ensures { IsTrue result → sessions.new ≡ advanced sessions.old source }
 //! {
-//!     let is_next = sessions.test(source, number) == Arrival::Next;
-//!     if is_next && sessions.has_room(source, 0) {
-//!         sessions.advance(source);
-//!         return true;
+//!     if !matches!(sessions.test(source, number), Arrival::Next) || !sessions.has_room(source, 0) {
+//!         return false;
 //!     }
-//!     false
+//!     sessions.advance(source);
+//!     true
 //! }
 //! ```
 #![tactic(auto)]

@@ -20,6 +20,7 @@ use stable_log::{SharedLog, Store, StoreFault};
 use volatile_log::VolatileLog;
 
 /// The vector of an interval that comes after one with `before` and takes a letter of one with `sent`.
+#[tactic(auto, using(depvector::proofs::Joins::joins))]
 pub fn vector_of_receipt(
     mut before: DepVector,
     sent: &DepVector,
@@ -39,12 +40,11 @@ pub fn vector_of_receipt(
 pub fn take_next(sessions: &mut Sessions, source: Source, number: u64) -> bool
     ensures { IsTrue result → sessions.new ≡ advanced sessions.old source }
 {
-    let is_next = sessions.test(source, number) == Arrival::Next;
-    if is_next && sessions.has_room(source, 0) {
-        sessions.advance(source);
-        return true;
+    if !matches!(sessions.test(source, number), Arrival::Next) || !sessions.has_room(source, 0) {
+        return false;
     }
-    false
+    sessions.advance(source);
+    true
 }
 
 /// Keeps a record until it is logged.
