@@ -11,6 +11,7 @@ use Rattle.theory.proofs.Certificate.{certificate_law}
 use Rattle.theory.proofs.Courses.{courses_reach}
 use Rattle.book.specs.Certificates.{CertifiesAt, IsHeadline, certificate_at}
 use Rattle.book.specs.History.{released_at, table_at, world_of}
+use Rattle.book.proofs.Lasting.{stays_released}
 use Rattle.book.proofs.Replays.{isolated}
 
 -- the certificate of the world after any events of one tenant
@@ -30,4 +31,5 @@ headline M tenant one other h k same = record {
   rollbacks = ap table_at (isolated M tenant one other h k same).1;
   released = λ unit. ap (λ w. released_at w unit) (isolated M tenant one other h k same).1;
   certified = certified M tenant one _ refl;
+  lasting = stays_released M tenant one;
 }

@@ -2,3 +2,4 @@ pub mod Answers
 pub mod Replays
 pub mod Runs
 pub mod Certified
+pub mod Lasting

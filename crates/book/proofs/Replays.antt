@@ -32,13 +32,16 @@ pair_of e = (e.step, e.said)
 abbrev event_of_pair : Step × Said → Event
 event_of_pair p = record { step = (addressed p.0).1; said = p.1 }
 
--- ---- one more entry in the lists of a tenant
+-- ---- more entries in the lists of a tenant
+
+pub own-append : (t : List ℕ) (g h : List Entry) → own t (pairs (g ++ h)) ≡ own t (pairs g) ++ own t (pairs h)
+own-append t g h =
+    ap (own t) (map-append pair_of g h)
+    ∙ ap (map event_of_pair) (filter-append (λ (p : Step × Said). names t p.0) (pairs g) (pairs h))
+    ∙ map-append event_of_pair (filter (λ (p : Step × Said). names t p.0) (pairs g)) (filter (λ (p : Step × Said). names t p.0) (pairs h))
 
 own-push : (t : List ℕ) (h : List Entry) (e : Entry) → own t (pairs (h ++ e ∷ [])) ≡ own t (pairs h) ++ own t (pair_of e ∷ [])
-own-push t h e =
-    ap (own t) (map-append pair_of h (e ∷ []))
-    ∙ ap (map event_of_pair) (filter-append (λ (p : Step × Said). names t p.0) (pairs h) (pair_of e ∷ []))
-    ∙ map-append event_of_pair (filter (λ (p : Step × Said). names t p.0) (pairs h)) (filter (λ (p : Step × Said). names t p.0) (pair_of e ∷ []))
+own-push t h e = own-append t h (e ∷ [])
 
 own-named : (t : List ℕ) (h : List Entry) (e : Entry) → names t e.step ≡ true → own t (pairs (h ++ e ∷ [])) ≡ own t (pairs h) ++ event_of e ∷ []
 own-named t h e is = own-push t h e ∙ ap (λ b. own t (pairs h) ++ map event_of_pair (cond b (pair_of e ∷ []) [])) is

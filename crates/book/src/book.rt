@@ -300,7 +300,8 @@ pub fn isolated<H: Handler>()
 /// steps and on what the store said to them: the replies to the tenant, its rollbacks and its
 /// released outputs are equal, whatever other tenants do; and some run without failures of its
 /// units over a beginning of their logged receipts gives, unit by unit, outputs that begin with
-/// exactly those released.
+/// exactly those released, none withdrawn or repeated: what was released at any earlier moment is a
+/// beginning of what is released at the end, and of what that run puts out.
 pub fn headline<H: Handler>()
     ensures { IsHeadline H.meaning }
 {}

@@ -1,5 +1,5 @@
 -- Reading a feed, one line after the other.
-use Rattle.std.proofs.Common.{◌≡◌, ◌≢◌, ◌≤◌, ℕ, List, [], ◌∷◌, ◌++◌, length, cond, Option, None, Result, refl, sym, ap, subst}
+use Rattle.std.proofs.Common.{◌≡◌, ◌≢◌, ◌≤◌, arith, ℕ, List, [], ◌∷◌, ◌++◌, length, cond, Option, None, Result, refl, sym, ap, subst}
 use Rattle.std.proofs.lemmas.Bool.{le-leb}
 use Rattle.ident.specs.declared.limits.TheConstants.{MAX_LINE_BYTES}
 use Rattle.model.specs.declared.steps.Step.{Step}
@@ -8,7 +8,7 @@ use Rattle.forms.specs.declared.fault.LineFault.{LineFault}
 use Rattle.lines.specs.Lines.{LinesRead}
 use Rattle.lines.specs.Parts.{Hears}
 use Rattle.lines.specs.Serving.{line_step}
-use Rattle.lines.specs.Feeds.{AreReadings, IsReading}
+use Rattle.lines.specs.Feeds.{AreReadings, IsReading, ReadingOf}
 use Rattle.lines.specs.declared.input.Heard.{Heard}
 use Rattle.lines.specs.declared.input.Heard.TheVariants.{Line, Long, End}
 use Rattle.lines.proofs.Parts.{LinesRead-more}
@@ -21,7 +21,7 @@ line_step-held line fits = ap (λ b. cond b (step_of_line line) None) (le-leb (l
 
 -- one line more
 AreReadings-more : (lines : List (List ℕ)) (found : List (Result Step LineFault)) (line : List ℕ) (step : Result Step LineFault)
-    → AreReadings lines found → Gives (λ s. s) step (line_step line) → AreReadings (lines ++ line ∷ []) (found ++ step ∷ [])
+    → AreReadings lines found → ReadingOf line step → AreReadings (lines ++ line ∷ []) (found ++ step ∷ [])
 AreReadings-more [] found line step p q = subst (λ f. AreReadings (line ∷ []) (f ++ step ∷ [])) (sym p) (q, refl)
 AreReadings-more (l ∷ ls) [] line step p q = absurd p
 AreReadings-more (l ∷ ls) (s ∷ found) line step p q = (p.0, AreReadings-more ls found line step p.1 q)
@@ -33,11 +33,11 @@ pub feed_goes_on : (kind : Heard) (held : List ℕ) (step : Result Step LineFaul
 feed_goes_on Line held step a b c lines found more heard is read so_far = (
   lines ++ held ∷ [],
   LinesRead-more a b c lines held read heard.1,
-  AreReadings-more lines found held step so_far (subst (Gives (λ s. s) step) (sym (line_step-held held heard.0)) is),
+  AreReadings-more lines found held step so_far (subst (Gives (λ s. s) step) (sym (line_step-held held heard.0)) is, λ long. absurd (omega (arith, heard.0, long))),
 )
 feed_goes_on Long held step a b c lines found more heard is read so_far = (
   lines ++ heard.0 ∷ [],
   LinesRead-more a b c lines heard.0 read heard.2,
-  AreReadings-more lines found heard.0 step so_far (subst (λ s. Gives (λ x. x) s (line_step heard.0)) (sym is) (line_step-long heard.0 heard.1)),
+  AreReadings-more lines found heard.0 step so_far (subst (λ s. Gives (λ x. x) s (line_step heard.0)) (sym is) (line_step-long heard.0 heard.1), λ long. is),
 )
 feed_goes_on End held step a b c lines found more heard is read so_far = absurd (more refl)

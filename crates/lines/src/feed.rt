@@ -18,8 +18,8 @@ use std::alloc::Global;
 use std::io::BufRead;
 
 /// The step of each line of the input, in order, or why a line gave none: `Bad` exactly where it is
-/// no step, as a line of more than `MAX_LINE_BYTES` bytes is, and `NoMemory` where there was no
-/// memory to read it.
+/// no step, as a line of more than `MAX_LINE_BYTES` bytes always is, and `NoMemory` where there was
+/// no memory to read it.
 ///
 /// `Read` comes only where the reader failed, and `NoMemory` where there was no memory for a line's
 /// bytes or for the list. What was read up to then is lost.

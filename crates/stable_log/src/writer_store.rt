@@ -5,7 +5,7 @@ ghost use Rattle.std.specs.Io.KnownBytes.{Appends, Keeps};
 ghost use Rattle.model.specs.Failures.{HasRisen};
 ghost use Rattle.written.specs.Beginnings.{AppendsBeginning};
 ghost use Rattle.shared_log.specs.Logged.{IsHeld};
-ghost use Rattle.stable_log.specs.Writing.{log_line};
+ghost use Rattle.stable_log.specs.Writing.{log_line, one_more};
 
 use forms::write_record;
 use model::{NoMemory, Record};
@@ -91,6 +91,7 @@ impl<W> WriterStore<W> {
         ensures writer { self.new.writer ≡ self.old.writer }
         ensures risen { HasRisen self.old.failures self.new.failures }
         ensures up { self.old.failures ≤ self.new.failures }
+        ensures counted { self.new.failures ≡ one_more self.old.failures }
         ensures closed { self.new.is_closed ≡ true }
     {
         self.is_closed = true;
@@ -115,6 +116,8 @@ impl<W: Write + Drop> Store for WriterStore<W> {
         ensures memory { result ≡ Err StoreFault.NoMemory → self.new ≡ self.old }
         ensures quiet { self.old.is_closed ≡ true → self.new.writer ≡ self.old.writer }
         ensures refused { self.old.is_closed ≡ true → result ≡ Err StoreFault.Device }
+        ensures counts { result ≡ Err StoreFault.Device → self.new.failures ≡ one_more self.old.failures }
+        ensures uncounted { result ≢ Err StoreFault.Device → self.new.failures ≡ self.old.failures }
         ensures closes { result ≡ Err StoreFault.Device → self.new.is_closed ≡ true }
         ensures opens { OnOk result (self.new.is_closed ≡ false) }
     {
