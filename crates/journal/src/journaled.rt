@@ -43,7 +43,12 @@ impl<R, F> Model for Journaled<R, F> {
 impl<R, F> Journaled<R, F> {
     /// Reads so many bytes at most at once, and appends them to the file, which has whole lines so
     /// far. `AllocError` comes where there is no memory to hold as many.
-    pub fn new(alloc: Global, block: usize, inner: R, file: F) -> Result<Journaled<R, F>, AllocError>
+    pub fn new(
+        alloc: Global,
+        block: usize,
+        inner: R,
+        file: F,
+    ) -> Result<Journaled<R, F>, AllocError>
     where
         R: Drop,
         F: Drop,
