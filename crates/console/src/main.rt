@@ -3,6 +3,8 @@
 //! - `words`: the words of the command line, read with `clap`;
 //! - `run`: `recall run`, thin over `lines::serve`, which carries the theorem;
 //! - `explained`: `recall run --explain`, thin over `lines::serve` for each line, and over `reasons`;
+//! - `journaled_run` and `journal_file`: `recall run --journal`, thin over `lines::serve`, and over
+//!   `journal`, which carries its own;
 //! - `feeds`: `recall feeds`, thin over `workers::run_feeds`, which carries its own;
 //! - `draw`: `recall draw`, thin over `diagram::draw`;
 //! - `log_file`: the file of `--log`, thin over `stable_log::WriterStore`, which carries its own;
@@ -15,6 +17,8 @@ mod complaints;
 mod draw;
 mod explained;
 mod feeds;
+mod journal_file;
+mod journaled_run;
 mod log_file;
 mod run;
 mod words;
@@ -22,6 +26,8 @@ mod words;
 use complaints::Complaints;
 use draw::diagram_of;
 use feeds::feeds_on;
+use journal_file::open_journal;
+use journaled_run::run_journaled;
 use log::{LevelFilter, Log, Logged, error};
 use log_file::LogFile;
 use run::run_on;
@@ -73,6 +79,19 @@ fn bad_words(error: &io::Error) -> (&'static str, u8) {
 fn run_as_asked(rt: &HostRuntime, run: &RunWords<'_>) -> u8 {
     let logged = Logged::new(rt, LevelFilter::Warn, Complaints(rt));
     let alloc = rt.alloc();
+    if let Some(path) = run.journal {
+        return match open_journal(rt, &logged, alloc, path, run.from) {
+            Ok(journal) => run_journaled(
+                &logged,
+                alloc,
+                &mut rt.reader(),
+                &mut io::writer(rt),
+                journal,
+                run,
+            ),
+            Err(status) => status,
+        };
+    }
     let Some(path) = run.log else {
         let store = MemoryStore::new(alloc);
         return run_on(

@@ -41,14 +41,8 @@ pub(crate) fn run_on<L: Log, R: Read + Drop, W: Write + Drop, S: Store>(
     let mut reader = Counted::new(reader);
     let mut writer = Counted::new(writer);
     let mut book = Book::new(alloc, Sample, store);
-    let status = match answer_all(
-        rt,
-        alloc,
-        &mut reader,
-        &mut writer,
-        &mut book,
-        asked.explain,
-    ) {
+    let explained = asked.explain.then_some(0);
+    let status = match answer_all(rt, alloc, &mut reader, &mut writer, &mut book, explained) {
         Ok(()) if asked.audit => audit_all(rt, alloc, &mut writer.inner, &book),
         Ok(()) => 0,
         Err(fault) => {
@@ -63,17 +57,25 @@ pub(crate) fn run_on<L: Log, R: Read + Drop, W: Write + Drop, S: Store>(
     status
 }
 
-/// Answers each line, and tells why it was refused where that is asked for.
-fn answer_all<L: Log, R: BufRead, W: Write, S: Store>(
+/// Answers each line. Where `explained` is a number, tells why it was refused, and so many lines came
+/// before the first.
+pub(crate) fn answer_all<L: Log, R: BufRead, W: Write, S: Store>(
     told: &L,
     alloc: Global,
     reader: &mut Counted<R>,
     writer: &mut Counted<W>,
     book: &mut Book<Sample, S>,
-    explain: bool,
+    explained: Option<u64>,
 ) -> Result<(), ServeFault> {
-    if explain {
-        return serve_explained(told, alloc, &mut reader.inner, &mut writer.inner, book);
+    if let Some(before) = explained {
+        return serve_explained(
+            told,
+            alloc,
+            &mut reader.inner,
+            &mut writer.inner,
+            book,
+            before,
+        );
     }
     serve(alloc, reader, writer, book)?;
     Ok(())

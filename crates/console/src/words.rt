@@ -27,6 +27,10 @@ pub(crate) struct RunWords<'a> {
     pub explain: bool,
     /// The file that the log is written to.
     pub log: Option<&'a str>,
+    /// The file that the lines are kept in.
+    pub journal: Option<&'a str>,
+    /// The line of the journal from which on replies are written.
+    pub from: Option<u64>,
 }
 
 /// What `recall feeds` is to do.
@@ -58,6 +62,9 @@ const EXPLAIN: &str = "explain";
 /// The option that names the log's file.
 const LOG: &str = "log";
 
+/// The option that names the journal.
+const JOURNAL: &str = "journal";
+
 /// The files of the feeds.
 const FILE: &str = "FILE";
 
@@ -67,7 +74,7 @@ const TENANT: &str = "tenant";
 /// The option that names the drawing's file.
 const TO: &str = "to";
 
-/// The option that has the first column.
+/// The option that has the first column, or the first line of a journal.
 const FROM: &str = "from";
 
 /// The option that has how many last columns.
@@ -130,6 +137,23 @@ fn run_command<'a>(alloc: Global) -> Result<Command<'a>, Error> {
                 .long(EXPLAIN)
                 .action(ArgAction::SetTrue)
                 .help("Writes to standard error why each line was refused, and what would help"),
+        )?
+        .arg(
+            Arg::new(alloc, JOURNAL)
+                .long(JOURNAL)
+                .value_name("FILE")
+                .conflicts_with(LOG)?
+                .help(
+                    "Keeps each line in FILE before it is stepped, and begins with the lines that FILE has, without their replies",
+                ),
+        )?
+        .arg(
+            Arg::new(alloc, FROM)
+                .long(FROM)
+                .value_name("N")
+                .value_parser(value_parser!(u64))
+                .requires_arg(JOURNAL)?
+                .help("Writes the replies to the lines of the journal from N on (from 0)"),
         )?
         .arg(audit_flag(alloc))?;
     Ok(run)
@@ -231,6 +255,8 @@ fn read_command<'a, R: AllocGlobal>(rt: &R, words: &'a [String]) -> Result<Asked
             audit: run.get_flag(AUDIT),
             explain: run.get_flag(EXPLAIN),
             log: run.get_str(LOG),
+            journal: run.get_str(JOURNAL),
+            from: run.get_one::<u64>(FROM),
         }));
     }
     if let Some(feeds) = matches.subcommand_matches("feeds") {

@@ -1,0 +1,3 @@
+pub mod Standing
+pub mod Measuring
+pub mod Promises

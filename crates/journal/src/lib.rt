@@ -1,0 +1,20 @@
+//! What a run needs to survive the crash of its own process: a list of its lines that lasts.
+//!
+//! - `Durable`: a file to which bytes are appended, and that is synced.
+//! - `Journaled`: a reader that gives only bytes that stand, synced, in such a file.
+//! - `measure`: the whole lines of such a file, and what a crash left of one more.
+//! - `Promised`: a writer of replies that lets none through that a later run may not keep.
+//!
+//! `specs/Standing` says what stands in a file, `specs/Measuring` what is measured, and
+//! `specs/Promises` which replies are refused.
+#![tactic(auto)]
+
+mod durable;
+mod journaled;
+mod measuring;
+mod promised;
+
+pub use durable::Durable;
+pub use journaled::Journaled;
+pub use measuring::{Extent, measure};
+pub use promised::Promised;
