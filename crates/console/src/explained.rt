@@ -15,7 +15,8 @@ use std::{io, str};
 const WHOLE_LINE: u64 = MAX_LINE_BYTES as u64 + 1;
 
 /// Answers each line as `serve` answers it, and tells for each that was refused its number, why, and what would help.
-/// Each reply is out before its reason, and before the next line is read. `before` lines came before the first.
+/// Each reply is out before its reason, and before the next line is read. `before` lines came before the first. Tells how
+/// many lines there were.
 pub(crate) fn serve_explained<L: Log, R: BufRead, W: Write, S: Store>(
     told: &L,
     alloc: Global,
@@ -23,19 +24,19 @@ pub(crate) fn serve_explained<L: Log, R: BufRead, W: Write, S: Store>(
     writer: &mut W,
     book: &mut Book<Sample, S>,
     before: u64,
-) -> Result<(), ServeFault> {
+) -> Result<u64, ServeFault> {
     let mut line = Vec::new(alloc);
     for count in 1..u64::MAX {
         line.clear();
         if !read_line(alloc, reader, &mut line)? {
-            return Ok(());
+            return Ok(count - 1);
         }
         let reply = reply_to(alloc, line.as_slice(), book)?;
         put(writer, reply.as_slice())?;
         let number = before.saturating_add(count);
         explain(told, alloc, number, line.as_slice(), reply.as_slice());
     }
-    Ok(())
+    Ok(u64::MAX - 1)
 }
 
 /// Reads the next line with its line feed, and tells whether there is one. Of one that is too long as much is kept as

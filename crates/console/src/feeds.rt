@@ -1,6 +1,7 @@
 //! `recall feeds`: the files are feeds that run at once.
 
 use crate::audits::audit_all;
+use crate::progress::{Bar, Counting};
 use crate::run::BLOCK;
 use forms::LineFault;
 use handler::Sample;
@@ -13,7 +14,8 @@ use std::alloc::Global;
 use std::io::{BufReader, BufWriter, Read, Write};
 use std::sync::Wait;
 use std::thread::Threads;
-use workers::{Closed, Gate, RunFault, run_feeds};
+use std::time::Clock;
+use workers::{Closed, RunFault, run_feeds};
 
 /// The lines of a feed: none where a line is a step, or why it is not.
 type Faults = Vec<Option<LineFault>>;
@@ -25,29 +27,17 @@ struct Feeds {
     faults: Vec<Faults>,
 }
 
-/// Does nothing before and after a turn.
-#[derive(Drop)]
-struct Idle;
-
-impl Gate for Idle {
-    fn before(&self, _feed: u32, _at: u32) {}
-
-    fn after(&self, _feed: u32, _at: u32) {}
-}
-
 /// Runs each input as a feed, all at once over a store in memory, and then writes the reply lines,
 /// feed by feed in the order of the inputs. Tells the status to end with: 0 where all lines are
 /// answered, 1 after a fault of input, output, memory or threads; where the feeds can't be read or
 /// run, nothing is written. With `audit`, audits each open tenant after the last reply; 1 too where
-/// an audit doesn't say yes.
-pub(crate) fn feeds_on<R: Threads + Wait + Sync, L: Log, I: Read + Drop, W: Write + Drop>(
-    rt: &R,
-    told: &L,
-    alloc: Global,
-    inputs: Vec<I>,
-    output: W,
-    audit: bool,
-) -> u8 {
+/// an audit doesn't say yes. Where it `shows`, a bar tells how far the steps are.
+pub(crate) fn feeds_on<
+    R: Threads + Wait + Sync + Eprint + Clock,
+    L: Log,
+    I: Read + Drop,
+    W: Write + Drop,
+>(rt: &R, told: &L, alloc: Global, inputs: Vec<I>, output: W, audit: bool, shows: bool) -> u8 {
     let read = match read_all(alloc, inputs) {
         Ok(read) => read,
         Err(fault) => {
@@ -60,13 +50,33 @@ pub(crate) fn feeds_on<R: Threads + Wait + Sync, L: Log, I: Read + Drop, W: Writ
         error!(told; "there are too many feeds: name at most 64 files");
         return 1;
     }
-    match run_feeds(rt, alloc, Sample, MemoryStore::new(alloc), steps, &Idle) {
+    let count = count_steps(steps.as_slice());
+    let bar = Bar::new(rt, shows.then_some(count));
+    let ran = run_feeds(
+        rt,
+        alloc,
+        Sample,
+        MemoryStore::new(alloc),
+        steps,
+        &Counting(&bar),
+    );
+    bar.clear();
+    match ran {
         Ok(closed) => write_all(told, alloc, output, &closed, faults.as_slice(), audit),
         Err(fault) => {
             tell_run(told, fault);
             1
         }
     }
+}
+
+/// How many steps all feeds have.
+fn count_steps(feeds: &[Vec<Step>]) -> u64 {
+    let mut count = 0u64;
+    for steps in feeds {
+        count = count.saturating_add(steps.len() as u64);
+    }
+    count
 }
 
 /// Reads all inputs.

@@ -9,7 +9,7 @@ use book::Book;
 use handler::Sample;
 use journal::{Extent, Journaled, Promised};
 use lines::{Counted, ServeFault, serve};
-use log::{Log, error};
+use log::{Log, error, info};
 use stable_log::MemoryStore;
 use std::alloc::Global;
 use std::fs::File;
@@ -110,7 +110,10 @@ fn go_on<L: Log, R: Read + Drop, W: Write>(
     );
     let journaled = reader.inner.get_ref();
     match answered {
-        Ok(()) => Ok(()),
+        Ok(count) => {
+            info!(told; "{count} lines are answered, behind {} of the journal", extent.lines);
+            Ok(())
+        }
         Err(fault) => Err(Stop {
             place: Place::Input,
             fault,

@@ -9,7 +9,7 @@
 //! - `draw`: `recall draw`, thin over `diagram::draw`;
 //! - `log_file`: the file of `--log`, thin over `stable_log::WriterStore`, which carries its own;
 //! - `audits`: the audit lines, thin over `auditor::audit_tenant`, which carries its own;
-//! - `complaints`: what goes to standard error.
+//! - `complaints`: what goes to standard error; `progress`: the bar there, where it is a terminal.
 #![tactic(auto)]
 
 mod audits;
@@ -20,36 +20,39 @@ mod feeds;
 mod journal_file;
 mod journaled_run;
 mod log_file;
+mod progress;
 mod run;
 mod words;
 
-use complaints::Complaints;
+use complaints::{Complaints, Talk};
 use draw::diagram_of;
 use feeds::feeds_on;
 use journal_file::open_journal;
 use journaled_run::run_journaled;
 use log::{LevelFilter, Log, Logged, error};
 use log_file::LogFile;
+use progress::{Bar, Watched, input_size};
 use run::run_on;
 use stable_log::{MemoryStore, Store, WriterStore};
 use std::fs::{File, Files};
 use std::io;
-use std::io::{ErrorKind, Write};
+use std::io::{ErrorKind, IsTerminal, Write};
 use std::process::ExitCode;
 use std::sync::Wait;
 use std::thread::Threads;
+use std::time::Clock;
 use words::{Asked, DrawWords, FeedsWords, RunWords, read_words};
 
 fn main(rt: HostRuntime) -> ExitCode {
     let status = match words_of(&rt) {
         Ok(words) => match read_words(&rt, words.as_slice()) {
             Asked::Run(run) => run_as_asked(&rt, &run),
-            Asked::Feeds(feeds) => feeds_as_asked(&rt, &feeds),
+            Asked::Feeds(feeds) => feeds_as_asked(&rt, &feeds, shows_bar(&rt, feeds.talk)),
             Asked::Draw(draw) => draw_as_asked(&rt, &draw),
             Asked::Ended(status) => status,
         },
         Err(error) => {
-            let told = Logged::new(&rt, LevelFilter::Warn, Complaints(&rt));
+            let told = Logged::new(&rt, LevelFilter::Warn, Complaints { rt: &rt, bar: None });
             let (why, status) = bad_words(&error);
             error!(&told; "{why}");
             status
@@ -77,56 +80,64 @@ fn bad_words(error: &io::Error) -> (&'static str, u8) {
 
 /// `recall run`: with a log that is written, where a file is named for it, or with one in memory.
 fn run_as_asked(rt: &HostRuntime, run: &RunWords<'_>) -> u8 {
-    let logged = Logged::new(rt, LevelFilter::Warn, Complaints(rt));
+    let work = if shows_bar(rt, run.talk) {
+        input_size(rt)
+    } else {
+        None
+    };
+    let bar = Bar::new(rt, work);
+    let told = Complaints {
+        rt,
+        bar: Some(&bar),
+    };
+    let logged = Logged::new(rt, run.talk.level(), told);
+    let status = run_watched(rt, &logged, run, &bar);
+    bar.clear();
+    status
+}
+
+/// Whether a bar may be drawn.
+fn shows_bar(rt: &HostRuntime, talk: Talk) -> bool {
+    talk != Talk::Quiet && rt.stderr().is_terminal()
+}
+
+/// `recall run`, beside a bar.
+fn run_watched<L: Log>(
+    rt: &HostRuntime,
+    logged: &L,
+    run: &RunWords<'_>,
+    bar: &Bar<'_, HostRuntime>,
+) -> u8 {
     let alloc = rt.alloc();
+    let input = Watched::new(bar, rt.reader());
     if let Some(path) = run.journal {
-        return match open_journal(rt, &logged, alloc, path, run.from) {
-            Ok(journal) => run_journaled(
-                &logged,
-                alloc,
-                &mut rt.reader(),
-                &mut io::writer(rt),
-                journal,
-                run,
-            ),
+        return match open_journal(rt, logged, alloc, path, run.from) {
+            Ok(journal) => run_journaled(logged, alloc, input, &mut io::writer(rt), journal, run),
             Err(status) => status,
         };
     }
     let Some(path) = run.log else {
         let store = MemoryStore::new(alloc);
-        return run_on(
-            &logged,
-            alloc,
-            &mut rt.reader(),
-            &mut io::writer(rt),
-            store,
-            run,
-        );
+        return run_on(logged, alloc, input, &mut io::writer(rt), store, run);
     };
     let file = match File::create(rt, path) {
         Ok(file) => file,
         Err(error) => {
-            error!(&logged; "can't make the log {path}: {error}");
+            error!(logged; "can't make the log {path}: {error}");
             return 1;
         }
     };
-    let store = WriterStore::new(alloc, LogFile::new(&logged, file));
-    run_on(
-        &logged,
-        alloc,
-        &mut rt.reader(),
-        &mut io::writer(rt),
-        store,
-        run,
-    )
+    let store = WriterStore::new(alloc, LogFile::new(logged, file));
+    run_on(logged, alloc, input, &mut io::writer(rt), store, run)
 }
 
-/// `recall feeds`: opens all files, in order, and runs them as feeds.
-fn feeds_as_asked<R: Threads + Wait + Sync + Files + Print + Eprint + AllocGlobal>(
+/// `recall feeds`: opens all files, in order, and runs them as feeds, beside a bar where it `shows`.
+fn feeds_as_asked<R: Threads + Wait + Sync + Files + Print + Eprint + Clock + AllocGlobal>(
     rt: &R,
     feeds: &FeedsWords<'_>,
+    shows: bool,
 ) -> u8 {
-    let told = Logged::new(rt, LevelFilter::Warn, Complaints(rt));
+    let told = Logged::new(rt, feeds.talk.level(), Complaints { rt, bar: None });
     let alloc = rt.alloc();
     let mut inputs = Vec::new(alloc);
     for path in &feeds.files {
@@ -142,12 +153,12 @@ fn feeds_as_asked<R: Threads + Wait + Sync + Files + Print + Eprint + AllocGloba
             return 1;
         }
     }
-    feeds_on(rt, &told, alloc, inputs, io::writer(rt), feeds.audit)
+    feeds_on(rt, &told, alloc, inputs, io::writer(rt), feeds.audit, shows)
 }
 
 /// `recall draw`: draws to the file that is named, or to standard output.
 fn draw_as_asked(rt: &HostRuntime, draw: &DrawWords<'_>) -> u8 {
-    let told = Logged::new(rt, LevelFilter::Warn, Complaints(rt));
+    let told = Logged::new(rt, LevelFilter::Warn, Complaints { rt, bar: None });
     let found = diagram_of(&told, rt.alloc(), rt.reader(), draw.tenant, draw.window);
     let Some(diagram) = found else {
         return 1;

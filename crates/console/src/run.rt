@@ -8,7 +8,7 @@ use crate::words::RunWords;
 use book::Book;
 use handler::Sample;
 use lines::{Counted, ServeFault, serve};
-use log::{Log, error};
+use log::{Log, error, info};
 use stable_log::Store;
 use std::alloc::Global;
 use std::io::{BufRead, BufReader, BufWriter, Read, Write};
@@ -43,8 +43,14 @@ pub(crate) fn run_on<L: Log, R: Read + Drop, W: Write + Drop, S: Store>(
     let mut book = Book::new(alloc, Sample, store);
     let explained = asked.explain.then_some(0);
     let status = match answer_all(rt, alloc, &mut reader, &mut writer, &mut book, explained) {
-        Ok(()) if asked.audit => audit_all(rt, alloc, &mut writer.inner, &book),
-        Ok(()) => 0,
+        Ok(count) => {
+            info!(rt; "{count} lines are answered");
+            if asked.audit {
+                audit_all(rt, alloc, &mut writer.inner, &book)
+            } else {
+                0
+            }
+        }
         Err(fault) => {
             // What was answered goes out, as far as it can.
             let _ = writer.inner.flush();
@@ -57,7 +63,7 @@ pub(crate) fn run_on<L: Log, R: Read + Drop, W: Write + Drop, S: Store>(
     status
 }
 
-/// Answers each line. Where `explained` is a number, tells why it was refused, and so many lines came
+/// Answers each line, and tells how many there were. Where `explained` is a number, tells why it was refused, and so many lines came
 /// before the first.
 pub(crate) fn answer_all<L: Log, R: BufRead, W: Write, S: Store>(
     told: &L,
@@ -66,7 +72,7 @@ pub(crate) fn answer_all<L: Log, R: BufRead, W: Write, S: Store>(
     writer: &mut Counted<W>,
     book: &mut Book<Sample, S>,
     explained: Option<u64>,
-) -> Result<(), ServeFault> {
+) -> Result<u64, ServeFault> {
     if let Some(before) = explained {
         return serve_explained(
             told,
@@ -77,8 +83,7 @@ pub(crate) fn answer_all<L: Log, R: BufRead, W: Write, S: Store>(
             before,
         );
     }
-    serve(alloc, reader, writer, book)?;
-    Ok(())
+    serve(alloc, reader, writer, book)
 }
 
 /// Says what failed, and what to do.

@@ -1,5 +1,6 @@
 //! The words of the command line.
 
+use crate::complaints::Talk;
 use clap::error::ErrorKind;
 use clap::{Arg, ArgAction, ArgMatches, Command, Error, value_parser};
 use diagram::Window;
@@ -31,6 +32,8 @@ pub(crate) struct RunWords<'a> {
     pub journal: Option<&'a str>,
     /// The line of the journal from which on replies are written.
     pub from: Option<u64>,
+    /// How much is told.
+    pub talk: Talk,
 }
 
 /// What `recall feeds` is to do.
@@ -40,6 +43,8 @@ pub(crate) struct FeedsWords<'a> {
     pub audit: bool,
     /// The files of the feeds, in order.
     pub files: Vec<&'a str>,
+    /// How much is told.
+    pub talk: Talk,
 }
 
 /// What `recall draw` is to draw, and where to.
@@ -64,6 +69,12 @@ const LOG: &str = "log";
 
 /// The option that names the journal.
 const JOURNAL: &str = "journal";
+
+/// The flag that asks for no bar, and for faults alone.
+const QUIET: &str = "quiet";
+
+/// The flag that asks for what was done.
+const VERBOSE: &str = "verbose";
 
 /// The files of the feeds.
 const FILE: &str = "FILE";
@@ -122,6 +133,37 @@ fn audit_flag<'a>(alloc: Global) -> Arg<'a> {
         )
 }
 
+/// The flag that asks for no bar, and for faults alone.
+fn quiet_flag<'a>(alloc: Global) -> Arg<'a> {
+    Arg::new(alloc, QUIET)
+        .long(QUIET)
+        .short('q')
+        .action(ArgAction::SetTrue)
+        .help("Tells faults alone on standard error, and draws no bar")
+}
+
+/// The flag that asks for what was done.
+fn verbose_flag<'a>(alloc: Global) -> Result<Arg<'a>, Error> {
+    let verbose = Arg::new(alloc, VERBOSE)
+        .long(VERBOSE)
+        .short('v')
+        .action(ArgAction::SetTrue)
+        .conflicts_with(QUIET)?
+        .help("Tells on standard error also what was done");
+    Ok(verbose)
+}
+
+/// How much is told by these words.
+fn talk_of(words: &ArgMatches<'_>) -> Talk {
+    if words.get_flag(QUIET) {
+        Talk::Quiet
+    } else if words.get_flag(VERBOSE) {
+        Talk::Verbose
+    } else {
+        Talk::Usual
+    }
+}
+
 /// The command `run`.
 fn run_command<'a>(alloc: Global) -> Result<Command<'a>, Error> {
     let run = Command::new(alloc, "run")
@@ -155,7 +197,9 @@ fn run_command<'a>(alloc: Global) -> Result<Command<'a>, Error> {
                 .requires_arg(JOURNAL)?
                 .help("Writes the replies to the lines of the journal from N on (from 0)"),
         )?
-        .arg(audit_flag(alloc))?;
+        .arg(audit_flag(alloc))?
+        .arg(quiet_flag(alloc))?
+        .arg(verbose_flag(alloc)?)?;
     Ok(run)
 }
 
@@ -171,7 +215,9 @@ fn feeds_command<'a>(alloc: Global) -> Result<Command<'a>, Error> {
                 .num_args(1..=MAX_FEEDS)
                 .help("The step lines of a feed"),
         )?
-        .arg(audit_flag(alloc))?;
+        .arg(audit_flag(alloc))?
+        .arg(quiet_flag(alloc))?
+        .arg(verbose_flag(alloc)?)?;
     Ok(feeds)
 }
 
@@ -257,12 +303,14 @@ fn read_command<'a, R: AllocGlobal>(rt: &R, words: &'a [String]) -> Result<Asked
             log: run.get_str(LOG),
             journal: run.get_str(JOURNAL),
             from: run.get_one::<u64>(FROM),
+            talk: talk_of(run),
         }));
     }
     if let Some(feeds) = matches.subcommand_matches("feeds") {
         return Ok(Asked::Feeds(FeedsWords {
             audit: feeds.get_flag(AUDIT),
             files: files_of(alloc, feeds)?,
+            talk: talk_of(feeds),
         }));
     }
     if let Some(draw) = matches.subcommand_matches("draw") {

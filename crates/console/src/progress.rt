@@ -1,0 +1,187 @@
+//! How far a run is: a bar on standard error, where that is a terminal and the end is known.
+
+use std::fmt::{Display, Formatter};
+use std::fs::Files;
+use std::io::Read;
+use std::sync::atomic::{AtomicU64, Ordering};
+use std::time::{Clock, Instant};
+use std::{fmt, fs, io};
+use workers::Gate;
+
+/// How many milliseconds a bar stands before it is drawn anew.
+const PAUSE: u64 = 100;
+
+/// How many cells a bar has.
+const CELLS: u64 = 24;
+
+/// Takes a bar away, and what stands on its line.
+const CLEAR: &str = "\r\u{1b}[K";
+
+/// How many bytes standard input has, where it is a file.
+pub(crate) fn input_size<R: Files>(rt: &R) -> Option<u64> {
+    let found = fs::metadata(rt, "/dev/stdin").ok()?;
+    if found.is_file() {
+        Some(found.len())
+    } else {
+        None
+    }
+}
+
+/// How far a run is. Nothing is drawn where the work isn't known, as where none is wanted.
+#[derive(Drop)]
+pub(crate) struct Bar<'a, R> {
+    rt: &'a R,
+    /// The work, in bytes or in steps.
+    work: Option<u64>,
+    begun: Option<Instant>,
+    done: AtomicU64,
+    lines: AtomicU64,
+    /// After how many milliseconds it was drawn last; 0 where it wasn't.
+    drawn: AtomicU64,
+}
+
+impl<'a, R: Eprint + Clock> Bar<'a, R> {
+    /// A bar for so much work.
+    pub(crate) fn new(rt: &'a R, work: Option<u64>) -> Bar<'a, R> {
+        Bar {
+            rt,
+            work,
+            begun: Instant::now(rt).ok(),
+            done: AtomicU64::new(0),
+            lines: AtomicU64::new(0),
+            drawn: AtomicU64::new(0),
+        }
+    }
+
+    /// So much more is done, and so many lines with it.
+    pub(crate) fn go_on(&self, done: u64, lines: u64) {
+        let Some(work) = self.work else {
+            return;
+        };
+        let done = add(&self.done, done);
+        let lines = add(&self.lines, lines);
+        let now = self.millis();
+        if now.saturating_sub(self.drawn.load(Ordering::SeqCst)) >= PAUSE {
+            self.drawn.store(now, Ordering::SeqCst);
+            let reached = Reached {
+                work,
+                done,
+                lines,
+                millis: now,
+            };
+            let _ = eprint!(self.rt; "{CLEAR}{reached}");
+        }
+    }
+
+    /// Takes the bar away.
+    pub(crate) fn clear(&self) {
+        if self.drawn.load(Ordering::SeqCst) > 0 {
+            let _ = eprint!(self.rt; "{CLEAR}");
+        }
+    }
+
+    /// How many milliseconds the run takes so far.
+    fn millis(&self) -> u64 {
+        let Some(begun) = self.begun else {
+            return 0;
+        };
+        match begun.elapsed(self.rt) {
+            Ok(taken) => taken
+                .as_secs()
+                .saturating_mul(1000)
+                .saturating_add(u64::from(taken.subsec_millis())),
+            Err(_) => 0,
+        }
+    }
+}
+
+/// The number with so much more, as far as 64 bits go.
+fn add(number: &AtomicU64, more: u64) -> u64 {
+    number
+        .fetch_add(more, Ordering::SeqCst)
+        .saturating_add(more)
+}
+
+/// What a bar shows.
+#[derive(Clone, Copy, Debug)]
+struct Reached {
+    work: u64,
+    done: u64,
+    lines: u64,
+    millis: u64,
+}
+
+/// A part of a whole; 0 of nothing.
+fn part(number: u64, of: u64) -> u64 {
+    if of == 0 { 0 } else { number / of }
+}
+
+impl Reached {
+    /// How many cells are full.
+    fn cells(&self) -> u64 {
+        part(self.done.saturating_mul(CELLS), self.work).min(CELLS)
+    }
+
+    /// How many lines a second.
+    fn rate(&self) -> u64 {
+        part(self.lines.saturating_mul(1000), self.millis)
+    }
+
+    /// How many seconds are left, if it goes on so.
+    fn seconds_left(&self) -> u64 {
+        let left = self.work.saturating_sub(self.done);
+        part(self.millis.saturating_mul(left), self.done) / 1000
+    }
+}
+
+impl Display for Reached {
+    fn fmt<W: fmt::Write>(&self, out: &mut Formatter<W>) -> fmt::Result {
+        let full = self.cells();
+        for cell in 0..CELLS {
+            out.write_str(if cell < full { "#" } else { "." })?;
+        }
+        let seconds = self.seconds_left();
+        write!(
+            out,
+            " {} lines, {} a second, {}:{:02} left",
+            self.lines,
+            self.rate(),
+            seconds / 60,
+            seconds % 60
+        )
+    }
+}
+
+/// A reader that tells a bar of its bytes.
+#[derive(Drop)]
+pub(crate) struct Watched<'a, R, I> {
+    bar: &'a Bar<'a, R>,
+    inner: I,
+}
+
+impl<'a, R, I> Watched<'a, R, I> {
+    pub(crate) fn new(bar: &'a Bar<'a, R>, inner: I) -> Watched<'a, R, I> {
+        Watched { bar, inner }
+    }
+}
+
+impl<'a, R: Eprint + Clock, I: Read> Read for Watched<'a, R, I> {
+    fn read(&mut self, buf: &mut [u8]) -> io::Result<usize> {
+        let count = self.inner.read(buf)?;
+        let lines = buf[..count].iter().filter(|byte| **byte == b'\n').count();
+        self.bar.go_on(count as u64, lines as u64);
+        Ok(count)
+    }
+}
+
+/// A gate that tells a bar of each step of a feed.
+#[derive(Drop)]
+pub(crate) struct Counting<'a, R>(pub &'a Bar<'a, R>);
+
+impl<'a, R: Eprint + Clock> Gate for Counting<'a, R> {
+    fn before(&self, _feed: u32, _at: u32) {}
+
+    fn after(&self, _feed: u32, _at: u32) {
+        self.0.go_on(1, 1);
+    }
+}
