@@ -111,7 +111,7 @@ fn go_on<L: Log, R: Read + Drop, W: Write>(
     let journaled = reader.inner.get_ref();
     match answered {
         Ok(count) => {
-            info!(told; "{count} lines are answered, behind {} of the journal", extent.lines);
+            info!(told; "lines answered: {count}, behind {} of the journal", extent.lines);
             Ok(())
         }
         Err(fault) => Err(Stop {

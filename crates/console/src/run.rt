@@ -44,7 +44,7 @@ pub(crate) fn run_on<L: Log, R: Read + Drop, W: Write + Drop, S: Store>(
     let explained = asked.explain.then_some(0);
     let status = match answer_all(rt, alloc, &mut reader, &mut writer, &mut book, explained) {
         Ok(count) => {
-            info!(rt; "{count} lines are answered");
+            info!(rt; "lines answered: {count}");
             if asked.audit {
                 audit_all(rt, alloc, &mut writer.inner, &book)
             } else {
