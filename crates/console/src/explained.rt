@@ -1,11 +1,13 @@
 //! `recall run --explain`: lines are answered one by one, and each refusal is told with its reason.
 
 use book::Book;
+use diagram::{Untold, why_waits};
 use handler::Sample;
 use ident::MAX_LINE_BYTES;
-use lines::{Counted, ServeFault, serve};
+use lines::{Counted, ServeFault, read_step, serve};
 use log::{Log, warn};
-use reasons::{reason, refusal_in};
+use model::{Entry, Letter, NoMemory, Row, Step, TenantName};
+use reasons::{reason, refusal_in, wait_reason};
 use stable_log::Store;
 use std::alloc::Global;
 use std::io::{BufRead, ErrorKind, Read, Write};
@@ -34,7 +36,7 @@ pub(crate) fn serve_explained<L: Log, R: BufRead, W: Write, S: Store>(
         let reply = reply_to(alloc, line.as_slice(), book)?;
         put(writer, reply.as_slice())?;
         let number = before.saturating_add(count);
-        explain(told, alloc, number, line.as_slice(), reply.as_slice());
+        explain(told, alloc, book, number, line.as_slice(), reply.as_slice());
     }
     Ok(u64::MAX - 1)
 }
@@ -107,7 +109,14 @@ fn put<W: Write>(writer: &mut W, reply: &[u8]) -> Result<(), ServeFault> {
 }
 
 /// Tells why a line was refused, if it was.
-fn explain<L: Log>(told: &L, alloc: Global, number: u64, line: &[u8], reply: &[u8]) {
+fn explain<L: Log, S: Store>(
+    told: &L,
+    alloc: Global,
+    book: &Book<Sample, S>,
+    number: u64,
+    line: &[u8],
+    reply: &[u8],
+) {
     let Ok(reply) = str::from_utf8(reply) else {
         return;
     };
@@ -115,8 +124,54 @@ fn explain<L: Log>(told: &L, alloc: Global, number: u64, line: &[u8], reply: &[u
         return;
     };
     let line = line.strip_suffix(b"\n").unwrap_or(line);
-    match reason(alloc, &Sample, line, refusal) {
+    match reason_of(alloc, book, line, refusal) {
         Ok(reason) => warn!(told; "line {number}: {reason}"),
         Err(_) => warn!(told; "line {number}: {refusal}"),
     }
+}
+
+/// Why a line was refused. Of a letter that has to wait the history tells for what.
+fn reason_of<S: Store>(
+    alloc: Global,
+    book: &Book<Sample, S>,
+    line: &[u8],
+    refusal: &str,
+) -> Result<String, NoMemory> {
+    if refusal == "wait" {
+        if let Some(untold) = waits_for(alloc, book, line)? {
+            return wait_reason(alloc, untold.receiver, untold.unit);
+        }
+    }
+    reason(alloc, &Sample, line, refusal)
+}
+
+/// What the letter that a line delivers has to wait for.
+fn waits_for<S: Store>(
+    alloc: Global,
+    book: &Book<Sample, S>,
+    line: &[u8],
+) -> Result<Option<Untold>, NoMemory> {
+    let Some((tenant, letter)) = delivered(alloc, line) else {
+        return Ok(None);
+    };
+    let Some(rows) = rows_of(book, &tenant) else {
+        return Ok(None);
+    };
+    why_waits(alloc, &Sample, history_of(book), rows, &tenant, letter)
+}
+
+/// The letter that a line delivers.
+fn delivered(alloc: Global, line: &[u8]) -> Option<(TenantName, Letter)> {
+    match read_step(alloc, line) {
+        Ok(Step::Deliver { tenant, letter }) => Some((tenant, letter)),
+        _ => None,
+    }
+}
+
+fn rows_of<'a, S: Store>(book: &'a Book<Sample, S>, tenant: &TenantName) -> Option<&'a [Row]> {
+    book.rollbacks(tenant)
+}
+
+fn history_of<S: Store>(book: &Book<Sample, S>) -> &[Entry] {
+    book.history()
 }

@@ -4,6 +4,7 @@
 //!   apart by shape and colour as firm, stable, volatile, lost or cut; arrows for letters; signs for
 //!   flushes, releases, checkpoints, kills, restarts and notices.
 //! - `find_tenant`: whose picture to draw.
+//! - `why_waits`: for what a letter has to wait, which the same replay tells.
 //! - `Window`: which columns of it. Each event that changed something has a column of its own, in
 //!   the order of the tenant's history, so that time goes from left to right.
 //!
@@ -24,7 +25,9 @@ mod picture;
 mod recovery;
 mod replay;
 mod style;
+mod untold;
 mod window;
 
 pub use page::{draw, find_tenant};
+pub use untold::{Untold, why_waits};
 pub use window::Window;

@@ -1,11 +1,12 @@
 //! Why a line was refused, and what would help: for whoever reads a program's complaints.
 //!
 //! - `reason`: the sentence for a line and the refusal that it was answered with.
+//! - `wait_reason`: the same of a letter that has to wait, where it is known for what.
 //! - `refusal_in`: the refusal that a reply line tells, if it tells one.
 //!
 //! A refused step is told by its own words and the refusal (`steps`), a line that is no step by the first thing that is
 //! wrong with it (`bad_lines`), form by form (`keys`). Nothing is asked of the tenant: what a reason says follows from
-//! the line and its reply alone.
+//! the line and its reply, and of a letter that waits from what it is given.
 #![tactic(auto)]
 
 mod bad_lines;
@@ -14,4 +15,4 @@ mod reply;
 mod steps;
 
 pub use reply::refusal_in;
-pub use steps::reason;
+pub use steps::{reason, wait_reason};

@@ -3,7 +3,7 @@
 use crate::bad_lines::fault_of;
 use forms::{LineFault, read_step};
 use handler::Handler;
-use ident::{NoMemory, Text, Texts};
+use ident::{NoMemory, Text, Texts, Unit};
 use model::Step;
 use std::alloc::Global;
 
@@ -31,6 +31,19 @@ pub fn reason<H: Handler>(
         Err(LineFault::Bad) => Ok(format!(in alloc; "{refusal}")?),
         Err(LineFault::NoMemory) => Ok(MEMORY.to_string(alloc)?),
     }
+}
+
+/// Why a letter has to wait, and what would help, where it rests on a restart or a rollback of `unit` that its receiver
+/// isn't told of.
+///
+/// # Errors
+///
+/// `NoMemory` where there is none for the sentence.
+pub fn wait_reason(alloc: Global, receiver: Unit, unit: Unit) -> Result<String, NoMemory> {
+    let (receiver, unit) = (receiver.number(), unit.number());
+    Ok(format!(in alloc;
+        "deliver: the letter rests on a restart or rollback of unit {unit} that unit {receiver} isn't told of: give unit {receiver} a notice"
+    )?)
 }
 
 fn reason_of_step<H: Handler>(
