@@ -4,6 +4,8 @@
  *   RECALL_COUNT=file the number of its requests so far stands in this file, as eight bytes
  *   RECALL_READ=n     after n bytes a read of its standard input fails with EIO
  *   RECALL_WRITE=n    after n bytes a write to its standard output fails with ENOSPC
+ *   RECALL_APPEND=n  after n bytes a write to a file that it opened fails with ENOSPC
+ *   RECALL_SYNC=n    its n-th sync of a file fails with EIO (from 1)
  *   RECALL_LINES=1    a read of its standard input gives no more than one line
  *   RECALL_INTERRUPT=1  each second read and write of these is interrupted (EINTR), and a write takes seven bytes at most
  *
@@ -28,7 +30,7 @@ extern void *__libc_calloc(size_t, size_t);
 
 static atomic_long own_count;
 static atomic_long *requests = &own_count;
-static long refused, to_read = -1, to_write = -1;
+static long refused, to_read = -1, to_write = -1, to_append = -1, to_sync;
 static int counts, by_line, interrupts;
 
 static long number(const char *name, long otherwise) {
@@ -56,6 +58,8 @@ __attribute__((constructor)) static void begin(void) {
     if (getenv("RECALL_COUNT")) count_in(getenv("RECALL_COUNT"));
     to_read = number("RECALL_READ", -1);
     to_write = number("RECALL_WRITE", -1);
+    to_append = number("RECALL_APPEND", -1);
+    to_sync = number("RECALL_SYNC", 0);
     by_line = number("RECALL_LINES", 0);
     interrupts = number("RECALL_INTERRUPT", 0);
     refused = number("RECALL_REFUSE", 0);
@@ -114,10 +118,30 @@ ssize_t write(int file, const void *from, size_t size) {
     static long writes;
     static ssize_t (*real)(int, const void *, size_t);
     if (!real) real = (ssize_t (*)(int, const void *, size_t))dlsym(RTLD_NEXT, "write");
-    if (file != 1 || !counts) return real(file, from, size);
-    if (is_interrupted(&writes) || allowed(&to_write, &size, ENOSPC)) return -1;
+    if (file == 0 || file == 2 || !counts) return real(file, from, size);
+    long *left = file == 1 ? &to_write : &to_append;
+    if (is_interrupted(&writes) || allowed(left, &size, ENOSPC)) return -1;
     if (interrupts && size > SHORT) size = SHORT;
     ssize_t put = real(file, from, size);
-    if (to_write > 0 && put > 0) to_write -= put;
+    if (*left > 0 && put > 0) *left -= put;
     return put;
+}
+
+/* Whether this sync fails. */
+static int is_lost(void) {
+    if (!counts || to_sync == 0 || --to_sync != 0) return 0;
+    errno = EIO;
+    return 1;
+}
+
+int fsync(int file) {
+    static int (*real)(int);
+    if (!real) real = (int (*)(int))dlsym(RTLD_NEXT, "fsync");
+    return is_lost() ? -1 : real(file);
+}
+
+int fdatasync(int file) {
+    static int (*real)(int);
+    if (!real) real = (int (*)(int))dlsym(RTLD_NEXT, "fdatasync");
+    return is_lost() ? -1 : real(file);
 }

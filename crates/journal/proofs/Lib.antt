@@ -1,2 +1,5 @@
 pub mod Ends
 pub mod Measured
+pub mod Outcomes
+pub mod Histories
+pub mod Lines

@@ -1,3 +1,4 @@
 pub mod Standing
 pub mod Measuring
 pub mod Promises
+pub mod GoingOn

@@ -4,17 +4,21 @@
 //! - `Journaled`: a reader that gives only bytes that stand, synced, in such a file.
 //! - `measure`: the whole lines of such a file, and what a crash left of one more.
 //! - `Promised`: a writer of replies that lets none through that a later run may not keep.
+//! - `repeats` and `goes_on`: the laws that a run on the lines of an earlier one gives its replies, and
+//!   goes on from them.
 //!
-//! `specs/Standing` says what stands in a file, `specs/Measuring` what is measured, and
-//! `specs/Promises` which replies are refused.
+//! `specs/Standing` says what stands in a file, `specs/Measuring` what is measured,
+//! `specs/Promises` which replies are refused, and `specs/GoingOn` what the laws say.
 #![tactic(auto)]
 
 mod durable;
 mod journaled;
+mod laws;
 mod measuring;
 mod promised;
 
 pub use durable::Durable;
 pub use journaled::Journaled;
+pub use laws::{goes_on, repeats};
 pub use measuring::{Extent, measure};
 pub use promised::Promised;

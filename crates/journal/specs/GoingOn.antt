@@ -1,0 +1,52 @@
+-- What a run that steps the lines of an earlier run answers.
+use Rattle.std.specs.Prelude.{◌≡◌, ℕ, List, [], ◌++◌, length, take, drop, All}
+use Rattle.model.specs.Handler.{Meaning}
+use Rattle.model.specs.History.{IsLegal}
+use Rattle.model.specs.declared.refusals.Refusal.{Refusal}
+use Rattle.model.specs.declared.refusals.Refusal.TheVariants.{Store, Memory}
+use Rattle.model.specs.declared.replies.Reply.{Reply}
+use Rattle.model.specs.declared.replies.Reply.TheVariants.{Stopped, Refused}
+use Rattle.book.specs.Entries.{Ledger}
+use Rattle.book.specs.History.{IsRecordedIn}
+use Rattle.lines.specs.Serving.{Serves}
+
+-- the refusal follows from the steps, and tells of no memory that was missing and of no device that failed
+abbrev pub IsOfSteps : Refusal → Type 0
+IsOfSteps Store = ⊥
+IsOfSteps Memory = ⊥
+IsOfSteps _ = Unit {0}
+
+-- a reply that another run can give too
+abbrev pub IsPromise : Reply → Type 0
+IsPromise (Stopped count refusal) = IsOfSteps refusal
+IsPromise (Refused refusal) = IsOfSteps refusal
+IsPromise _ = Unit {0}
+
+-- what each book shows of itself: its history is legal, and what the store said in it is honest
+pub record IsBook {S : Type 0} (M : Meaning S) (book : Ledger) : Type 0 where
+  pub legal : IsLegal M book.history
+  pub recorded : IsRecordedIn M book.history book.log.records
+
+-- a new book was served these lines, and gave these promises
+pub record IsRun {S : Type 0} (M : Meaning S) (lines : List (List ℕ)) (replies : List Reply) (new : Ledger) : Type 0 where
+  pub start : Ledger
+  pub empty : start.history ≡ []
+  pub served : Serves lines start replies new
+  pub book : IsBook M new
+  pub promises : All IsPromise replies
+
+-- two runs on the same lines give the same promises
+abbrev pub Repeats : {S : Type 0} → Meaning S → Type 0
+Repeats M =
+    (lines : List (List ℕ)) (one other : List Reply) (new new' : Ledger)
+    → IsRun M lines one new → IsRun M lines other new' → one ≡ other
+
+-- Lines are cut in two. A new book that steps the first and then the second, and a new book that steps the whole: the replies of
+-- the one to the second are those of the other to the whole without those to the first.
+abbrev pub GoesOn : {S : Type 0} → Meaning S → Type 0
+GoesOn M =
+    (first second : List (List ℕ)) (start mid new new' : Ledger) (seen missed all : List Reply)
+    → (start.history ≡ []) → Serves first start seen mid → Serves second mid missed new
+    → IsBook M new → All IsPromise (seen ++ missed)
+    → IsRun M (first ++ second) all new'
+    → (missed ≡ drop (length first) all) × (seen ≡ take (length first) all)

@@ -1,0 +1,41 @@
+"""Runs with a journal that are ended in their midst, and go on: python3 tests/journal PROGRAM [WORD]
+
+Each check prints a line where it fails; the last line is `N passed, M failed`. With WORD, only the checks whose names
+have it.
+"""
+
+import os
+import sys
+import tempfile
+import time
+
+sys.path.append(os.path.join(os.path.dirname(os.path.abspath(__file__)), "..", "hostile"))
+
+import crashes
+import faults
+from program import Program
+
+
+def main():
+    if len(sys.argv) not in (2, 3):
+        sys.exit(__doc__)
+    word, begun = sys.argv[2] if len(sys.argv) == 3 else "", time.time()
+    passed, failed, counts = 0, 0, 0
+    with tempfile.TemporaryDirectory() as room:
+        program = Program(sys.argv[1], room)
+        for name, check in crashes.checks(program.path, room) + faults.checks(program, room):
+            if word not in name:
+                continue
+            try:
+                count, wrong = check()
+            except Exception as error:
+                count, wrong = 0, f"{type(error).__name__}: {error}"
+            counts, passed, failed = counts + count, passed + (wrong is None), failed + (wrong is not None)
+            if wrong is not None:
+                print(f"journal: {name}: {wrong}", flush=True)
+    print(f"journal: runs that were ended: {counts}; {time.time() - begun:.0f} seconds")
+    print(f"{passed} passed, {failed} failed")
+    return 1 if failed or not passed else 0
+
+
+sys.exit(main())
