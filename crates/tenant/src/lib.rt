@@ -35,6 +35,7 @@ mod certifies;
 mod checkpoints;
 mod deliver;
 mod flush;
+mod forgetting;
 mod join;
 mod kill;
 pub mod laws;
