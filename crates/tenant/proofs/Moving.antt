@@ -38,6 +38,7 @@ use Rattle.tenant.specs.Represents.{AreLast, IsCompact, IsMember}
 use Rattle.tenant.specs.Stands.{Did, Stands, live_in}
 use Rattle.tenant.proofs.Follow.{Keeps, keeps}
 use Rattle.tenant.proofs.Lasts.{drop_all, last_fits}
+use Rattle.tenant.proofs.Logging.{take_one}
 use Rattle.tenant.proofs.Others.{stands_beside}
 use Rattle.tenant.proofs.Places.{places_are, places_same}
 
@@ -364,3 +365,19 @@ did_then M name w k v step said answer before mid after d stands b = record {
     device = λ e. subst (λ (n : ℕ). HasRisen before.failures n) (sym b.failures) (d.logs.device e);
   };
 }
+
+-- ---- letters, one after another
+
+next_at : (xs : List Interval) (i j : ℕ) (v : Interval) → j ≡ suc i → slice_get xs j ≡ Some v → slice_get (drop 1 xs) i ≡ Some v
+next_at [] i j v e h = absurd (cc h)
+next_at (x ∷ xs) i j v e h = ap (slice_get (x ∷ xs)) (sym e) ∙ h
+
+pub passed_one : (letters : List Letter) (intervals : List Interval) (base index : ℕ) → base ≤ index → (v : Interval) → slice_get intervals (index + 1 - base) ≡ Some v
+    → emptied_by (emptied_all letters (take (index - base) (drop 1 intervals))) v.letter ≡ emptied_all letters (take (index + 1 - base) (drop 1 intervals))
+passed_one letters intervals base index low v at =
+    let xs = drop 1 intervals in
+    let n = index - base in
+    let next : index + 1 - base ≡ suc n = omega (arith, low) in
+    let more : n + 1 ≡ index + 1 - base = omega (arith, low) in
+    sym (fold-append (λ ls (i : Interval). emptied_by ls i.letter) letters (take n xs) (v ∷ []))
+    ∙ ap (emptied_all letters) (sym (take_one xs n v (next_at intervals n (index + 1 - base) v next at)) ∙ ap (λ c. take c xs) more)
