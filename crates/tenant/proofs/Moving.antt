@@ -1,9 +1,9 @@
 -- A unit's base moves on, and the tenant stands for the world that it stood for.
 use Rattle.std.proofs.Common.{◌≡◌, ◌⊎◌, inl, inr, refl, sym, ◌∙◌, ap, subst, ℕ, zero, suc, ◌+◌, ◌-◌, ◌<◌, ◌≤◌, Bool, true, false, cond, ◌||◌, min, List, [], ◌∷◌, ◌++◌, length, take, drop, arith, length-set, length-drop, append-nil}
-use Rattle.std.specs.Prelude.{Option, Some, None, slice_get, slice_set, nat_le, option_and_then, option_map, ◌==◌, bytes_eq}
+use Rattle.std.specs.Prelude.{IfSome, Option, Some, None, slice_get, slice_set, nat_le, option_and_then, option_map, ◌==◌, bytes_eq}
 use Rattle.std.specs.List.{fold, list_any}
 use Rattle.std.specs.Option.{option_map_or}
-use Rattle.std.proofs.lemmas.List.{drop-drop, length-take}
+use Rattle.std.proofs.lemmas.List.{drop_all, drop-drop}
 use Rattle.std.proofs.lemmas.List.Sums.{fold-append}
 use Rattle.std.proofs.lemmas.Option.{same_Some, slice_get_within}
 use Rattle.std.proofs.lemmas.Slice.Eq.{bytes_eq-Decides}
@@ -37,7 +37,7 @@ use Rattle.tenant.specs.Kept.{Kept, Member}
 use Rattle.tenant.specs.Represents.{AreLast, IsCompact, IsMember}
 use Rattle.tenant.specs.Stands.{Did, Stands, live_in}
 use Rattle.tenant.proofs.Follow.{Keeps, keeps}
-use Rattle.tenant.proofs.Lasts.{drop_all, last_fits}
+use Rattle.tenant.proofs.Lasts.{last_fits}
 use Rattle.tenant.proofs.Logging.{take_one}
 use Rattle.tenant.proofs.Others.{stands_beside}
 use Rattle.tenant.proofs.Places.{places_are, places_same}
@@ -88,6 +88,10 @@ next_is r f base e =
     let x = index_of (nearest_of r.shelf t) base e in
     let n = nearest_is r.shelf t x.0 x.1 in
     (ap (has_index r.shelf) (sym x.2) ∙ n.0, let a = x.2 in let b = n.1 in omega (arith, a, b))
+
+pub next_within : {S : Type 0} (r : Recovering S) (f last : ℕ) → last + 1 ≡ places r → (o : Option ℕ) → o ≡ next_base r f → IfSome o (λ b. b < places r)
+next_within r f last e None g = tt
+next_within r f last e (Some b) g = let n = (next_is r f b (sym g)).1 in omega (arith, n, e)
 
 -- ---- lists
 
@@ -381,3 +385,10 @@ passed_one letters intervals base index low v at =
     let more : n + 1 ≡ index + 1 - base = omega (arith, low) in
     sym (fold-append (λ ls (i : Interval). emptied_by ls i.letter) letters (take n xs) (v ∷ []))
     ∙ ap (emptied_all letters) (sym (take_one xs n v (next_at intervals n (index + 1 - base) v next at)) ∙ ap (λ c. take c xs) more)
+
+-- the end of the walk
+pub passed_all : (index base from : ℕ) → from ≤ index → (base ≤ from → index ≤ from) → base ≤ index → (from ≤ base → index ≤ base) → index - from ≡ base - from
+passed_all index base from a b d e = elim (dec_le base from) [
+  | yes q ↦ let h = b q in omega (arith, a, h, q)
+  | no q ↦ let h = e (omega (arith, q)) in omega (arith, d, h)
+]

@@ -298,7 +298,8 @@ impl<H: Handler> Member<H> {
 
     /// The index of its greatest snapshot below the frontier, if there is one.
     pub(crate) fn next_base(&self, frontier: u64) -> Option<u32>
-        ensures { result ≡ next_base self.now.recovering frontier }
+        ensures base { result ≡ next_base self.now.recovering frontier }
+        ensures within { IfSome result (λ b. b < places self.now.recovering) }
     {
         let last = u64::from(self.recovering.last_index());
         let target = frontier.saturating_sub(1).min(last);
