@@ -1,11 +1,11 @@
 -- A unit's base moves on, and the tenant stands for the world that it stood for.
-use Rattle.std.proofs.Common.{◌≡◌, ◌⊎◌, inl, inr, refl, sym, ◌∙◌, ap, subst, ℕ, zero, suc, ◌+◌, ◌-◌, ◌<◌, ◌≤◌, Bool, true, false, cond, ◌||◌, min, List, [], ◌∷◌, ◌++◌, length, take, drop, arith, length-set, length-drop, append-nil}
+use Rattle.std.proofs.Common.{◌≡◌, ◌⊎◌, inl, inr, refl, sym, ◌∙◌, ap, subst, ℕ, zero, suc, ◌+◌, ◌-◌, ◌<◌, ◌≤◌, Bool, true, false, cond, min, List, [], ◌∷◌, ◌++◌, length, take, drop, arith, length-set, length-drop, append-nil}
 use Rattle.std.specs.Prelude.{IfSome, Option, Some, None, slice_get, slice_set, nat_le, option_and_then, option_map, ◌==◌, bytes_eq}
 use Rattle.std.specs.List.{fold, list_any}
 use Rattle.std.specs.Option.{option_map_or}
 use Rattle.std.proofs.lemmas.List.{drop_all, drop-drop}
 use Rattle.std.proofs.lemmas.List.Sums.{fold-append}
-use Rattle.std.proofs.lemmas.Option.{same_Some, slice_get_within}
+use Rattle.std.proofs.lemmas.Option.{same_Some}
 use Rattle.std.proofs.lemmas.Slice.Eq.{bytes_eq-Decides}
 use native.Mathlib.Decide.{dec_le}
 use Rattle.model.specs.declared.records.Record.{Record}
@@ -18,8 +18,8 @@ use Rattle.model.specs.World.{World}
 use Rattle.theory.proofs.ListLaws.{bool_cases, eq_same, eq_true, get_drop, get_set, get_take, le_true, or_left, or_right, true_eq}
 use Rattle.checkpoint.specs.declared.snapshot.Snapshot.{Snapshot as Shelf}
 use Rattle.checkpoint.specs.Shelves.{Shelved, based_at, has_index, is_at, later_of, nearest_of}
-use Rattle.compact.specs.Compact.{Compact, Interval, Letter, Progress, Represents, Snapshot, Unit}
-use Rattle.compact.specs.Forgetting.{emptied, rebased}
+use Rattle.compact.specs.Compact.{Compact, Interval, Letter, Represents, Snapshot, Unit}
+use Rattle.compact.specs.Forgetting.{rebased}
 use Rattle.compact.specs.Steps.{with_unit_at}
 use Rattle.compact.specs.StepLaws.{Stands as StandsCompact}
 use Rattle.compact.proofs.Flushes.{logs_may_grow}
@@ -30,9 +30,9 @@ use Rattle.rollback_laws.specs.Seen.{IsReady, IsSeen}
 use Rattle.rollback_laws.proofs.Forgetting.{forgetting_is_seen}
 use Rattle.rollback_laws.proofs.Places.{places_are_seen}
 use Rattle.rollback_laws.proofs.Standing.{units_are_ready}
-use Rattle.shared_log.specs.Logged.{Grows, IsLeftOf, Logged, OthersKept, places_of}
+use Rattle.shared_log.specs.Logged.{Grows, IsLeftOf, Logged, places_of}
 use Rattle.shared_log.proofs.LeftLaws.{same_grows}
-use Rattle.tenant.specs.Bases.{IsBeside, LetsGo, emptied_all, emptied_at, emptied_by, given_up, moved_kept, moved_member, next_base, passed, rebased_member}
+use Rattle.tenant.specs.Bases.{IsBeside, LetsGo, emptied_all, emptied_at, emptied_by, given_up, moved_kept, next_base, passed, rebased_member}
 use Rattle.tenant.specs.Kept.{Kept, Member}
 use Rattle.tenant.specs.Represents.{AreLast, IsCompact, IsMember}
 use Rattle.tenant.specs.Stands.{Did, Stands, live_in}
@@ -40,7 +40,7 @@ use Rattle.tenant.proofs.Follow.{Keeps, keeps}
 use Rattle.tenant.proofs.Lasts.{last_fits}
 use Rattle.tenant.proofs.Logging.{take_one}
 use Rattle.tenant.proofs.Others.{stands_beside}
-use Rattle.tenant.proofs.Places.{places_are, places_same}
+use Rattle.tenant.proofs.Places.{places_are}
 
 -- ---- the nearest snapshot
 

@@ -1,6 +1,6 @@
 //! What is firm for good is forgotten: each unit's base moves to its greatest snapshot below its frontier.
 
-ghost use Rattle.std.specs.Prelude.{◌≡◌, ◌<◌, Some, ℕ, length, slice_get, slice_set};
+ghost use Rattle.std.specs.Prelude.{◌≡◌, ◌<◌, Some, length, slice_get, slice_set};
 ghost use Rattle.model.specs.World.{World};
 ghost use Rattle.compact.specs.Forgetting.{emptied};
 ghost use Rattle.rollback.specs.Units.{places};
@@ -38,11 +38,7 @@ fn empty_letter(letters: &mut Vec<SentLetter>, letter: Option<Letter>)
 }
 
 /// So do those that the unit received behind its base, up to the interval of this index.
-fn empty_passed<H: Handler>(
-    letters: &mut Vec<SentLetter>,
-    recovering: &RecoveryUnit<H>,
-    base: u32,
-)
+fn empty_passed<H: Handler>(letters: &mut Vec<SentLetter>, recovering: &RecoveryUnit<H>, base: u32)
     requires { base < places recovering.now }
     ensures { letters.new.items ≡ emptied_all letters.old.items (passed recovering.now base) }
 {

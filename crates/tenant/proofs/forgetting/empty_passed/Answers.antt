@@ -1,4 +1,4 @@
-use Rattle.std.proofs.Common.{◌≡◌, sym, ◌∙◌, ap, ◌-◌, ◌+◌, arith, drop, take}
+use Rattle.std.proofs.Common.{◌≡◌, ◌∙◌, ap, ◌-◌, arith, drop, take}
 use Rattle.compact.specs.Compact.{Interval}
 use Rattle.tenant.specs.Bases.{emptied_all, emptied_by}
 use Rattle.tenant.proofs.Moving.{passed_all, passed_one}
@@ -25,4 +25,4 @@ pub returns : goal.returns
 returns g c =
     let r = c.args.recovering.now in
     let same : c.loop-index.index - r.base ≡ c.args.base - r.base = passed_all c.loop-index.index c.args.base r.base c.loop-index.invariant.from c.loop-index.invariant.none c.loop-index-test.false (λ h. c.loop-index.auto.index-end (let e = c.base-index.ensures in omega (arith, e, h))) in
-    c.loop-index.invariant.letters ∙ ap (λ n. emptied_all c.args.letters.now.items (take (n) (drop 1 r.intervals))) same
+    c.loop-index.invariant.letters ∙ ap (λ n. emptied_all c.args.letters.now.items (take n (drop 1 r.intervals))) same

@@ -1,4 +1,4 @@
-use Rattle.std.proofs.Common.{◌≡◌, ◌<◌, sym, ap, subst, ℕ}
+use Rattle.std.proofs.Common.{◌<◌, sym, subst}
 use Rattle.rollback.specs.Units.{Recovering, places}
 use Rattle.tenant.proofs.Moving.{next_is}
 use Rattle.tenant.proofs.forgetting.forget_member.Goals as goal

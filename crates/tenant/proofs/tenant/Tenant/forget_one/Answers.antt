@@ -1,8 +1,8 @@
-use Rattle.std.proofs.Common.{◌≡◌, ◌∙◌, ap, sym, ℕ, ◌<◌, arith, length, refl}
+use Rattle.std.proofs.Common.{◌≡◌, ◌∙◌, ap, sym, arith, length, refl}
 use Rattle.std.specs.Prelude.{Some, slice_get}
 use Rattle.std.proofs.lemmas.Option.{slice_get_read}
 use Rattle.model.proofs.Places.{get_below}
-use Rattle.tenant.specs.Kept.{Kept, Member}
+use Rattle.tenant.specs.Kept.{Kept}
 use Rattle.tenant.proofs.Moving.{lets_beside, moved_stands}
 use Rattle.tenant.proofs.tenant.Tenant.forget_one.Goals as goal
 
