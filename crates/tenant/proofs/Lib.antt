@@ -17,6 +17,7 @@ mod Going
 mod Back
 mod Stepping
 mod Others
+mod Moving
 mod Flushing
 mod Fronts
 mod Widths

@@ -1,3 +1,4 @@
+pub mod Bases
 pub mod Kept
 pub mod Needs
 pub mod Outcomes

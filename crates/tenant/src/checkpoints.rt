@@ -1,16 +1,17 @@
 //! The step `checkpoint`.
 
-ghost use Rattle.std.specs.Prelude.{◌≡◌, ◌<◌, IfOk, OnErr, Some, length, slice_get, slice_set};
-ghost use Rattle.model.specs.Steps.{checkpoint as checkpoint_of};
-ghost use Rattle.tenant.specs.Kept.{Member as MemberOf, checkpointed_member};
-ghost use Rattle.tenant.specs.Outcomes.{IsPlain};
-ghost use Rattle.tenant.specs.Represents.{Does};
+ghost use Rattle.std.specs.Prelude.{◌≡◌, ◌<◌, IfOk, List, OnErr, Some, bytes_eq, false, length, slice_get, slice_set, ℕ};
+ghost use Rattle.model.specs.World.{World};
+ghost use Rattle.model.specs.declared.steps.TenantStep.TheVariants.{Checkpoint};
+ghost use Rattle.tenant.specs.Kept.{Kept, Member as MemberOf, checkpointed_member};
+ghost use Rattle.tenant.specs.Stands.{Did, Stands};
 
 use crate::answer::Answer;
 use crate::member::Member;
 use crate::tenant::Tenant;
 use handler::Handler;
-use model::{NoMemory, Refusal, Reply, Unit};
+use model::{NoMemory, Refusal, Reply, TenantName, Unit};
+use shared_log::{SharedLog, Store};
 use std::alloc::Global;
 
 /// Shelves a snapshot of the unit at this place, of which all is stable.
@@ -47,20 +48,26 @@ impl<H: Handler> Tenant<H> {
         Ok(())
     }
 
-    /// Shelves a snapshot of a unit that is up and has nothing volatile, from which it can go back later.
+    /// Shelves a snapshot of a unit that is up and has nothing volatile, from which it can go back later. Then each unit
+    /// forgets what is firm for good.
     ///
     /// # Errors
     ///
-    /// `NoMemory` where the snapshot finds no memory; the tenant stays as it was.
-    pub(crate) fn checkpoint(
+    /// `NoMemory` where the snapshot finds no memory; the tenant and the records of the log stay as they were.
+    pub(crate) fn checkpoint<S: Store>(
         &mut self,
         alloc: Global,
         handler: &H,
+        tenant: &TenantName,
         unit: Unit,
+        log: &mut SharedLog<S>,
     ) -> Result<Answer, NoMemory>
-        ensures done { IfOk result (λ a. Does H.meaning (λ w. checkpoint_of w unit) self.old a.reply self.new) }
-        ensures plain { IfOk result IsPlain }
+        ensures kept { IfOk result (λ a. a.kept ≡ a.reply) }
+        ensures did { IfOk result (λ a. (w : World) → Stands H.meaning tenant.now self.old w log.old.records → Did H.meaning tenant.now w self.new (Checkpoint unit) a.said a.reply log.old log.new) }
+        // What other tenants stand for stays.
+        ensures others { (k : Kept H.State) (w : World) (other : List ℕ) → bytes_eq other tenant.now ≡ false → Stands H.meaning other k w log.old.records → Stands H.meaning other k w log.new.records }
         ensures err { OnErr result (self.new ≡ self.old) }
+        ensures err_log { OnErr result (log.new.records ≡ log.old.records) }
     {
         let member = match self.up_member(unit) {
             Ok(member) => member,
@@ -71,6 +78,7 @@ impl<H: Handler> Tenant<H> {
         }
         let at = member.last_mark(unit);
         self.checkpoint_at(alloc, handler, unit)?;
+        self.forget_firm(tenant, log);
         Ok(Answer::twice(Reply::Checkpointed { at }, Reply::Checkpointed { at }))
     }
 }

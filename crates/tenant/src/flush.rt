@@ -173,8 +173,8 @@ impl<H: Handler> Tenant<H> {
         );
     }
 
-    /// Logs the unit's volatile records, from the front, and the frontiers of all units go on. Where there was no memory
-    /// for the first record, nothing is changed.
+    /// Logs the unit's volatile records, from the front, and the frontiers of all units go on. Where a record was added,
+    /// each unit forgets what is firm for good. Where there was no memory for the first record, nothing is changed.
     ///
     /// # Errors
     ///
@@ -201,6 +201,7 @@ impl<H: Handler> Tenant<H> {
             return Err(NoMemory);
         }
         self.enter_stable(unit, said.appended as usize);
+        self.forget_after(tenant, said.appended, log);
         Ok(Answer {
             said,
             reply: flush_reply(said.end, said.appended),

@@ -22,7 +22,8 @@
 //! - `tenant`: the struct, and what is read off it; `member`: one unit of it; `answer`: what a step is answered.
 //! - `step`: which of these a step is, also by a turn that was worked elsewhere; `prepare`: the input of that turn.
 //! - `receipts`: what a receipt makes (what refuses one: `unit_steps`, `refusals`); `returning`: a unit goes back;
-//!   `waiting`, `releasing`: outputs that wait, and those on their way out.
+//!   `forgetting`: what is firm for good is given up; `waiting`, `releasing`: outputs that wait, and those on their way
+//!   out.
 //! - `reads`, `certifies`: what whoever stands above reads off a tenant.
 //! - `laws`: what holds over time of the worlds that a tenant stands for.
 //!
@@ -55,6 +56,7 @@ mod certifies;
 mod checkpoints;
 mod deliver;
 mod flush;
+mod forgetting;
 mod join;
 mod kill;
 pub mod laws;

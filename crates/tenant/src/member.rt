@@ -1,16 +1,17 @@
 //! One unit of a tenant.
 
-ghost use Rattle.std.specs.Prelude.{◌≡◌, ◌≢◌, ◌++◌, ◌+◌, ◌-◌, ◌<◌, ◌≤◌, ℕ, IfOk, IfSome, OnErr, Some, min, length, option_map, slice_index};
+ghost use Rattle.std.specs.Prelude.{◌≡◌, ◌≢◌, ◌++◌, ◌+◌, ◌-◌, ◌<◌, ◌≤◌, ℕ, IfOk, IfSome, OnErr, Some, min, length, option_map, slice_index, true};
 ghost use Rattle.std.specs.Option.{is_some};
 ghost use Rattle.output_commit.specs.Holds.{room_of, texts_of};
 ghost use Rattle.compact.specs.Compact.{Unit as UnitOf};
 ghost use Rattle.compact.specs.Steps.{last_mark as last_mark_of};
 ghost use Rattle.checkpoint.specs.declared.snapshot.Snapshot.{Snapshot as SnapshotOf};
-ghost use Rattle.checkpoint.specs.Shelves.{nearest_of};
+ghost use Rattle.checkpoint.specs.Shelves.{has_index, nearest_of};
 ghost use Rattle.compact.specs.Compact.{Progress as ProgressOf};
 ghost use Rattle.rollback.specs.Units.{IsKept, IsTarget, OrphansAreTail, places, restored, stable_places};
 ghost use Rattle.session.specs.Counts.{widened};
 ghost use Rattle.rollback_laws.specs.Seen.{IsSeen};
+ghost use Rattle.tenant.specs.Bases.{next_base, rebased_member};
 ghost use Rattle.tenant.specs.Kept.{begun_member, checkpointed_member, firm_texts, flushed_member, killed_member, outputs_to, released_member, fitted_member, kept_length, live_count, returned_member, IsNext, received_member};
 
 use crate::waiting::Waiting;
@@ -293,6 +294,24 @@ impl<H: Handler> Member<H> {
         ensures { result ≡ target - self.now.recovering.base }
     {
         target.saturating_sub(self.recovering.base()) as usize
+    }
+
+    /// The index of its greatest snapshot below the frontier, if there is one.
+    pub(crate) fn next_base(&self, frontier: u64) -> Option<u32>
+        ensures base { result ≡ next_base self.now.recovering frontier }
+        ensures within { IfSome result (λ b. b < places self.now.recovering) }
+    {
+        let last = u64::from(self.recovering.last_index());
+        let target = frontier.saturating_sub(1).min(last);
+        self.recovering.restart_index(target as u32)
+    }
+
+    /// Its base moves to the snapshot of this index. Takes no memory.
+    pub(crate) fn move_base(&mut self, base: u32)
+        requires { has_index self.old.recovering.shelf base ≡ true }
+        ensures { self.new ≡ rebased_member self.old base }
+    {
+        self.recovering.forget(base);
     }
 
     /// How many of its records are live: those of its stable intervals behind the base.

@@ -39,7 +39,7 @@ impl<H: Handler> Tenant<H> {
             }
             TenantStep::Deliver { letter } => self.deliver(alloc, handler, name, letter),
             TenantStep::Flush { unit } => self.flush(name, unit, log),
-            TenantStep::Checkpoint { unit } => self.checkpoint(alloc, handler, unit),
+            TenantStep::Checkpoint { unit } => self.checkpoint(alloc, handler, name, unit, log),
             TenantStep::Kill { unit } => Ok(self.kill(unit)),
             TenantStep::Restart { unit } => self.restart(alloc, handler, name, unit, log),
             TenantStep::Notice { unit } => self.notice(alloc, handler, name, unit, log),

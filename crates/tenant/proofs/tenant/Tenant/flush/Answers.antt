@@ -2,9 +2,12 @@ use Rattle.std.proofs.Common.{◌≡◌, ◌∙◌, ap, subst, ◌≤◌, ◌++�
 use Rattle.std.specs.Prelude.{Some, ◌↔◌}
 use Rattle.std.proofs.lemmas.Option.{slice_get_within}
 use Rattle.model.specs.declared.replies.End.TheVariants.{Whole}
+use Rattle.model.specs.declared.steps.TenantStep.TheVariants.{Flush}
+use Rattle.model.specs.Steps.{flush_reply}
 use Rattle.rollback.specs.Units.{Recovering}
 use Rattle.tenant.specs.Kept.{Member}
 use Rattle.tenant.proofs.Flushing.{flush_done, flush_refused}
+use Rattle.tenant.proofs.Moving.{beside_stands, did_then}
 use Rattle.tenant.proofs.Others.{appended_beside}
 use Rattle.tenant.proofs.tenant.Tenant.flush.Goals as goal
 
@@ -21,14 +24,17 @@ returns-clause-did g c = λ w s.
     let said = c.append_all-said.result in
     let same : c.recovering.result.now ≡ m.recovering = c.recovering.ensures in
     let volatile : c.recovering.result.now.volatile ≡ m.recovering.volatile = ap (λ (r : Recovering g.row.H-State.Denot). r.volatile) same in
-    rw (c.flush_reply.ensures) (flush_done g.H.Handler.meaning c.args.tenant.now c.args.self.now w c.args.log.now s c.args.unit m c.in-Ok.ensures.found c.in-Ok.ensures.up c.append_all-said.new.log c.enter_stable.new.self said
+    rw (c.flush_reply.ensures) (did_then g.H.Handler.meaning c.args.tenant.now w c.enter_stable.new.self c.forget_after.new.self (Flush c.args.unit) said (flush_reply said.end said.appended) c.args.log.now c.append_all-said.new.log c.forget_after.new.log
+    (flush_done g.H.Handler.meaning c.args.tenant.now c.args.self.now w c.args.log.now s c.args.unit m c.in-Ok.ensures.found c.in-Ok.ensures.up c.append_all-said.new.log c.enter_stable.new.self said
     (c.append_all-said.ensures.records ∙ ap (λ vs. c.args.log.now.records ++ map Some (take said.appended vs)) volatile)
     (subst (λ vs. said.appended ≤ length vs) volatile c.append_all-said.ensures.within)
     (subst (λ vs. (said.end ≡ Whole) ↔ (said.appended ≡ length vs)) volatile c.append_all-said.ensures.whole)
     (c.enter_stable.ensures m c.in-Ok.ensures.found)
     c.append_all-said.ensures.device)
+    c.forget_after.ensures.stands c.forget_after.ensures.beside)
 
 pub returns-clause-others : goal.returns-clause-others
 returns-clause-others g c = λ k w other differs s.
-    appended_beside g.H.Handler.meaning c.args.tenant.now other k w c.args.log.now.records c.append_all-said.new.log.records c.recovering.result.now.volatile c.append_all-said.result.appended
-    c.append_all-said.ensures.records c.append_all-said.ensures.own differs s
+    beside_stands g.H.Handler.meaning c.args.tenant.now other k w c.append_all-said.new.log c.forget_after.new.log c.forget_after.ensures.beside differs
+    (appended_beside g.H.Handler.meaning c.args.tenant.now other k w c.args.log.now.records c.append_all-said.new.log.records c.recovering.result.now.volatile c.append_all-said.result.appended
+    c.append_all-said.ensures.records c.append_all-said.ensures.own differs s)

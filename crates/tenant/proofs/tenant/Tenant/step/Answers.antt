@@ -1,5 +1,5 @@
 use Rattle.std.proofs.Common.{refl}
-use Rattle.model.specs.declared.steps.TenantStep.TheVariants.{Checkpoint, Deliver, Join, Kill, Post, Release, Status}
+use Rattle.model.specs.declared.steps.TenantStep.TheVariants.{Deliver, Join, Kill, Post, Release, Status}
 use Rattle.tenant.proofs.Stepping.{any_did, any_ok, plain_ok}
 use Rattle.tenant.proofs.tenant.Tenant.step.Goals as goal
 
@@ -22,9 +22,7 @@ pub returns-in-Flush-clause-did : goal.returns-in-Flush-clause-did
 returns-in-Flush-clause-did g c = rw (c.in-Flush.is) c.flush.ensures.did
 
 pub returns-in-Checkpoint-clause-did : goal.returns-in-Checkpoint-clause-did
-returns-in-Checkpoint-clause-did g c =
-    rw (c.in-Checkpoint.is)
-    (any_ok g.H.Handler.meaning c.args.name.now c.args.self.now c.checkpoint.new.self (Checkpoint c.in-Checkpoint.unit) c.args.log.now (λ w. (refl, refl, refl)) c.checkpoint.result c.checkpoint.ensures.done c.checkpoint.ensures.plain)
+returns-in-Checkpoint-clause-did g c = rw (c.in-Checkpoint.is) c.checkpoint.ensures.did
 
 pub returns-in-Kill-clause-did : goal.returns-in-Kill-clause-did
 returns-in-Kill-clause-did g c =

@@ -1,0 +1,11 @@
+use Rattle.model.specs.World.{World}
+use Rattle.tenant.specs.Bases.{IsBeside}
+use Rattle.tenant.specs.Stands.{Stands}
+use Rattle.tenant.proofs.tenant.Tenant.forget_firm.Given as goal
+
+-- whatever world the tenant stood for, it still stands for
+abbrev pub invariant-loop-at : goal.invariant-loop-at
+invariant-loop-at g l = record {
+  stands : (w : World) → Stands g.H.Handler.meaning l.tenant l.fn.self w l.fn.log.records → Stands g.H.Handler.meaning l.tenant l.self w l.log.records;
+  beside : IsBeside l.tenant l.fn.log l.log;
+}
