@@ -44,13 +44,14 @@ use Rattle.tenant.specs.declared.answer.Answer.{Answer}
 use Rattle.tenant.specs.Kept.{Kept, Member, gone_back, kept_before, kept_length, live_count, outputs_to, restart_refusal, returned, returned_member, up_refusal}
 use Rattle.tenant.specs.Outcomes.{failing, quiet}
 use Rattle.tenant.specs.Returns.{Failed, Returns, Went}
-use Rattle.tenant.specs.Stands.{Did, Stands, live_in}
+use Rattle.tenant.specs.Stands.{Did, IsStanding, live_in}
 use Rattle.tenant.specs.Represents.{AreLast, IsCompact, IsMember, Leaves}
 use Rattle.tenant.proofs.Fetching.{whole_fetched}
 use Rattle.tenant.proofs.Follow.{Keeps, is_up, keeps, leaves, no_unit, none_kept, not_up, with_one}
 use Rattle.tenant.proofs.Killing.{hold_cut, whole_hold}
 use Rattle.tenant.proofs.Lasts.{last_taken}
 use Rattle.tenant.proofs.Places.{places_are}
+use Rattle.tenant.proofs.Standing.{closed}
 
 -- ---- the first refusal
 
@@ -102,7 +103,7 @@ not_above a b e = grind (arith, nat_tests)
 pub above : (a b : ℕ) → nat_le a b ≡ false → b < a
 above a b e = grind (arith, nat_tests)
 
-module _ {S : Type 0} (M : Meaning S) (name : List ℕ) (t : Kept S) (w : World) (before : Logged) (s : Stands M name t w before.records) (u : ℕ) where
+module _ {S : Type 0} (M : Meaning S) (name : List ℕ) (t : Kept S) (w : World) (before : Logged) (s : IsStanding M name t w before.records) (u : ℕ) where
   abbrev whole : List Record
   whole = s.whole
 
@@ -122,7 +123,7 @@ module _ {S : Type 0} (M : Meaning S) (name : List ℕ) (t : Kept S) (w : World)
   closes : (step : TenantStep) (said : Said) (reply : Reply) (v : Kept S) (after : Logged) → Leaves M name (live_in name after.records) (step_open M w step said) reply v whole → Grows before.records [] after.records
       → IsHonest M name w step said [] → (said.end ≡ Device → HasRisen before.failures after.failures) → Did M name w v step said reply before after
   closes step said reply v after l grows honest device = record {
-    steps = (l.0, l.1, record { whole = whole; left = subst (λ (ws : List Record). IsLeftOf after.records ws) (append-nil whole) (grows whole s.left); stands = l.2 });
+    steps = (l.0, l.1, closed (record { whole = whole; left = subst (λ (ws : List Record). IsLeftOf after.records ws) (append-nil whole) (grows whole s.left); stands = l.2 }));
     logs = record { honest = ([], grows, honest); device = device };
   }
 

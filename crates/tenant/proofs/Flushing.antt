@@ -38,12 +38,13 @@ use Rattle.unit_steps.specs.Receipts.{IsFrontier, frontier_of}
 use Rattle.unit_steps.proofs.Seen.{frontiers_go_on}
 use Rattle.tenant.specs.Kept.{IsFlushed, Kept, Member, flushed_member, up_refusal}
 use Rattle.tenant.specs.Outcomes.{quiet}
-use Rattle.tenant.specs.Stands.{Did, Stands, live_in}
+use Rattle.tenant.specs.Stands.{Did, IsStanding, live_in}
 use Rattle.tenant.specs.Represents.{AreLast, IsCompact, IsMember}
 use Rattle.tenant.proofs.Follow.{Keeps, is_up, keeps, leaves, not_up}
 use Rattle.tenant.proofs.Lasts.{last_more}
 use Rattle.tenant.proofs.Places.{own_places, other_places, owns, owns_not, places_behind, left_length}
 use Rattle.tenant.proofs.Widths.{widths}
+use Rattle.tenant.proofs.Standing.{closed}
 
 -- two lists of the same elements
 same_list : {X : Type 0} (xs ys : List X) → length xs ≡ length ys → ((i : ℕ) (x y : X) → slice_get xs i ≡ Some x → slice_get ys i ≡ Some y → x ≡ y) → xs ≡ ys
@@ -52,7 +53,7 @@ same_list [] (y ∷ ys) e h = absurd (cc e)
 same_list (x ∷ xs) [] e h = absurd (cc e)
 same_list (x ∷ xs) (y ∷ ys) e h = let rest = same_list xs ys (omega (arith, e)) (λ j a b p q. h (suc j) a b p q) in λ i. h 0 x y refl refl i ∷ rest i
 
-module _ {S : Type 0} (M : Meaning S) (name : List ℕ) (t : Kept S) (w : World) (before : Logged) (s : Stands M name t w before.records) (u : ℕ) where
+module _ {S : Type 0} (M : Meaning S) (name : List ℕ) (t : Kept S) (w : World) (before : Logged) (s : IsStanding M name t w before.records) (u : ℕ) where
   abbrev whole : List Record
   whole = s.whole
 
@@ -99,7 +100,7 @@ module _ {S : Type 0} (M : Meaning S) (name : List ℕ) (t : Kept S) (w : World)
       let l = leaves M name live (whole ++ []) (flush w u quiet) (reach quiet) _ (record { reply = Refused r; state = k }) (flushes_follow M name k w whole [] st u quiet (refused_honest r e))
       (not_up t live k is u (flush_of k u quiet (length whole)) r e) t is in
       record {
-        steps = (l.0, l.1, record { whole = whole ++ []; left = same whole s.left; stands = l.2 });
+        steps = (l.0, l.1, closed (record { whole = whole ++ []; left = same whole s.left; stands = l.2 }));
         logs = record { honest = ([], same, refused_honest r e); device = λ f. absurd (cc f) };
       }
 
@@ -285,6 +286,6 @@ module _ {S : Type 0} (M : Meaning S) (name : List ℕ) (t : Kept S) (w : World)
         let grows = appended_grows before.records after.records grown logged in
         let l = leaves M name (live_in name after.records) (whole ++ grown) (flush w u said) (reach said) _ (record { reply = flush_reply said.end said.appended; state = state }) (flushes_follow M name k w whole grown st u said honest) done_is v is_after in
         record {
-          steps = (l.0, l.1, record { whole = whole ++ grown; left = grows whole s.left; stands = l.2 });
+          steps = (l.0, l.1, closed (record { whole = whole ++ grown; left = grows whole s.left; stands = l.2 }));
           logs = record { honest = (grown, grows, honest); device = device };
         }

@@ -31,3 +31,4 @@ pub mod Delivering
 pub mod Fresh
 pub mod Reading
 pub mod Certifying
+pub mod Standing

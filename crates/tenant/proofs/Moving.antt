@@ -35,12 +35,13 @@ use Rattle.shared_log.proofs.LeftLaws.{same_grows}
 use Rattle.tenant.specs.Bases.{IsBeside, LetsGo, emptied_all, emptied_at, emptied_by, given_up, moved_kept, next_base, passed, rebased_member}
 use Rattle.tenant.specs.Kept.{Kept, Member}
 use Rattle.tenant.specs.Represents.{AreLast, IsCompact, IsMember}
-use Rattle.tenant.specs.Stands.{Did, Stands, live_in}
+use Rattle.tenant.specs.Stands.{Did, IsStanding, Stands, live_in}
 use Rattle.tenant.proofs.Follow.{Keeps, keeps}
 use Rattle.tenant.proofs.Lasts.{last_fits}
 use Rattle.tenant.proofs.Logging.{take_one}
 use Rattle.tenant.proofs.Others.{stands_beside}
 use Rattle.tenant.proofs.Places.{places_are}
+use Rattle.tenant.proofs.Standing.{closed}
 
 -- ---- the nearest snapshot
 
@@ -118,7 +119,7 @@ last_dropped own live n h =
 
 -- ---- one unit
 
-module _ {S : Type 0} (M : Meaning S) (name : List ℕ) (t : Kept S) (w : World) (before after : Logged) (s : Stands M name t w before.records) (u : ℕ) (m : Member S) (found : slice_get t.members u ≡ Some m)
+module _ {S : Type 0} (M : Meaning S) (name : List ℕ) (t : Kept S) (w : World) (before after : Logged) (s : IsStanding M name t w before.records) (u : ℕ) (m : Member S) (found : slice_get t.members u ≡ Some m)
     (f : ℕ) (front : slice_get t.frontiers u ≡ Some f) where
   abbrev whole : List Record
   whole = s.whole
@@ -193,11 +194,11 @@ module _ {S : Type 0} (M : Meaning S) (name : List ℕ) (t : Kept S) (w : World)
     live_other a other = sym (places_are after name a) ∙ go.others name a (λ h. other (h.1 ∙ x.is.own)) ∙ places_are before name a
 
     closes : (z : Compact S) → IsCompact v (live_in name after.records) z → Represents M name z w whole → Stands M name v w after.records
-    closes z is_after rep = record {
+    closes z is_after rep = closed (record {
       whole = whole ++ [];
       left = go.grows whole s.left;
       stands = (z, is_after, record { reached = st.reached; represents = logs_may_grow M name z w whole [] rep });
-    }
+    })
 
   -- ---- the base moves to another snapshot
 
@@ -301,7 +302,7 @@ module _ {S : Type 0} (M : Meaning S) (name : List ℕ) (t : Kept S) (w : World)
 
   -- what the tenant stands for stays where nothing of it goes
   stays : (v : Kept S) → v ≡ t → LetsGo name m.unit 0 before after → Stands M name v w after.records
-  stays v same go = subst (λ (z : Kept S). Stands M name z w after.records) (sym same) (stands_beside M name t w before.records after.records [] go.grows live_same s)
+  stays v same go = subst (λ (z : Kept S). Stands M name z w after.records) (sym same) (stands_beside M name t w before.records after.records [] go.grows live_same (closed s))
     where
       live_same : (a : ℕ) → live_in name after.records a ≡ live a
       live_same a = elim (bool_cases (a == u)) [

@@ -12,6 +12,7 @@ use Rattle.shared_log.specs.Logged.{IsLeftOf}
 use Rattle.tenant.specs.Kept.{Kept}
 use Rattle.tenant.specs.Represents.{Leaves, OpensAs, StandsFor}
 use Rattle.tenant.specs.Stands.{IsOpened, Stands, live_in}
+use Rattle.tenant.proofs.Standing.{closed}
 
 -- any record, where one was forgotten
 any_record : Record
@@ -44,11 +45,11 @@ module _ {S : Type 0} (M : Meaning S) (kinds : List (List ℕ)) (quota : Quota) 
       stands : (name : List ℕ) (records : List (Option Record)) → Stands M name t first.0 records
       stands name records =
           let l = h name (live_in name records) (whole_of records) in
-          record {
+          closed (record {
             whole = whole_of records;
             left = left_of records;
             stands = subst (λ z. StandsFor M name (live_in name records) t z (whole_of records)) (same_world (open_new M kinds quota optimism) l.0 first.0 l.1 first.1) l.2;
-          }
+          })
 
 -- the same, by what the calls give
 pub opened_so : {S : Type 0} (M : Meaning S) (kinds : List (List ℕ)) (quota : Quota) (optimism : ℕ) (reply other : Reply) (t : Option (Kept S))

@@ -16,19 +16,22 @@ use Rattle.tenant.specs.Stands.{Stands, live_in}
 use Rattle.tenant.specs.Represents.{IsCompact}
 use Rattle.tenant.proofs.Logging.{AreOf}
 use Rattle.tenant.proofs.Places.{other_places, owns_not, places_are, places_behind, places_same}
+use Rattle.tenant.proofs.Standing.{closed, opened}
 
 -- Its records are live as they were.
 pub stands_beside : {S : Type 0} (M : Meaning S) (name : List ℕ) (t : Kept S) (w : World) (before after : List (Option Record)) (grown : List Record) → Grows before grown after
     → ((u : ℕ) → live_in name after u ≡ live_in name before u) → Stands M name t w before → Stands M name t w after
-stands_beside M name t w before after grown grows same s = record {
-  whole = s.whole ++ grown;
-  left = grows s.whole s.left;
-  stands = (
-    s.stands.0,
-    subst (λ (live : ℕ → List ℕ). IsCompact t live s.stands.0) (λ i u. sym (same u) i) s.stands.1,
-    record { reached = s.stands.2.reached; represents = logs_may_grow M name s.stands.0 w s.whole grown s.stands.2.represents },
-  );
-}
+stands_beside M name t w before after grown grows same given =
+    let s = opened given in
+    closed (record {
+      whole = s.whole ++ grown;
+      left = grows s.whole s.left;
+      stands = (
+        s.stands.0,
+        subst (λ (live : ℕ → List ℕ). IsCompact t live s.stands.0) (λ i u. sym (same u) i) s.stands.1,
+        record { reached = s.stands.2.reached; represents = logs_may_grow M name s.stands.0 w s.whole grown s.stands.2.represents },
+      );
+    })
 
 -- Records of one tenant are live of no other.
 pub appended_beside : {S : Type 0} (M : Meaning S) (name other : List ℕ) (t : Kept S) (w : World) (before after : List (Option Record)) (records : List Record) (n : ℕ) → after ≡ before ++ map Some (take n records)

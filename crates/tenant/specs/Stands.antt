@@ -23,10 +23,14 @@ live_in name records = λ u. places_from name u 0 records
 
 -- The tenant of this name stands for the world, where the log has these records, with empty places for those that were
 -- forgotten: they are what is left of a whole list.
-pub record Stands {S : Type 0} (M : Meaning S) (name : List ℕ) (t : Kept S) (w : World) (records : List (Option Record)) : Type 0 where
+pub record IsStanding {S : Type 0} (M : Meaning S) (name : List ℕ) (t : Kept S) (w : World) (records : List (Option Record)) : Type 0 where
   pub whole : List Record
   pub left : IsLeftOf records whole
   pub stands : StandsFor M name (live_in name records) t w whole
+
+-- The same, closed: whoever stands above passes it on, and can't look into it without saying so.
+unfoldable pub Stands : {S : Type 0} → Meaning S → List ℕ → Kept S → World → List (Option Record) → Type 0
+Stands M name t w records = IsStanding M name t w records
 
 -- the tenant, if there is one, stands for the world, if there is one
 abbrev pub StandsAt : {S : Type 0} → Meaning S → List ℕ → Option (Kept S) → Option World → List (Option Record) → Type 0

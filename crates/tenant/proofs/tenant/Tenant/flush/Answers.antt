@@ -9,11 +9,12 @@ use Rattle.tenant.specs.Kept.{Member}
 use Rattle.tenant.proofs.Flushing.{flush_done, flush_refused}
 use Rattle.tenant.proofs.Moving.{beside_stands, did_then}
 use Rattle.tenant.proofs.Others.{appended_beside}
+use Rattle.tenant.proofs.Standing.{opened}
 use Rattle.tenant.proofs.tenant.Tenant.flush.Goals as goal
 
 pub returns-in-Err-clause-did : goal.returns-in-Err-clause-did
 returns-in-Err-clause-did g c = λ w s.
-    rw (c.refused.ensures.reply, c.refused.ensures.plain.1) (flush_refused g.H.Handler.meaning c.args.tenant.now c.args.self.now w c.args.log.now s c.args.unit c.in-Err.refusal c.in-Err.ensures.refused)
+    rw (c.refused.ensures.reply, c.refused.ensures.plain.1) (flush_refused g.H.Handler.meaning c.args.tenant.now c.args.self.now w c.args.log.now (opened s) c.args.unit c.in-Err.refusal c.in-Err.ensures.refused)
 
 pub enter_stable-requires-clause-within : goal.enter_stable-requires-clause-within
 enter_stable-requires-clause-within g c κs within = slice_get_within c.args.self.now.members c.args.unit _ c.in-Ok.ensures.found
@@ -25,7 +26,7 @@ returns-clause-did g c = λ w s.
     let same : c.recovering.result.now ≡ m.recovering = c.recovering.ensures in
     let volatile : c.recovering.result.now.volatile ≡ m.recovering.volatile = ap (λ (r : Recovering g.row.H-State.Denot). r.volatile) same in
     rw (c.flush_reply.ensures) (did_then g.H.Handler.meaning c.args.tenant.now w c.enter_stable.new.self c.forget_after.new.self (Flush c.args.unit) said (flush_reply said.end said.appended) c.args.log.now c.append_all-said.new.log c.forget_after.new.log
-    (flush_done g.H.Handler.meaning c.args.tenant.now c.args.self.now w c.args.log.now s c.args.unit m c.in-Ok.ensures.found c.in-Ok.ensures.up c.append_all-said.new.log c.enter_stable.new.self said
+    (flush_done g.H.Handler.meaning c.args.tenant.now c.args.self.now w c.args.log.now (opened s) c.args.unit m c.in-Ok.ensures.found c.in-Ok.ensures.up c.append_all-said.new.log c.enter_stable.new.self said
     (c.append_all-said.ensures.records ∙ ap (λ vs. c.args.log.now.records ++ map Some (take said.appended vs)) volatile)
     (subst (λ vs. said.appended ≤ length vs) volatile c.append_all-said.ensures.within)
     (subst (λ vs. (said.end ≡ Whole) ↔ (said.appended ≡ length vs)) volatile c.append_all-said.ensures.whole)

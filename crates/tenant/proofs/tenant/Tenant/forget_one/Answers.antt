@@ -4,6 +4,7 @@ use Rattle.std.proofs.lemmas.Option.{slice_get_read}
 use Rattle.model.proofs.Places.{get_below}
 use Rattle.tenant.specs.Kept.{Kept}
 use Rattle.tenant.proofs.Moving.{lets_beside, moved_stands}
+use Rattle.tenant.proofs.Standing.{opened}
 use Rattle.tenant.proofs.tenant.Tenant.forget_one.Goals as goal
 
 pub returns-then-at-len-2-clause-stands : goal.returns-then-at-len-2-clause-stands
@@ -16,7 +17,7 @@ returns-then-at-len-2-clause-stands g c = λ w s.
     ∙ slice_get_read fronts (length fronts) at c.index-frontier.result.now refl (let a = c.if-at-len-2.true in let b = c.len-then-at-len.ensures in omega (arith, a, b)) c.index-frontier.ensures in
     let wide : length c.self.inside.members.items ≡ length t.members = ap (λ (t : Kept g.row.H-State.Denot). length t.members) c.self.view_is in
     let m = get_below t.members at (let a = c.if-at-len.true in let b = c.len.ensures in omega (arith, a, b, wide)) in
-    moved_stands g.H.Handler.meaning c.args.tenant.now t w c.args.log.now c.forget_unit.new.log s at m.0 m.1 c.index-frontier.result.now front c.forget_unit.new.self (c.forget_unit.ensures.kept m.0 m.1) (c.forget_unit.ensures.log m.0 m.1)
+    moved_stands g.H.Handler.meaning c.args.tenant.now t w c.args.log.now c.forget_unit.new.log (opened s) at m.0 m.1 c.index-frontier.result.now front c.forget_unit.new.self (c.forget_unit.ensures.kept m.0 m.1) (c.forget_unit.ensures.log m.0 m.1)
 
 pub returns-then-at-len-2-clause-beside : goal.returns-then-at-len-2-clause-beside
 returns-then-at-len-2-clause-beside g c =

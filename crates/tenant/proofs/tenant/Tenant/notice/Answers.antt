@@ -5,11 +5,12 @@ use Rattle.tenant.specs.Kept.{Member}
 use Rattle.tenant.proofs.Back.{above, not_above, notice_learns, notice_not_up, notice_returns, notice_worn}
 use Rattle.tenant.proofs.Others.{either_beside, returned_beside}
 use Rattle.tenant.proofs.Results.{if_ok}
+use Rattle.tenant.proofs.Standing.{opened}
 use Rattle.tenant.proofs.tenant.Tenant.notice.Goals as goal
 
 pub returns-in-Err-clause-did : goal.returns-in-Err-clause-did
 returns-in-Err-clause-did g c = λ w s.
-    rw (c.refused.ensures.reply, c.refused.ensures.plain.1) (notice_not_up g.H.Handler.meaning c.args.tenant.now c.args.self.now w c.args.log.now s c.args.unit c.in-Err.refusal c.in-Err.ensures.refused)
+    rw (c.refused.ensures.reply, c.refused.ensures.plain.1) (notice_not_up g.H.Handler.meaning c.args.tenant.now c.args.self.now w c.args.log.now (opened s) c.args.unit c.in-Err.refusal c.in-Err.ensures.refused)
 
 pub is_last-requires-after_bounds : goal.is_last-requires-after_bounds
 is_last-requires-after_bounds g c κs within = slice_get_within c.args.self.now.members c.args.unit _ c.in-Ok.ensures.found
@@ -23,7 +24,7 @@ returns-then-is_last-clause-did g c = λ w s.
     let found = c.in-Ok.ensures.found in
     let target = c.in-Some.target in
     rw (c.learn_rows.ensures m found, c.twice.ensures.reply, c.twice.ensures.plain.1)
-    (notice_learns g.H.Handler.meaning c.args.tenant.now c.args.self.now w c.args.log.now s c.args.unit m found target (c.in-Some.ensures.target m found) (c.in-Some.ensures.kept m found) c.in-Ok.ensures.up
+    (notice_learns g.H.Handler.meaning c.args.tenant.now c.args.self.now w c.args.log.now (opened s) c.args.unit m found target (c.in-Some.ensures.target m found) (c.in-Some.ensures.kept m found) c.in-Ok.ensures.up
     (not_above (places m.recovering) (target + 1) (sym (c.is_last.ensures m found) ∙ c.if-is_last.true)))
 
 pub returns-then-is_worn_out-clause-did : goal.returns-then-is_worn_out-clause-did
@@ -32,7 +33,7 @@ returns-then-is_worn_out-clause-did g c = λ w s.
     let found = c.in-Ok.ensures.found in
     let target = c.in-Some.target in
     rw (c.refused-then-is_worn_out.ensures.reply, c.refused-then-is_worn_out.ensures.plain.1)
-    (notice_worn g.H.Handler.meaning c.args.tenant.now c.args.self.now w c.args.log.now s c.args.unit m found target (c.in-Some.ensures.target m found) (c.in-Some.ensures.kept m found) c.in-Ok.ensures.up
+    (notice_worn g.H.Handler.meaning c.args.tenant.now c.args.self.now w c.args.log.now (opened s) c.args.unit m found target (c.in-Some.ensures.target m found) (c.in-Some.ensures.kept m found) c.in-Ok.ensures.up
     (above (places m.recovering) (target + 1) (sym (c.is_last.ensures m found) ∙ c.if-is_last.false)) (sym c.is_worn_out.ensures ∙ c.if-is_worn_out.true))
 
 pub return_to-requires-clause-within : goal.return_to-requires-clause-within
@@ -43,7 +44,7 @@ returns-clause-did g c =
     let m : Member g.row.H-State.Denot = c.in-Ok.field-0.now in
     let found = c.in-Ok.ensures.found in
     let target = c.in-Some.target in
-    if_ok _ _ c.return_to.result (λ a returns w s. notice_returns g.H.Handler.meaning c.args.tenant.now c.args.self.now w c.args.log.now s c.args.unit m found target (c.in-Some.ensures.target m found) (c.in-Some.ensures.kept m found) c.in-Ok.ensures.up
+    if_ok _ _ c.return_to.result (λ a returns w s. notice_returns g.H.Handler.meaning c.args.tenant.now c.args.self.now w c.args.log.now (opened s) c.args.unit m found target (c.in-Some.ensures.target m found) (c.in-Some.ensures.kept m found) c.in-Ok.ensures.up
     (above (places m.recovering) (target + 1) (sym (c.is_last.ensures m found) ∙ c.if-is_last.false)) (sym c.is_worn_out.ensures ∙ c.if-is_worn_out.false)
     c.start_behind.result c.start_behind.ensures c.return_to.new.self c.return_to.new.log a (returns m found)) c.return_to.ensures.returns
 

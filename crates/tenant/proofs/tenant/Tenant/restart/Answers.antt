@@ -4,12 +4,13 @@ use Rattle.tenant.specs.Kept.{restart_refusal}
 use Rattle.tenant.proofs.Back.{restart_refused_by, restart_returns}
 use Rattle.tenant.proofs.Others.{either_beside, returned_beside}
 use Rattle.tenant.proofs.Results.{if_ok}
+use Rattle.tenant.proofs.Standing.{opened}
 use Rattle.tenant.proofs.tenant.Tenant.restart.Goals as goal
 
 pub returns-in-Some-clause-did : goal.returns-in-Some-clause-did
 returns-in-Some-clause-did g c = λ w s.
     rw (c.refused.ensures.reply, c.refused.ensures.plain.1)
-    (restart_refused_by g.H.Handler.meaning c.args.tenant.now c.args.self.now w c.args.log.now s c.args.unit c.in-Some.refusal (sym c.restart_refusal.ensures.refusal ∙ c.in-Some.is))
+    (restart_refused_by g.H.Handler.meaning c.args.tenant.now c.args.self.now w c.args.log.now (opened s) c.args.unit c.in-Some.refusal (sym c.restart_refusal.ensures.refusal ∙ c.in-Some.is))
 
 pub returns-clause-did : goal.returns-clause-did
 returns-clause-did g c =
@@ -17,7 +18,7 @@ returns-clause-did g c =
     let u = c.args.unit in
     let m = get_below t.members u c.in-None.ensures.there in
     let target = c.in-Some-last_kept.target in
-    if_ok _ _ c.return_to.result (λ a returns w s. restart_returns g.H.Handler.meaning c.args.tenant.now t w c.args.log.now s u m.0 m.1 target (c.in-Some-last_kept.ensures.target m.0 m.1) (c.in-Some-last_kept.ensures.kept m.0 m.1)
+    if_ok _ _ c.return_to.result (λ a returns w s. restart_returns g.H.Handler.meaning c.args.tenant.now t w c.args.log.now (opened s) u m.0 m.1 target (c.in-Some-last_kept.ensures.target m.0 m.1) (c.in-Some-last_kept.ensures.kept m.0 m.1)
     (ap (restart_refusal t.table u) (sym m.1) ∙ sym c.restart_refusal.ensures.refusal ∙ c.in-None.is) c.start_behind-row.result c.start_behind-row.ensures c.return_to.new.self c.return_to.new.log a (returns m.0 m.1)) c.return_to.ensures.returns
 
 pub returns-clause-others : goal.returns-clause-others
