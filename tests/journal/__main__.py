@@ -16,14 +16,18 @@ import faults
 from program import Program
 
 
+# Where a sync costs nothing, for the many runs that meet a fault.
+QUICK = "/dev/shm" if os.access("/dev/shm", os.W_OK) else None
+
+
 def main():
     if len(sys.argv) not in (2, 3):
         sys.exit(__doc__)
     word, begun = sys.argv[2] if len(sys.argv) == 3 else "", time.time()
     passed, failed, counts = 0, 0, 0
-    with tempfile.TemporaryDirectory() as room:
+    with tempfile.TemporaryDirectory() as room, tempfile.TemporaryDirectory(dir=QUICK) as quick:
         program = Program(sys.argv[1], room)
-        for name, check in crashes.checks(program.path, room) + faults.checks(program, room):
+        for name, check in crashes.checks(program.path, room) + faults.checks(program, quick):
             if word not in name:
                 continue
             try:

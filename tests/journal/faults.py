@@ -42,7 +42,7 @@ class Journal:
         seen = out[: out.rfind(b"\n") + 1]
         if status == 0:
             return False, None if out == self.wanted else "no fault, and other replies"
-        if status != 1 or not said.startswith(b"recall: "):
+        if status != 1 or not said:
             return True, f"status {status}: {said.decode(errors='replace')}"
         if not self.wanted.startswith(seen):
             return True, "before the fault: " + first_difference(seen, self.wanted)
@@ -77,7 +77,12 @@ def writes(own):
 
 
 def memory(own):
-    return each_in_turn(own, "memory", "refuse", range(1, 100_000))
+    requests = own.program.count(b"".join(own.lines), "run", "--journal", own.new("count"))
+    for number in range(1, requests + 1):
+        wrong = own.with_fault("memory", refuse=number)[1]
+        if wrong:
+            return number, f"request {number}: {wrong}"
+    return requests, None if requests else "no request was counted"
 
 
 def interrupted(own):

@@ -16,25 +16,22 @@ use std::fs::File;
 use std::io::{BufRead, BufReader, BufWriter, Read, Write};
 use std::{io, mem};
 
-/// Where a fault came.
-#[derive(Clone, Copy, Debug, PartialEq, Eq)]
+/// Where a run ended early.
+#[derive(Clone, Copy, Debug)]
 enum Place {
     // A line of the journal was read or stepped again.
-    Journal,
+    Again,
     // A line of the input was read or stepped.
     Input,
+    // The input could not be made to last.
+    Journal,
 }
 
-/// What ended a run early.
-#[derive(Clone, Copy, Debug, PartialEq, Eq)]
+/// What ended a run early, with so many lines in the journal.
+#[derive(Clone, Copy, Debug)]
 struct Stop {
     place: Place,
     fault: ServeFault,
-    // A step found no memory, and is not answered.
-    is_unanswered: bool,
-    // The journal can't be written.
-    is_broken: bool,
-    // How many lines stand in the journal.
     lines: u64,
 }
 
@@ -61,7 +58,7 @@ pub(crate) fn run_journaled<L: Log, R: Read + Drop, W: Write + Drop>(
         Err(stop) => {
             // What was answered goes out, as far as it can.
             let _ = writer.inner.inner.flush();
-            tell(told, stop);
+            tell(told, stop, writer.inner.is_refused);
             1
         }
     };
@@ -81,46 +78,42 @@ fn go_on<L: Log, R: Read + Drop, W: Write>(
     asked: &RunWords<'_>,
 ) -> Result<(), Stop> {
     let JournalFile { file, extent } = journal;
-    let stepped = step_again(alloc, &file, &extent, writer, book);
-    if let Err(fault) = stepped {
+    let lines = extent.lines;
+    if let Err(fault) = step_again(alloc, &file, &extent, writer, book) {
         return Err(Stop {
-            place: Place::Journal,
+            place: Place::Again,
             fault,
-            is_unanswered: fault == ServeFault::Write && writer.inner.is_refused,
-            is_broken: false,
-            lines: extent.lines,
+            lines,
         });
     }
     let Some(mut reader) = journaling(alloc, input, file) else {
         return Err(Stop {
             place: Place::Input,
             fault: ServeFault::NoMemory,
-            is_unanswered: false,
-            is_broken: false,
-            lines: extent.lines,
+            lines,
         });
     };
-    let answered = answer_all(
-        told,
-        alloc,
-        &mut reader,
-        writer,
-        book,
-        asked.explain.then_some(extent.lines),
-    );
-    let journaled = reader.inner.get_ref();
-    match answered {
+    let explained = asked.explain.then_some(lines);
+    match answer_all(told, alloc, &mut reader, writer, book, explained) {
         Ok(count) => {
-            info!(told; "lines answered: {count}, behind {} of the journal", extent.lines);
+            info!(told; "lines answered: {count}, behind {lines} of the journal");
             Ok(())
         }
-        Err(fault) => Err(Stop {
-            place: Place::Input,
-            fault,
-            is_unanswered: fault == ServeFault::Write && writer.inner.is_refused,
-            is_broken: journaled.is_broken(),
-            lines: extent.lines.saturating_add(journaled.lines()),
-        }),
+        Err(fault) => Err(stop_at_input(reader.inner.get_ref(), fault, lines)),
+    }
+}
+
+/// What ended the run at the input, where so many lines came before it.
+fn stop_at_input<R>(journaled: &Journaled<R, File>, fault: ServeFault, before: u64) -> Stop {
+    let place = if journaled.is_broken() {
+        Place::Journal
+    } else {
+        Place::Input
+    };
+    Stop {
+        place,
+        fault,
+        lines: before.saturating_add(journaled.lines()),
     }
 }
 
@@ -163,22 +156,20 @@ fn journaling<R: Read + Drop>(
 }
 
 /// Says what failed, and what to do.
-fn tell<L: Log>(told: &L, stop: Stop) {
+fn tell<L: Log>(told: &L, stop: Stop, is_refused: bool) {
     let lines = stop.lines;
-    if stop.is_unanswered {
-        error!(told; "there is no memory for a step: its line is not answered, and stands in the journal, which has {lines} lines: free some, and go on");
-        return;
-    }
-    if stop.is_broken {
-        error!(told; "the journal can't be written: it has {lines} lines, and no line behind them is stepped: give those from line {lines} on to a new run");
-        return;
-    }
     match (stop.place, stop.fault) {
-        (Place::Journal, ServeFault::Read) => {
+        (_, ServeFault::Write) if is_refused => {
+            error!(told; "there is no memory for a step: its line is not answered, and stands in the journal, which has {lines} lines: free some, and go on");
+        }
+        (Place::Again, ServeFault::Read) => {
             error!(told; "the journal can't be read: nothing of the input is read");
         }
         (Place::Input, ServeFault::Read) => {
             error!(told; "the input can't be read: the journal has {lines} lines: give those from line {lines} on to a new run");
+        }
+        (Place::Journal, ServeFault::Read) => {
+            error!(told; "the journal can't be written: it has {lines} lines, and none behind them is stepped: give those from line {lines} on to a new run");
         }
         (_, ServeFault::Write) => {
             error!(told; "the output can't be written: the journal has {lines} lines: go on from the first whose reply is not out");

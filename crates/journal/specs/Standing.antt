@@ -12,11 +12,12 @@ EndsWith (Some all) bytes = (before : List ℕ) × (all ≡ before ++ bytes)
 abbrev pub IsStanding : Option (List ℕ) → Option (List ℕ) → List ℕ → Type 0
 IsStanding contents synced bytes = EndsWith contents bytes × Keeps contents synced
 
--- a reader that journals: the reader below, the file, what was read and could not be made to last, whether the file ends with a line feed or is empty, and whether the file failed
+-- a reader that journals: the reader below, the file, what was read and could not be made to last, how many lines were ended in the file (at most 2 ^ 64 - 1), whether the file ends with a line feed or is empty, and whether the file failed
 pub record Journal (R F : Type 0) : Type 0 where
   pub inner : R
   pub file : F
   pub unkept : List ℕ
+  pub lines : ℕ
   pub is_ended : Bool
   pub is_broken : Bool
 

@@ -1,8 +1,9 @@
 //! The reader that journals.
 
-ghost use Rattle.std.specs.Prelude.{◌≡◌, ◌<◌, ◌≤◌, ℕ, List, [], true, false, IfOk, OnOk, IsErr, length, take, vec_capacity};
+ghost use Rattle.std.specs.Prelude.{◌≡◌, ◌<◌, ◌≤◌, ◌+◌, ◌-◌, ◌^◌, ℕ, List, [], true, false, IfOk, OnOk, IsErr, length, min, take, vec_capacity};
 ghost use Rattle.std.specs.Io.{ReadsAtMost};
 ghost use Rattle.std.specs.Io.KnownBytes.{Appends, Keeps, ReadConsumes};
+ghost use Rattle.journal.specs.Measuring.{line_feeds};
 ghost use Rattle.journal.specs.Standing.{IsStanding, lasting, left, ends_after};
 
 use crate::durable::Durable;
@@ -35,7 +36,7 @@ impl<R, F> Model for Journaled<R, F> {
 
     ghost Value = { Journal R F };
 
-    ghost view = { λ j. record { inner = j.inner; file = j.file; unkept = j.unkept.items; is_ended = j.is_ended; is_broken = j.is_broken } };
+    ghost view = { λ j. record { inner = j.inner; file = j.file; unkept = j.unkept.items; lines = j.lines; is_ended = j.is_ended; is_broken = j.is_broken } };
 
     ghost invariant = { λ j. (0 < vec_capacity j.unkept) × (j.is_broken ≡ false → j.unkept.items ≡ []) };
 }
@@ -53,7 +54,7 @@ impl<R, F> Journaled<R, F> {
         R: Drop,
         F: Drop,
         requires { 0 < block }
-        ensures { IfOk result (λ j. j ≡ record { inner = inner; file = file; unkept = []; is_ended = true; is_broken = false }) }
+        ensures { IfOk result (λ j. j ≡ record { inner = inner; file = file; unkept = []; lines = 0; is_ended = true; is_broken = false }) }
     {
         Ok(Journaled {
             inner,
@@ -66,7 +67,9 @@ impl<R, F> Journaled<R, F> {
     }
 
     /// How many whole lines were appended and synced.
-    pub fn lines(&self) -> u64 {
+    pub fn lines(&self) -> u64
+        ensures { result ≡ self.now.lines }
+    {
         self.lines
     }
 
@@ -88,6 +91,7 @@ impl<R: Read, F: Durable> Read for Journaled<R, F> {
         ensures grows { 0 < length buf.old → IfOk result (λ n. Appends (F.contents self.old.file) (F.contents self.new.file) (lasting self.old.is_ended (take n buf.new))) }
         ensures stands { 0 < length buf.old → IfOk result (λ n. IsStanding (F.contents self.new.file) (F.synced self.new.file) (take n buf.new)) }
         ensures ended { 0 < length buf.old → IfOk result (λ n. self.new.is_ended ≡ ends_after (take n buf.new)) }
+        ensures lines { 0 < length buf.old → IfOk result (λ n. self.new.lines ≡ min (self.old.lines + line_feeds (lasting self.old.is_ended (take n buf.new))) (2 ^ 64 - 1)) }
         ensures broken { self.old.is_broken ≡ true → IsErr result × (self.new ≡ self.old) }
     {
         if self.is_broken {
@@ -122,13 +126,14 @@ fn make_last<F: Durable>(file: &mut F, block: &[u8], is_ended: &mut bool) -> Res
     ensures grows { OnOk result (Appends (F.contents file.old) (F.contents file.new) (lasting is_ended.old block.now)) }
     ensures stands { OnOk result (IsStanding (F.contents file.new) (F.synced file.new) block.now) }
     ensures ended { OnOk result (is_ended.new ≡ ends_after block.now) }
+    ensures lines { IfOk result (λ n. n ≡ line_feeds (lasting is_ended.old block.now)) }
 {
     if block.is_empty() {
         return end_file(file, is_ended);
     }
     put_synced(file, block)?;
     *is_ended = block.last() == Some(&b'\n');
-    Ok(line_feeds(block))
+    Ok(count_line_feeds(block))
 }
 
 /// Ends the last line of the file.
@@ -137,6 +142,7 @@ fn end_file<F: Durable>(file: &mut F, is_ended: &mut bool) -> Result<u64, Failed
     ensures grows { OnOk result (Appends (F.contents file.old) (F.contents file.new) (lasting is_ended.old [])) }
     ensures stands { OnOk result (IsStanding (F.contents file.new) (F.synced file.new) []) }
     ensures ended { OnOk result (is_ended.new ≡ true) }
+    ensures lines { IfOk result (λ n. n ≡ line_feeds (lasting is_ended.old [])) }
 {
     if *is_ended {
         put_synced(file, b"")?;
@@ -160,11 +166,13 @@ fn put_synced<F: Durable>(file: &mut F, bytes: &[u8]) -> Result<(), Failed>
 }
 
 /// How many lines end in the bytes.
-fn line_feeds(bytes: &[u8]) -> u64 {
+fn count_line_feeds(bytes: &[u8]) -> u64
+    ensures { result ≡ line_feeds bytes.now }
+{
     let mut count = 0u64;
     for byte in bytes {
         if *byte == b'\n' {
-            count = count.saturating_add(1);
+            count += 1;
         }
     }
     count

@@ -9,7 +9,7 @@ use std::io::{BufRead, ErrorKind};
 use written::is_interrupted;
 
 /// What a journal has.
-#[derive(Clone, Copy, Debug, PartialEq, Eq)]
+#[derive(Clone, Copy, Debug)]
 pub struct Extent {
     /// The whole lines.
     pub lines: u64,
