@@ -1,12 +1,12 @@
 -- Two histories of the same steps, whose replies are promises, have the same replies.
-use Rattle.std.proofs.Common.{◌≡◌, ℕ, List, [], ◌∷◌, ◌++◌, map, Bool, true, false, cond, refl, sym, ap, subst, ◌∙◌, append_assoc, All}
+use Rattle.std.proofs.Common.{◌≡◌, ℕ, List, [], ◌∷◌, ◌++◌, map, Bool, true, false, cond, refl, sym, ap, subst, ◌∙◌, All}
 use Rattle.std.specs.Prelude.{Option, None, bytes_eq}
 use Rattle.std.specs.List.{filter}
 use Rattle.std.proofs.lemmas.Slice.Eq.{bytes_eq-Decides}
 use Rattle.std.proofs.lemmas.List.Elements.{filter-append, All-head, All-tail}
 use Rattle.std.proofs.lemmas.List.{map-append, append-nil}
 use Rattle.model.specs.Addresses.{addressed}
-use Rattle.model.specs.Alone.{Course, Event, alone, course_from, step}
+use Rattle.model.specs.Alone.{Event, alone, course_from, step}
 use Rattle.model.specs.Handler.{Meaning}
 use Rattle.model.specs.History.{names, own, pairs, replies_to, IsLegal}
 use Rattle.model.specs.Steps.{Outcome}
@@ -184,8 +184,8 @@ module _ {S : Type 0} (M : Meaning S) where
       let now = replies before before' e e' recorded.0 recorded'.0 same step_here recorded.3 recorded'.3 reply reply' here here' in
       let later = worlds_after before before' e e' recorded.0 recorded'.0 same step_here recorded.3 recorded'.3 reply reply' here here' in
       let others = same_replies (before ++ e ∷ []) (before' ++ e' ∷ []) rest rest' recorded.1 recorded'.1 later
-          (legal-tail before rest e legal) (legal-tail before' rest' e' legal') recorded.4 recorded'.4 steps_after
-          (All-tail IsPromise e.reply (map reply_of rest) p) (All-tail IsPromise e'.reply (map reply_of rest') q) in
+      (legal-tail before rest e legal) (legal-tail before' rest' e' legal') recorded.4 recorded'.4 steps_after
+      (All-tail IsPromise e.reply (map reply_of rest) p) (All-tail IsPromise e'.reply (map reply_of rest') q) in
       λ i. now i ∷ others i
 
   -- two legal histories of the same steps, over stores that were honest, with promises alone

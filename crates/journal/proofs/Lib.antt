@@ -3,3 +3,4 @@ pub mod Measured
 pub mod Outcomes
 pub mod Histories
 pub mod Lines
+pub mod Memory

@@ -1,11 +1,9 @@
 -- Lines that are served twice.
-use Rattle.std.proofs.Common.{◌≡◌, ℕ, ◌+◌, ◌≤◌, List, [], ◌∷◌, ◌++◌, length, map, take, drop, refl, sym, ap, subst, ◌∙◌, append_assoc, All, Option, Some, None, arith}
+use Rattle.std.proofs.Common.{◌≡◌, ℕ, List, [], ◌∷◌, ◌++◌, length, map, take, drop, refl, sym, ap, subst, ◌∙◌, All, Option, Some, None, arith}
 use Rattle.std.proofs.lemmas.List.Elements.{All-nil, All-cons, All-head, All-tail}
 use Rattle.model.specs.Handler.{Meaning}
 use Rattle.model.specs.declared.replies.Entry.{Entry}
 use Rattle.model.specs.declared.replies.Reply.{Reply}
-use Rattle.model.specs.declared.replies.Reply.TheVariants.{Refused, Stopped}
-use Rattle.model.specs.declared.refusals.Refusal.TheVariants.{Memory}
 use Rattle.model.specs.declared.replies.Who.{Who}
 use Rattle.model.specs.declared.steps.Step.{Step}
 use Rattle.book.specs.Entries.{Ledger}
@@ -132,7 +130,7 @@ module _ {S : Type 0} (M : Meaning S) where
       let answered' = (each lines other new' run').0 in
       let steps = steps_are lines one new run ∙ entered-steps lines one other answered answered' ∙ sym (steps_are lines other new' run') in
       let same = same_history M new.history new'.history run.book.recorded.0 run'.book.recorded.0 run.book.legal run'.book.legal
-          run.book.recorded.1 run'.book.recorded.1 steps (all_promises lines one new run) (all_promises lines other new' run') in
+      run.book.recorded.1 run'.book.recorded.1 steps (all_promises lines one new run) (all_promises lines other new' run') in
       entered-replies lines one other answered answered' (sym (replies_are lines one new run) ∙ same ∙ replies_are lines other new' run')
 
   pub goes_on : GoesOn M
@@ -145,8 +143,7 @@ module _ {S : Type 0} (M : Meaning S) where
         promises = promises;
       } in
       let same : seen ++ missed ≡ all = repeats (first ++ second) (seen ++ missed) all new new' run whole in
-      let long : length seen ≡ length first = Serves-length first start mid seen served in
-      (
+      let long : length seen ≡ length first = Serves-length first start mid seen served in (
         sym (ap (λ n. drop n (seen ++ missed)) (sym long) ∙ drop_front seen missed) ∙ ap (drop (length first)) same,
         sym (ap (λ n. take n (seen ++ missed)) (sym long) ∙ take_front seen missed) ∙ ap (take (length first)) same,
       )

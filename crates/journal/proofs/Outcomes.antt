@@ -1,10 +1,10 @@
 -- A step whose reply is a promise comes out the same, whatever else the store says.
-use Rattle.std.proofs.Common.{◌≡◌, ◌+◌, ◌-◌, ◌<◌, ℕ, List, [], ◌∷◌, length, Bool, true, false, cond, not, min, refl, sym, ap, subst, ◌∙◌, Option, Some, None}
+use Rattle.std.proofs.Common.{◌≡◌, ◌-◌, ℕ, List, [], ◌∷◌, length, Bool, true, false, not, min, refl, sym, ap, ◌∙◌, Option, Some, None}
 use Rattle.std.specs.Prelude.{nat_le, nat_lt, slice_get, if◌then◌else◌}
 use Rattle.model.specs.Alone.{Event, step}
 use Rattle.model.specs.Handler.{Meaning}
-use Rattle.model.specs.Records.{IsFlushed, FlushesUnit, volatile_records}
-use Rattle.model.specs.Steps.{Outcome, first_refusal, outcome_or, unless, if_unit, at_unit, at_up, is_down, is_device, is_memory, flush, flush_reply, flushed, with_member, restart, notice, notice_orphan, notice_rows, going_back_tests, refused, path_kept, gone_back, start_of, row_for}
+use Rattle.model.specs.Records.{IsFlushed, FlushesUnit}
+use Rattle.model.specs.Steps.{Outcome, first_refusal, unless, if_unit, at_unit, at_up, is_down, is_device, is_memory, flush, flush_reply, flushed, with_member, restart, notice, notice_rows, path_kept, gone_back, start_of, row_for}
 use Rattle.model.specs.World.{World, Member, incarnation_of}
 use Rattle.model.specs.declared.records.Record.{Record}
 use Rattle.model.specs.declared.refusals.Refusal.{Refusal}

@@ -1,6 +1,6 @@
 -- How many whole lines some bytes have, and where they end.
 use Rattle.std.specs.Prelude.{◌≡◌, ◌≢◌, ◌⊎◌, ℕ, ◌==◌, List, [], ◌∷◌, ◌++◌, length, min, count_by, All, Option, Bool, true, false}
-use Rattle.std.specs.Io.KnownBytes.{Consumes, IsAtEnd, Keeps}
+use Rattle.std.specs.Io.KnownBytes.{Consumes, IsAtEnd}
 use Rattle.journal.specs.declared.measuring.Extent.{Extent}
 
 -- how many lines end in these bytes

@@ -1,6 +1,5 @@
-use Rattle.std.proofs.Common.{◌≡◌, ◌++◌, subst}
+use Rattle.std.proofs.Common.{◌++◌}
 use Rattle.std.proofs.KnownBytes.{Consumes-trans}
-use Rattle.journal.specs.Measuring.{MeasuresBlock}
 use Rattle.journal.proofs.measuring.measure.Goals as goal
 
 pub loop-preserved : goal.loop-preserved

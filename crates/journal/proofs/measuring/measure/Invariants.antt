@@ -1,4 +1,3 @@
-use Rattle.std.proofs.Common.{ℕ, List, Option}
 use Rattle.journal.specs.Measuring.{IsMeasuredOf}
 use Rattle.journal.proofs.measuring.measure.Given as goal
 

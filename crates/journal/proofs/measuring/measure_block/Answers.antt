@@ -1,4 +1,4 @@
-use Rattle.std.proofs.Common.{◌≡◌, ◌++◌, List, ℕ, [], length, take, subst, ap, sym, arith, rules, append-nil, take_all}
+use Rattle.std.proofs.Common.{[], length, subst, sym, arith, append-nil, take_all}
 use Rattle.std.specs.Io.BufRead.{FillKeeps}
 use Rattle.std.specs.Io.KnownBytes.{Consumes}
 use Rattle.std.proofs.BufReadLemmas.{Consumes_shown}

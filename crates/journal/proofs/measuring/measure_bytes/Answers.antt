@@ -1,4 +1,4 @@
-use Rattle.std.proofs.Common.{◌≡◌, ◌<◌, ◌≤◌, ◌+◌, ◌∷◌, ◌++◌, [], List, ℕ, length, take, get_or, sym, ap, subst, ◌∙◌, append_assoc, arith, rules, take_all}
+use Rattle.std.proofs.Common.{◌++◌, take, sym, ap, subst, ◌∙◌, append_assoc, arith, take_all}
 use Rattle.std.proofs.lemmas.List.{take_more}
 use Rattle.journal.specs.Measuring.{IsMeasured}
 use Rattle.journal.proofs.measuring.measure_bytes.Goals as goal
