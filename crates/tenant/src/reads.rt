@@ -63,6 +63,7 @@ impl<H: Handler> Tenant<H> {
     }
 
     /// The rows of the table: where units went back to, in order. Takes no memory.
+    #[tactic(auto, unfolding(crate::specs::Stands::Stands))]
     pub fn rollbacks(&self) -> &[Row]
         ensures { (name : List ℕ) (w : World) (records : List (Option Record)) → Stands H.meaning name self.now w records → result.now ≡ w.table }
     {
