@@ -92,6 +92,6 @@ module _ {S : Type 0} (M : Meaning S) where
   unfolding Lasts
   stays_released tenant history n u texts r =
       let all : own tenant (pairs (take n history)) ++ own tenant (pairs (drop n history)) ≡ own tenant (pairs history)
-          = sym (own-append tenant (take n history) (drop n history)) ∙ ap (λ (h : List Entry). own tenant (pairs h)) (take-append-drop n history) in
+      = sym (own-append tenant (take n history) (drop n history)) ∙ ap (λ (h : List Entry). own tenant (pairs h)) (take-append-drop n history) in
       subst (λ (events : List Event). Lasts (alone M events).world u texts) all
-        (lasts (own tenant (pairs (take n history))) (own tenant (pairs (drop n history))) (world_of M tenant (take n history)) refl u texts r)
+      (lasts (own tenant (pairs (take n history))) (own tenant (pairs (drop n history))) (world_of M tenant (take n history)) refl u texts r)

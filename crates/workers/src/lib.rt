@@ -38,4 +38,3 @@ pub use closed::Closed;
 pub use fault::RunFault;
 pub use gate::Gate;
 pub use run::run_feeds;
-
