@@ -1,6 +1,6 @@
 -- What is released stays so to the end of a history, and begins what the certificate's run puts out.
 use Rattle.std.proofs.Common.{◌≡◌, refl, sym, ap, subst, ◌∙◌, ℕ, zero, suc, List, [], ◌∷◌, ◌++◌, take, drop, map}
-use Rattle.std.specs.Prelude.{Option, Ok, Some, None, option_map, slice_get}
+use Rattle.std.specs.Prelude.{Option, Result, Ok, Some, None, option_map, slice_get}
 use Rattle.std.proofs.lemmas.List.{take-append-drop}
 use Rattle.std.proofs.lemmas.Option.{same_Some}
 use mathlib.Core.List.{IsPrefix}
@@ -17,6 +17,13 @@ use Rattle.theory.proofs.Released.{prefix_trans}
 use Rattle.book.specs.Certificates.{BeginsRun, StaysReleased}
 use Rattle.book.specs.History.{released_at, world_of}
 use Rattle.book.proofs.Replays.{own-append}
+
+-- what a run comes to, where it can be made
+abbrev made_of : (S : Type 0) → Network S → Result (Network S) Flaw
+made_of S x = Ok x
+
+same_Ok : (S : Type 0) (x y : Network S) → made_of S x ≡ made_of S y → x ≡ y
+same_Ok S x y e = cc e
 
 -- a unit's list, found among those of the members
 member_of : (members : List Member) (u : ℕ) (texts : List (List ℕ)) → option_map (λ (m : Member). m.released) (slice_get members u) ≡ Some texts
@@ -64,13 +71,10 @@ module _ {S : Type 0} (M : Meaning S) where
 
   begins_run : (w : World) (u : ℕ) (m : Member) (texts : List (List ℕ)) → CertificateHolds M w → slice_get w.members u ≡ Some m → IsPrefix texts m.released → BeginsRun M w u texts
   begins_run w u m texts holds found p net made =
-      let same : holds.0 ≡ net = same_Ok holds.0 net (sym holds.1 ∙ made) in
+      let same : holds.0 ≡ net = same_Ok S holds.0 net (sym holds.1 ∙ made) in
       let begin = subst (λ (n : Network S). BeginWith n.workers (map (λ (x : Member). x.released) w.members)) same holds.3 in
       let a = begins_at net.workers (map (λ (x : Member). x.released) w.members) u m.released begin (released_of w.members u m found) in
       (a.0, a.1, prefix_trans texts m.released a.0.outputs p a.2)
-    where
-      same_Ok : (x y : Network S) → Ok {E = Flaw} x ≡ Ok y → x ≡ y
-      same_Ok x y e = cc e
 
   lasts : (before after : List Event) (o : Option World) → (alone M before).world ≡ o → (u : ℕ) (texts : List (List ℕ)) → released_at o u ≡ Some texts
       → Lasts (alone M (before ++ after)).world u texts
