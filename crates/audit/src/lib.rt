@@ -37,4 +37,5 @@ mod network;
 mod outputs;
 mod verdict;
 
+pub use model::Flaw;
 pub use verdict::{Verdict, check};

@@ -6,7 +6,7 @@ use Rattle.std.specs.Prelude.{IfSome}
 use Rattle.std.specs.Io.KnownBytes.{Consumes, Keeps, IsAtEnd}
 use Rattle.ident.specs.declared.limits.TheConstants.{MAX_LINE_BYTES}
 use Rattle.lines.specs.Lines.{onto_first, lines_of, IsPart, Holds, LinesRead}
-use Rattle.lines.specs.Parts.{Hears}
+use Rattle.lines.specs.Parts.{TakesPart, Hears}
 use Rattle.lines.specs.declared.input.Heard.TheVariants.{Line, Long, End}
 
 pub at_end : (a : Option (List ℕ)) (shown : List ℕ) → length shown ≡ 0 → IfSome a (λ xs. length shown ≡ 0 → xs ≡ []) → IsAtEnd a
@@ -57,13 +57,35 @@ IsAtEnd-unread None b h e = tt
 IsAtEnd-unread (Some x) None h e = absurd h
 IsAtEnd-unread (Some x) (Some y) h e = h ∙ e
 
+-- what was kept since nothing was read
+Keeps-unread : (a b c : Option (List ℕ)) → Consumes a b [] → Keeps b c → Keeps a c
+Keeps-unread None b c h k = tt
+Keeps-unread (Some x) None c h k = absurd h
+Keeps-unread (Some x) (Some y) None h k = absurd k
+Keeps-unread (Some x) (Some y) (Some z) h k = k ∙ sym h
+
+-- nothing is a part of a line
+pub TakesPart-none : (a b : Option (List ℕ)) → Keeps a b → TakesPart a b
+TakesPart-none None b k = ([], IsPart-nil, tt)
+TakesPart-none (Some x) None k = absurd k
+TakesPart-none (Some x) (Some y) k = ([], IsPart-nil, sym k)
+
+-- a part, and then nothing
+pub TakesPart-kept : (a b c : Option (List ℕ)) → TakesPart a b → Keeps b c → TakesPart a c
+TakesPart-kept None b c p k = (p.0, p.1, tt)
+TakesPart-kept (Some x) None c p k = absurd p.2
+TakesPart-kept (Some x) (Some y) None p k = absurd k
+TakesPart-kept (Some x) (Some y) (Some z) p k = (p.0, p.1, p.2 ∙ ap (λ l. p.0 ++ l) (sym k))
+
 pub heard_line : (is_long : Bool) (held text : List ℕ) (a c : Option (List ℕ)) → Holds held is_long text → LinesRead a c (text ∷ []) → Hears (cond is_long Long Line) held a c
 heard_line true held text a c h read = (text, h, read)
 heard_line false held text a c h read =
     (subst (λ t. length t ≤ MAX_LINE_BYTES) (sym h.0) h.1, subst (λ t. LinesRead a c (t ∷ [])) (sym h.0) read)
 
 heard_none : (none : Bool) (held : List ℕ) (a b c : Option (List ℕ)) → eqb (length held) 0 ≡ none → length held ≤ MAX_LINE_BYTES → IsPart held → Consumes a b held → IsAtEnd b → Keeps b c → Hears (cond none End Line) held a c
-heard_none true held a b c is fits part taken ended kept = IsAtEnd-unread a b (subst (Consumes a b) (nil_from_length held (eqb-true _ _ is)) taken) ended
+heard_none true held a b c is fits part taken ended kept =
+    let unread = subst (Consumes a b) (nil_from_length held (eqb-true _ _ is)) taken in
+    (IsAtEnd-unread a b unread ended, Keeps-unread a b c unread kept)
 heard_none false held a b c is fits part taken ended kept = (fits, LinesRead-last a b c held part (some held is) taken ended kept)
   where
     some : (xs : List ℕ) → eqb (length xs) 0 ≡ false → 0 < length xs
@@ -93,8 +115,3 @@ pub LinesRead-all : (a b : Option (List ℕ)) (ls : List (List ℕ)) → LinesRe
 LinesRead-all None b ls p e = tt
 LinesRead-all (Some x) None ls p e = absurd p
 LinesRead-all (Some x) (Some y) ls p e = p ∙ ap (λ r. ls ++ lines_of r) e ∙ append-nil ls
-
-pub LinesRead-some : (a b : Option (List ℕ)) (ls : List (List ℕ)) → LinesRead a b ls → IfSome a (λ all. (more : List (List ℕ)) × (lines_of all ≡ ls ++ more))
-LinesRead-some None b ls p = tt
-LinesRead-some (Some x) None ls p = absurd p
-LinesRead-some (Some x) (Some y) ls p = (lines_of y, p)

@@ -6,7 +6,7 @@ use Rattle.std.proofs.lemmas.Bool.{lt-leb}
 use Rattle.std.proofs.lemmas.Grind.{flat_map-append}
 use Rattle.std.proofs.lemmas.List.Concat.{flat_map-cons}
 use Rattle.std.specs.Io.KnownBytes.{Appends, Keeps}
-use Rattle.std.proofs.KnownBytes.{Appends-trans, Appends-kept}
+use Rattle.std.proofs.KnownBytes.{Appends-trans, Appends-kept, Keeps-refl}
 use Rattle.ident.specs.declared.limits.TheConstants.{MAX_LINE_BYTES}
 use Rattle.model.specs.declared.refusals.Refusal.TheVariants.{BadLine}
 use Rattle.model.specs.declared.replies.Entry.{Entry}
@@ -20,7 +20,7 @@ use Rattle.forms.specs.Reading.{step_of_line}
 use Rattle.lines.specs.Lines.{LinesRead}
 use Rattle.written.specs.Beginnings.{AppendsBeginning}
 use Rattle.lines.specs.Serving.{line_step, Answered, AnsweredLine, Serves, IsRemembered, told, entered_before, IsBadOr, EntersEach, reply_line, ServedSome, TookLine, Broken}
-use Rattle.lines.proofs.Parts.{LinesRead-more, LinesRead-some}
+use Rattle.lines.proofs.Parts.{LinesRead-more, TakesPart-none}
 
 -- a line that is too long is no step
 pub line_step-long : (line : List ℕ) → MAX_LINE_BYTES < length line → line_step line ≡ None
@@ -72,18 +72,22 @@ module _ (input mid input' out omid out' : Option (List ℕ)) (old bmid new : Le
   )
 
   -- it ended early
-  pub stops : Broken mid input' omid out' bmid new → ServedSome input out out' old new
-  stops (inl (same, kept)) = (
+  pub stops : Broken mid input' omid out' bmid new → ServedSome input input' out out' old new
+  stops (inl (part, same, kept)) = (
     lines,
     replies,
-    LinesRead-some _ _ lines read,
+    mid,
+    read,
+    part,
     subst (Serves lines old replies) (sym same) run,
     (flat_map reply_line replies, Appends-kept _ _ _ _ written kept, ([], sym (append-nil _))),
   )
   stops (inr (line, reply, one, answered, begun)) = (
     lines ++ line ∷ [],
     replies ++ reply ∷ [],
-    LinesRead-some _ _ _ (LinesRead-more _ _ _ lines line read one),
+    input',
+    LinesRead-more _ _ _ lines line read one,
+    TakesPart-none _ _ (Keeps-refl _),
     Serves-more lines old bmid new replies line reply run answered,
     (
       flat_map reply_line replies ++ begun.0,

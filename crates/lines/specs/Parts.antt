@@ -12,6 +12,10 @@ use Rattle.lines.specs.declared.part.Part.TheVariants.{More, Ended, AtEnd}
 abbrev pub GoesOn : List ℕ → Bool → List ℕ → Bool → List ℕ → Type 0
 GoesOn held is_long held' is_long' bytes = (text : List ℕ) → Holds held is_long text → Holds held' is_long' (text ++ bytes)
 
+-- a part of a line was taken, and no more of the input
+abbrev pub TakesPart : Option (List ℕ) → Option (List ℕ) → Type 0
+TakesPart old new = (bytes : List ℕ) × IsPart bytes × Consumes old new bytes
+
 -- what one look at a reader took from it, and what is then held of the line
 abbrev pub Takes : Part → Option (List ℕ) → Option (List ℕ) → List ℕ → Bool → List ℕ → Bool → Type 0
 Takes More old new held is_long held' is_long' = (bytes : List ℕ) × IsPart bytes × Consumes old new bytes × GoesOn held is_long held' is_long' bytes
@@ -22,4 +26,4 @@ Takes AtEnd old new held is_long held' is_long' = IsAtEnd old × Keeps old new �
 abbrev pub Hears : Heard → List ℕ → Option (List ℕ) → Option (List ℕ) → Type 0
 Hears Line held old new = (length held ≤ MAX_LINE_BYTES) × LinesRead old new (held ∷ [])
 Hears Long held old new = (text : List ℕ) × (MAX_LINE_BYTES < length text) × LinesRead old new (text ∷ [])
-Hears End held old new = IsAtEnd old
+Hears End held old new = IsAtEnd old × Keeps old new

@@ -15,6 +15,7 @@ use Rattle.forms.specs.declared.fault.LineFault.TheVariants.{Bad, NoMemory}
 use Rattle.forms.specs.Reading.{step_of_line}
 use Rattle.forms.specs.Writing.{reply_text}
 use Rattle.lines.specs.Lines.{lines_of, LinesRead}
+use Rattle.lines.specs.Parts.{TakesPart}
 use Rattle.written.specs.Beginnings.{AppendsBeginning}
 
 -- ---- one line
@@ -59,10 +60,10 @@ ServedAll input old_out new_out old new count =
     (lines : List (List ℕ)) × (replies : List Reply) × IfSome input (λ all. lines_of all ≡ lines) × Serves lines old replies new
     × Appends old_out new_out (flat_map reply_line replies) × (length lines ≡ count)
 
--- Serving ended early: the lines read so far are answered, and what is written is a beginning of their replies.
-abbrev pub ServedSome : Option (List ℕ) → Option (List ℕ) → Option (List ℕ) → Ledger → Ledger → Type 0
-ServedSome input old_out new_out old new =
-    (lines : List (List ℕ)) × (replies : List Reply) × IfSome input (λ all. (more : List (List ℕ)) × (lines_of all ≡ lines ++ more)) × Serves lines old replies new
+-- Serving ended early: the lines read so far are answered, what was taken of the input behind them is a part of one line, and what is written is a beginning of their replies.
+abbrev pub ServedSome : Option (List ℕ) → Option (List ℕ) → Option (List ℕ) → Option (List ℕ) → Ledger → Ledger → Type 0
+ServedSome input input' old_out new_out old new =
+    (lines : List (List ℕ)) × (replies : List Reply) × (rest : Option (List ℕ)) × LinesRead input rest lines × TakesPart rest input' × Serves lines old replies new
     × AppendsBeginning old_out new_out (flat_map reply_line replies)
 
 -- ---- where no reply is for want of memory
@@ -118,8 +119,8 @@ abbrev pub Took : Bool → Option (List ℕ) → Option (List ℕ) → Option (L
 Took true input input' out out' old new = TookLine input input' out out' old new
 Took false input input' out out' old new = TookNone input out out' old new
 
--- No line was read, or one that was answered and whose reply may not all be written.
+-- No line was read, but at most a part of one, or one that was answered and whose reply may not all be written.
 abbrev pub Broken : Option (List ℕ) → Option (List ℕ) → Option (List ℕ) → Option (List ℕ) → Ledger → Ledger → Type 0
 Broken input input' out out' old new =
-    ((new ≡ old) × Keeps out out')
+    (TakesPart input input' × (new ≡ old) × Keeps out out')
     ⊎ ((line : List ℕ) × (reply : Reply) × LinesRead input input' (line ∷ []) × AnsweredLine line old reply new × AppendsBeginning out out' (reply_line reply))

@@ -79,6 +79,7 @@ impl<R: BufRead> Counted<R> {
         ensures takes { IfOk result (λ part. Takes part
             (R.remaining self.old.inner) (R.remaining self.new.inner)
             held.old.items is_long.old held.new.items is_long.new) }
+        ensures kept { OnErr result (Keeps (R.remaining self.old.inner) (R.remaining self.new.inner)) }
         ensures risen { OnErr result (HasRisen self.old.failed self.new.failed) }
         ensures same { OnOk result (self.new.failed ≡ self.old.failed) }
         ensures fewer { OnOk result (self.new.left < self.old.left) }

@@ -1,9 +1,9 @@
 //! The next line of an input.
 
-ghost use Rattle.std.specs.Prelude.{◌≡◌, ◌≢◌, ◌<◌, ◌≤◌, ◌==◌, IfOk, IfErr, OnOk, if◌then◌else◌, length, vec_capacity};
+ghost use Rattle.std.specs.Prelude.{◌≡◌, ◌≢◌, ◌<◌, ◌≤◌, ◌==◌, IfOk, IfErr, OnOk, OnErr, if◌then◌else◌, length, vec_capacity};
 ghost use Rattle.std.specs.Io.KnownBytes.{Keeps};
 ghost use Rattle.model.specs.Failures.{HasRisen};
-ghost use Rattle.lines.specs.Parts.{Takes, Hears};
+ghost use Rattle.lines.specs.Parts.{Takes, TakesPart, Hears};
 
 use crate::counted::Counted;
 use crate::fault::ServeFault;
@@ -34,6 +34,7 @@ pub(crate) fn read_line<R: BufRead, W: Write>(
     ensures room { MAX_LINE_BYTES ≤ vec_capacity held.new }
     ensures heard { IfOk result (λ heard. Hears heard held.new.items
         (R.remaining reader.old.inner) (R.remaining reader.new.inner)) }
+    ensures part { OnErr result (TakesPart (R.remaining reader.old.inner) (R.remaining reader.new.inner)) }
     ensures keeps { Keeps (W.contents writer.old.inner) (W.contents writer.new.inner) }
     ensures read { result ≡ Err ServeFault.Read → HasRisen reader.old.failed reader.new.failed }
     ensures write { result ≡ Err ServeFault.Write → HasRisen writer.old.failed writer.new.failed }
@@ -100,6 +101,7 @@ pub(crate) fn fill<R: BufRead>(
     ensures takes { IfOk result (λ part. Takes part
         (R.remaining reader.old.inner) (R.remaining reader.new.inner)
         held.old.items is_long.old held.new.items is_long.new) }
+    ensures kept { OnErr result (Keeps (R.remaining reader.old.inner) (R.remaining reader.new.inner)) }
     ensures err { IfErr result (λ e. (e ≡ ServeFault.Read) × HasRisen reader.old.failed reader.new.failed) }
     ensures same { OnOk result (reader.new.failed ≡ reader.old.failed) }
     ensures fewer { OnOk result (reader.new.left < reader.old.left) }

@@ -1,6 +1,7 @@
 //! A line, a part at a time.
 
-ghost use Rattle.std.specs.Prelude.{◌≡◌, ◌<◌, ◌≤◌, ◌++◌, List, ℕ, IfOk, length, take, slice_index, vec_capacity};
+ghost use Rattle.std.specs.Prelude.{◌≡◌, ◌<◌, ◌≤◌, ◌++◌, List, ℕ, IfOk, OnErr, length, take, slice_index, vec_capacity};
+ghost use Rattle.std.specs.Io.KnownBytes.{Keeps};
 ghost use Rattle.lines.specs.Lines.{IsPart, Holds};
 ghost use Rattle.lines.specs.Parts.{Takes};
 
@@ -31,6 +32,7 @@ pub(crate) fn read_part<R: BufRead>(
     ensures room { MAX_LINE_BYTES ≤ vec_capacity held.new }
     ensures takes { IfOk result (λ part. Takes part (R.remaining reader.old) (R.remaining reader.new)
         held.old.items is_long.old held.new.items is_long.new) }
+    ensures kept { OnErr result (Keeps (R.remaining reader.old) (R.remaining reader.new)) }
 {
     let available = match reader.fill_buf() {
         Ok(available) => available,

@@ -42,7 +42,8 @@ pub fn serve<R: BufRead, W: Write, H: Handler, S: Store>(
 ) -> Result<u64, ServeFault>
     ensures all { IfOk result (λ count. ServedAll (R.remaining reader.old.inner)
         (W.contents writer.old.inner) (W.contents writer.new.inner) book.old book.new count) }
-    ensures some { OnErr result (ServedSome (R.remaining reader.old.inner)
+    ensures some { OnErr result (ServedSome
+        (R.remaining reader.old.inner) (R.remaining reader.new.inner)
         (W.contents writer.old.inner) (W.contents writer.new.inner) book.old book.new) }
     ensures read { result ≡ Err ServeFault.Read → HasRisen reader.old.failed reader.new.failed }
     ensures write { result ≡ Err ServeFault.Write → HasRisen writer.old.failed writer.new.failed }

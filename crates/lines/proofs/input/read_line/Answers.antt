@@ -1,8 +1,9 @@
 use Rattle.std.proofs.Common.{◌++◌, ◌∷◌, [], sym, subst, append_assoc, arith}
 use Rattle.std.specs.Io.KnownBytes.{Consumes}
+use Rattle.std.proofs.lemmas.Result.{err_from_is_err_and}
 use Rattle.std.proofs.KnownBytes.{Consumes-trans, Keeps-trans}
 use Rattle.lines.specs.Lines.{Holds}
-use Rattle.lines.proofs.Parts.{IsPart-append, LinesRead-ended, heard_line, heard_last}
+use Rattle.lines.proofs.Parts.{IsPart-append, LinesRead-ended, TakesPart-kept, heard_line, heard_last}
 use Rattle.lines.proofs.input.read_line.Goals as goal
 
 pub returns-in-Ended-clause-heard : goal.returns-in-Ended-clause-heard
@@ -19,6 +20,18 @@ returns-in-AtEnd-clause-heard g c =
     let now = rw c.in-AtEnd.is at c.in_ok-fill.ensures.takes in
     let held : Holds c.fill.new.held.items c.fill.new.is_long before.0 = rw (now.2, now.3) before.3 in
     rw (c.heard_at_end.ensures, c.as_slice.ensures.value) (heard_last _ _ _ _ _ _ held before.1 before.2 now.0 now.1)
+
+pub returns-in_err-flush_unless-clause-part : goal.returns-in_err-flush_unless-clause-part
+returns-in_err-flush_unless-clause-part g c =
+    let before = c.loop-ahead.invariant.so_far in
+    let p = err_from_is_err_and c.from_residual.result c.from_residual.ensures.1 in
+    rw p.1 (before.0, before.1, before.2)
+
+pub returns-in_err-fill-clause-part : goal.returns-in_err-fill-clause-part
+returns-in_err-fill-clause-part g c =
+    let before = c.loop-ahead.invariant.so_far in
+    let p = err_from_is_err_and c.from_residual-in_err-fill.result c.from_residual-in_err-fill.ensures.1 in
+    rw p.1 (TakesPart-kept _ _ _ (before.0, before.1, before.2) c.in_err-fill.ensures.kept)
 
 pub loop-ahead-preserved : goal.loop-ahead-preserved
 loop-ahead-preserved g c =

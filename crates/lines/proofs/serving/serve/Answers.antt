@@ -1,7 +1,13 @@
-use Rattle.std.proofs.Common.{◌∙◌, arith}
+use Rattle.std.proofs.Common.{◌∙◌, [], refl, arith}
 use Rattle.std.proofs.lemmas.Result.{err_from_is_err_and}
+use Rattle.std.proofs.KnownBytes.{Appends-nil, Keeps-refl}
+use Rattle.lines.proofs.Parts.{LinesRead-nil, TakesPart-none}
 use Rattle.lines.proofs.Runs.{goes_on, stops}
 use Rattle.lines.proofs.serving.serve.Goals as goal
+
+pub returns-in_default-clause-some : goal.returns-in_default-clause-some
+returns-in_default-clause-some g c =
+    ([], [], g.R.Read.remaining c.args.reader.now.inner, LinesRead-nil _, TakesPart-none _ _ (Keeps-refl _), (refl, refl), ([], Appends-nil _, ([], refl)))
 
 pub returns-in_err-serve_line-clause-some : goal.returns-in_err-serve_line-clause-some
 returns-in_err-serve_line-clause-some g c =
