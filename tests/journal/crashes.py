@@ -57,8 +57,8 @@ def feed(process, given, chance, is_last):
 
 
 def run_once(program, journal, lines, seen, chance, is_last):
-    """One run, which is killed at a random moment, or comes to its end where it is the last: what it wrote, whether it was
-    killed, and what was wrong."""
+    """One run, which is killed at a random moment, or comes to its end where it is the last: what was seen of what it wrote
+    (each second time its reader is lost with it, and with that a random part), whether it was killed, and what was wrong."""
     durable = whole_lines(journal)
     wanted = len(lines) if is_last else min(seen + chance.randrange(MOST_REPLIES), len(lines))
     words = [program, "run", "--journal", journal, "--from", str(seen)]
@@ -81,6 +81,8 @@ def run_once(program, journal, lines, seen, chance, is_last):
             end.close()
         except OSError:
             pass
+    if not is_last and chance.random() < 0.5:
+        written = written[: chance.randrange(len(written) + 1)]
     wrong = f"it was silent for {SILENCE} seconds" if is_silent else wrong_in(said, status, durable, is_last)
     return written, status != 0, wrong
 
