@@ -19,6 +19,7 @@
 //!   from its own entries alone, whatever the other tenants do.
 //! - `Book::certificate` and `Book::seats` show what was released: a run without failures, for an
 //!   auditor. `headline` says what follows of isolation and certificate together.
+//! - `Step`, `Reply`, `Who`, `Entry` with `Said` and `End`, and `Move` are those of `model`.
 //!
 //! The words of the contracts are in `specs/`: `Entries` says how a step is entered, and `History`
 //! what a history makes of tenants and log. The work of one step is `answer::answer`, and the lemma
@@ -45,3 +46,4 @@ mod committed;
 
 pub use book::{Book, headline, isolated};
 pub use committed::Committed;
+pub use model::{End, Entry, Move, Reply, Said, Step, Who};

@@ -26,6 +26,7 @@
 //!   out.
 //! - `reads`, `certifies`: what whoever stands above reads off a tenant.
 //! - `laws`: what holds over time of the worlds that a tenant stands for.
+//! - `TenantStep` and `Reply` are those of `model`.
 //!
 //! Contracts see the tenant as `Kept` of `specs/Kept`. `specs/Represents` says which world that is over a whole log, and
 //! what a step does whatever the log; `specs/Stands` says it over a log that may have forgotten records.
@@ -77,4 +78,5 @@ mod tenant;
 mod waiting;
 
 pub use answer::Answer;
+pub use model::{Reply, TenantStep};
 pub use tenant::Tenant;
