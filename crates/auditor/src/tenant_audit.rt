@@ -55,10 +55,10 @@ pub fn audit_tenant<H: Handler, S: Store>(
 ) -> Result<Verdict, Flaw>
     ensures { IsClear (world_of H.meaning tenant.now book.now.history) result }
 {
-    let Ok(seats) = book.seats(alloc, tenant) else {
+    let Ok(seats) = book.seats(tenant) else {
         return Err(Flaw::NoMemory);
     };
-    let Ok(moves) = book.certificate(alloc, tenant) else {
+    let Ok(moves) = book.certificate(tenant) else {
         return Err(Flaw::NoMemory);
     };
     let Ok(released) = all_released(alloc, book, tenant) else {

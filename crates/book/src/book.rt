@@ -168,19 +168,19 @@ impl<H: Handler, S: Store> Book<H, S> {
 
     /// The names of the open tenants, in the order of opening. `NoMemory` comes where there is none
     /// for the copies.
-    pub fn tenants(&self, alloc: Global) -> Result<Vec<TenantName>, NoMemory>
+    pub fn tenants(&self) -> Result<Vec<TenantName>, NoMemory>
         ensures { IfOk result (λ names. names.items ≡ opened self.now.history) }
     {
-        names_of(alloc, self.tenants.keys().as_slice())
+        names_of(self.alloc, self.tenants.keys().as_slice())
     }
 
     /// The replies to a tenant so far, in order: none where no step named it. They are those that
     /// the tenant gets alone. `NoMemory` comes where there is none for the copies.
-    pub fn replies_of(&self, alloc: Global, tenant: &TenantName) -> Result<Vec<Reply>, NoMemory>
+    pub fn replies_of(&self, tenant: &TenantName) -> Result<Vec<Reply>, NoMemory>
         ensures replies { IfOk result (λ replies. replies.items ≡ replies_to tenant.now self.now.history) }
         ensures alone { IfOk result (λ replies. replies.items ≡ (alone H.meaning (own tenant.now (pairs self.now.history))).replies) }
     {
-        replies_in(alloc, self.history(), tenant)
+        replies_in(self.alloc, self.history(), tenant)
     }
 
     /// The outputs that a unit of the tenant has released so far, if the tenant is open and has the
@@ -208,22 +208,27 @@ impl<H: Handler, S: Store> Book<H, S> {
 
 impl<H: Handler, S: Store> Book<H, S> {
     /// The seats that the tenant was opened with, unit 0 first; none for a tenant that is not open.
-    pub fn seats(&self, alloc: Global, tenant: &TenantName) -> Result<Vec<Seat>, NoMemory>
+    pub fn seats(&self, tenant: &TenantName) -> Result<Vec<Seat>, NoMemory>
         ensures { IfOk result (λ seats. seats.items ≡ seats_at (world_of H.meaning tenant.now self.now.history)) }
     {
         match self.tenants.get(tenant) {
-            Some(open) => open.opening_seats(alloc),
-            None => Ok(Vec::new(alloc)),
+            Some(open) => open.opening_seats(self.alloc),
+            None => Ok(Vec::new(self.alloc)),
         }
     }
 
     /// The moves of the certificate of the tenant's world.
-    fn certificate_moves(&self, alloc: Global, tenant: &TenantName) -> Result<Vec<Move>, NoMemory>
+    fn certificate_moves(&self, tenant: &TenantName) -> Result<Vec<Move>, NoMemory>
         ensures { IfOk result (λ moves. moves.items ≡ certificate_at (world_of H.meaning tenant.now self.now.history)) }
     {
         match self.tenants.get(tenant) {
-            Some(open) => open.certificate(alloc, &self.handler, self.history.as_slice(), tenant),
-            None => Ok(Vec::new(alloc)),
+            Some(open) => open.certificate(
+                self.alloc,
+                &self.handler,
+                self.history.as_slice(),
+                tenant,
+            ),
+            None => Ok(Vec::new(self.alloc)),
         }
     }
 
@@ -231,10 +236,10 @@ impl<H: Handler, S: Store> Book<H, S> {
     /// of creation. They are a run without failures of the seats that it was opened with, over a
     /// beginning of each unit's logged receipts, and each unit's outputs in that run begin with what
     /// the unit released. There are no moves for a tenant that is not open.
-    pub fn certificate(&self, alloc: Global, tenant: &TenantName) -> Result<Vec<Move>, NoMemory>
+    pub fn certificate(&self, tenant: &TenantName) -> Result<Vec<Move>, NoMemory>
         ensures { IfOk result (λ moves. CertifiesAt H.meaning (world_of H.meaning tenant.now self.now.history) moves.items) }
     {
-        self.certificate_moves(alloc, tenant)
+        self.certificate_moves(tenant)
     }
 }
 

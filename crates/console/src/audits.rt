@@ -39,7 +39,7 @@ pub(crate) fn audit_all<L: Log, W: Write, S: Store>(
 /// The names of the open tenants, sorted by their bytes.
 fn sorted_names<S: Store>(alloc: Global, book: &Book<Sample, S>) -> Result<Vec<String>, NoMemory> {
     let mut names = Vec::new(alloc);
-    for name in book.tenants(alloc)? {
+    for name in book.tenants()? {
         names.push(String::from_str(alloc, name.as_str())?)?;
     }
     names.sort_unstable();

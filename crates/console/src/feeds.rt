@@ -159,7 +159,7 @@ fn write_feeds<W: Write>(
 ) -> Result<(), ServeFault> {
     let mut feed = 0u32;
     for lines in faults {
-        let Ok(replies) = closed.replies(alloc, feed) else {
+        let Ok(replies) = closed.replies(feed) else {
             return Err(ServeFault::NoMemory);
         };
         write_feed(alloc, writer, lines.as_slice(), replies.as_slice())?;

@@ -32,11 +32,10 @@ pub(crate) fn run<
 
 /// The replies to a feed.
 pub(crate) fn replies<H: Handler, S: Store>(
-    alloc: Global,
     closed: &Closed<H, S>,
     feed: u32,
 ) -> anyhow::Result<Vec<Reply>> {
-    Ok(closed.replies(alloc, feed)?)
+    Ok(closed.replies(feed)?)
 }
 
 /// The history of the closed book.

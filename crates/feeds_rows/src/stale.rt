@@ -78,7 +78,7 @@ fn asked_when_overtaken<R: Threads + Wait + Sync>(
     };
     let store = MemoryStore::new(alloc);
     let closed = run(rt, alloc, Sample, store, steps(alloc, times)?, &gate)?;
-    let told = replies(alloc, &closed, 1)?;
+    let told = replies(&closed, 1)?;
     if ends_accepted_at(told.as_slice(), times.saturating_add(1)) {
         Ok(Some(asked.load(Ordering::SeqCst)))
     } else {

@@ -52,9 +52,9 @@ pub(crate) fn are_entered_whole<R: Threads + Wait + Sync>(
     let store = MemoryStore::new(alloc);
     let steps = feeds(alloc, POSTS, ["x", "y"])?;
     let closed = run(rt, alloc, Sample, store, steps, &Idle)?;
-    let first = replies(alloc, &closed, 0)?;
-    let second = replies(alloc, &closed, 1)?;
-    let third = replies(alloc, &closed, 2)?;
+    let first = replies(&closed, 0)?;
+    let second = replies(&closed, 1)?;
+    let third = replies(&closed, 2)?;
     let are_accepted = are_all_accepted(first.as_slice()) && are_all_accepted(second.as_slice());
     Ok(are_accepted && third.is_empty() && count_by_feeds(history(&closed)) == 200)
 }

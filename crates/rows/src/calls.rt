@@ -38,16 +38,12 @@ pub(crate) fn history(book: &Books) -> &[Entry] {
     book.history()
 }
 
-pub(crate) fn tenants(alloc: Global, book: &Books) -> anyhow::Result<Vec<TenantName>> {
-    Ok(book.tenants(alloc)?)
+pub(crate) fn tenants(book: &Books) -> anyhow::Result<Vec<TenantName>> {
+    Ok(book.tenants()?)
 }
 
-pub(crate) fn replies_of(
-    alloc: Global,
-    book: &Books,
-    name: &TenantName,
-) -> anyhow::Result<Vec<Reply>> {
-    Ok(book.replies_of(alloc, name)?)
+pub(crate) fn replies_of(book: &Books, name: &TenantName) -> anyhow::Result<Vec<Reply>> {
+    Ok(book.replies_of(name)?)
 }
 
 pub(crate) fn released<'a>(book: &'a Books, name: &TenantName, number: u8) -> Option<&'a [Text]> {
@@ -58,16 +54,12 @@ pub(crate) fn rollbacks<'a>(book: &'a Books, name: &TenantName) -> Option<&'a [R
     book.rollbacks(name)
 }
 
-pub(crate) fn seats(alloc: Global, book: &Books, name: &TenantName) -> anyhow::Result<Vec<Seat>> {
-    Ok(book.seats(alloc, name)?)
+pub(crate) fn seats(book: &Books, name: &TenantName) -> anyhow::Result<Vec<Seat>> {
+    Ok(book.seats(name)?)
 }
 
-pub(crate) fn certificate(
-    alloc: Global,
-    book: &Books,
-    name: &TenantName,
-) -> anyhow::Result<Vec<Move>> {
-    Ok(book.certificate(alloc, name)?)
+pub(crate) fn certificate(book: &Books, name: &TenantName) -> anyhow::Result<Vec<Move>> {
+    Ok(book.certificate(name)?)
 }
 
 /// The outcome of the audit of a book's tenant.

@@ -36,8 +36,8 @@ fn add_lists(
     name: &TenantName,
     text: &mut String,
 ) -> anyhow::Result<()> {
-    let seats = calls::seats(alloc, book, name)?;
-    let moves = calls::certificate(alloc, book, name)?;
+    let seats = calls::seats(book, name)?;
+    let moves = calls::certificate(book, name)?;
     let released = released(alloc, book, name)?;
     text.push_str(format!(in alloc; "{} seats\n", seats.len())?.as_str())?;
     for moved in moves.iter() {

@@ -17,7 +17,7 @@ const MOST_UNITS: u8 = 16;
 pub(crate) fn told(alloc: Global, lines: &str) -> anyhow::Result<String> {
     let mut text = String::new(alloc);
     let book = book_after(alloc, lines)?;
-    for name in calls::tenants(alloc, &book)?.iter() {
+    for name in calls::tenants(&book)?.iter() {
         add_tenant(alloc, &book, name, &mut text)?;
     }
     add_tenant(alloc, &book, &name_of(alloc, "nobody")?, &mut text)?;
@@ -65,7 +65,7 @@ fn add_tenant(
     text: &mut String,
 ) -> anyhow::Result<()> {
     text.push_str(format!(in alloc; "{}:\n", name.as_str())?.as_str())?;
-    for reply in calls::replies_of(alloc, book, name)?.iter() {
+    for reply in calls::replies_of(book, name)?.iter() {
         push_reply(alloc, text, reply)?;
     }
     add_released(book, name, text)?;

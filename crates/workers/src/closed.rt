@@ -14,6 +14,7 @@ use std::marker::Model;
 /// The book of a run that is over. Contracts see it as the book's history and log.
 #[derive(Drop)]
 pub struct Closed<H: Handler, S: Store> {
+    alloc: Global,
     book: Book<H, S>,
 }
 
@@ -26,10 +27,10 @@ impl<H: Handler, S: Store> Model for Closed<H, S> {
 }
 
 impl<H: Handler, S: Store> Closed<H, S> {
-    pub(crate) fn new(book: Book<H, S>) -> Closed<H, S>
+    pub(crate) fn new(alloc: Global, book: Book<H, S>) -> Closed<H, S>
         ensures { result ≡ book }
     {
-        Closed { book }
+        Closed { alloc, book }
     }
 
     /// The book. What its calls say of a book holds of it.
@@ -41,10 +42,10 @@ impl<H: Handler, S: Store> Closed<H, S> {
 
     /// The replies to the steps of a feed (from 0), in its order; none for a feed that was not
     /// there. `NoMemory` comes where there is none for the copies.
-    pub fn replies(&self, alloc: Global, feed: u32) -> Result<Vec<Reply>, NoMemory>
+    pub fn replies(&self, feed: u32) -> Result<Vec<Reply>, NoMemory>
         ensures { IfOk result (λ replies. replies.items ≡ replies_by feed self.now.history) }
     {
-        replies_in(alloc, self.book.history(), feed)
+        replies_in(self.alloc, self.book.history(), feed)
     }
 }
 

@@ -133,6 +133,7 @@ fn do_all<
 /// Closes a book whose history is that of the feeds, and has the replies that their threads kept as
 /// receipts.
 fn gather<H: Handler, S: Store>(
+    alloc: Global,
     book: Book<H, S>,
     feeds: &[Vec<Step>],
     receipts: &[Vec<Reply>],
@@ -146,7 +147,7 @@ fn gather<H: Handler, S: Store>(
 {
     let history = book.history();
     if is_matched(history, feeds) && has_all_receipts(history, feeds.len(), receipts) {
-        Ok(Closed::new(book))
+        Ok(Closed::new(alloc, book))
     } else {
         Err(RunFault::Unmatched)
     }
@@ -186,5 +187,10 @@ pub fn run_feeds<
 {
     let shared = Mutex::new(Book::new(alloc, handler, store));
     let receipts = do_all(rt, alloc, handler, &shared, feeds.as_slice(), gate)?;
-    gather(shared.into_inner(), feeds.as_slice(), receipts.as_slice())
+    gather(
+        alloc,
+        shared.into_inner(),
+        feeds.as_slice(),
+        receipts.as_slice(),
+    )
 }
