@@ -12,3 +12,4 @@ pub mod History
 pub mod Records
 pub mod Sample
 pub mod Failures
+pub mod Keeping

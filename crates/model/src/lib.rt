@@ -4,11 +4,12 @@
 //! What they mean is defined in `specs/`: the graph of state intervals (`Nodes`), the world of one
 //! tenant (`World`), what each step answers and leaves (`Steps`), a tenant alone (`Alone`), runs
 //! without failures (`FailureFree`), histories of all tenants (`History`), the records that a store
-//! is given (`Records`) and the sample handler (`Sample`). The worked examples are computed in
+//! is given (`Records`), what is kept of a tenant's past (`Keeping`) and the sample handler (`Sample`). The worked examples are computed in
 //! `proofs/Rows`. `proofs/Places` has small lemmas that the crates above share.
 #![tactic(auto)]
 
 mod fault;
+mod kept;
 mod moves;
 mod names;
 mod records;
@@ -18,6 +19,7 @@ mod steps;
 mod text;
 
 pub use fault::NoMemory;
+pub use kept::Kept;
 pub use moves::{Flaw, Move};
 pub use names::{Kind, Letter, Mark, Quota, Row, Seat, Source, Start, Unit};
 pub use records::{Marks, Record};

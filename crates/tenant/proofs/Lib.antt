@@ -17,7 +17,11 @@ mod Going
 mod Back
 mod Stepping
 mod Others
+pub mod Lasting
 mod Moving
+mod Shelves
+pub mod Emptying
+pub mod Keeping
 mod Flushing
 mod Fronts
 mod Widths

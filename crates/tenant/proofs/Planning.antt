@@ -1,20 +1,23 @@
 -- What was planned for a receipt.
 use Rattle.std.proofs.Common.{◌≡◌, sym, ◌∙◌, ap, ℕ, ◌≤◌, List, length}
-use Rattle.std.specs.Prelude.{Option, Some, Ok, slice_get}
+use Rattle.std.specs.Prelude.{Option, Some, Ok, false, is_none, slice_get}
 use Rattle.std.proofs.lemmas.Option.{same_Some}
 use Rattle.model.specs.declared.names.Source.{Source}
 use Rattle.model.specs.declared.records.Record.{Record}
 use Rattle.model.specs.declared.refusals.Refusal.{Refusal}
 use Rattle.model.specs.Handler.{Turn}
 use Rattle.handler.specs.Inputs.{Input}
-use Rattle.compact.specs.Compact.{Progress}
+use Rattle.model.specs.Nodes.{sends_within}
+use Rattle.session.specs.Counts.{advanced}
+use Rattle.compact.specs.Compact.{Letter, Progress}
 use Rattle.compact.specs.Steps.{Receipt}
 use Rattle.rollback.specs.Units.{asking}
 use Rattle.tenant.specs.declared.receipts.Plan.{Plan}
-use Rattle.tenant.specs.Kept.{IsAsking, IsNext, Kept, Member}
+use Rattle.tenant.specs.Kept.{IsAsking, IsNext, Kept, Member, next_vector_of}
 use Rattle.tenant.specs.Outcomes.{IsPlain}
 use Rattle.tenant.specs.Plans.{IsPlan, IsPlanned}
 use Rattle.tenant.proofs.Asking.{asked_up}
+use Rattle.tenant.proofs.Keeping.{letters_whole}
 
 module _ {S : Type 0} (name : List ℕ) (t : Kept S) (u : ℕ) (m : Member S) (q : Receipt) (turn : Turn S) (plan : Plan) (planned : IsPlanned name t u m q turn (Ok plan))
     (refusal : Option Refusal) (source : Source) (text : List ℕ) (input : Input S) (is : IsAsking refusal m.recovering source text input) where
@@ -39,3 +42,7 @@ module _ {S : Type 0} (name : List ℕ) (t : Kept S) (u : ℕ) (m : Member S) (q
         mark = ap (λ (r : Record). r.mark.index) plan_is.logged;
         asked = (λ i. asking m.recovering ((ap (λ (r : Record). r.source) plan_is.logged ∙ from) i) ((ap (λ (r : Record). r.text) plan_is.logged ∙ said) i)) ∙ is.asked;
       })
+
+  -- each letter has its content
+  pub planned_whole : (i : ℕ) (c : Letter) → slice_get plan.made.items i ≡ Some c → is_none c.content ≡ false
+  planned_whole i c e = letters_whole u (next_vector_of t u m q) (advanced up.0.sessions q.source) (sends_within (length t.members) turn) i c (ap (λ ls. slice_get ls i) (sym plan_is.made) ∙ e)

@@ -7,3 +7,4 @@ pub mod Returns
 pub mod Reads
 pub mod Represents
 pub mod Stands
+pub mod Keeping

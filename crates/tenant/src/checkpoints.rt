@@ -3,6 +3,7 @@
 ghost use Rattle.std.specs.Prelude.{◌≡◌, ◌<◌, IfOk, List, OnErr, Some, bytes_eq, false, length, slice_get, slice_set, ℕ};
 ghost use Rattle.model.specs.World.{World};
 ghost use Rattle.model.specs.declared.steps.TenantStep.TheVariants.{Checkpoint};
+ghost use Rattle.tenant.specs.Keeping.{KeepsOn};
 ghost use Rattle.tenant.specs.Kept.{Kept, Member as MemberOf, checkpointed_member};
 ghost use Rattle.tenant.specs.Stands.{Did, Stands};
 
@@ -64,6 +65,7 @@ impl<H: Handler> Tenant<H> {
     ) -> Result<Answer, NoMemory>
         ensures kept { IfOk result (λ a. a.kept ≡ a.reply) }
         ensures did { IfOk result (λ a. (w : World) → Stands H.meaning tenant.now self.old w log.old.records → Did H.meaning tenant.now w self.new (Checkpoint unit) a.said a.reply log.old log.new) }
+        ensures keeps_on { IfOk result (λ a. KeepsOn H.meaning tenant.now self.old (Checkpoint unit) a.said a.reply self.new log.old.records) }
         // What other tenants stand for stays.
         ensures others { (k : Kept H.State) (w : World) (other : List ℕ) → bytes_eq other tenant.now ≡ false → Stands H.meaning other k w log.old.records → Stands H.meaning other k w log.new.records }
         ensures err { OnErr result (self.new ≡ self.old) }

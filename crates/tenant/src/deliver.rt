@@ -7,6 +7,7 @@ ghost use Rattle.model.specs.World.{World};
 ghost use Rattle.compact.specs.Compact.{Letter as LetterOf};
 ghost use Rattle.rollback.specs.Units.{places};
 ghost use Rattle.unit_steps.specs.Receipts.{IsWithin};
+ghost use Rattle.tenant.specs.Keeping.{SameShelves};
 ghost use Rattle.tenant.specs.Kept.{IsAskingBy, Member as MemberOf, letter_refusal_of};
 ghost use Rattle.tenant.specs.Needs.{IsAsked, deliver_needs};
 ghost use Rattle.tenant.specs.Outcomes.{IsPlain};
@@ -99,6 +100,7 @@ impl<H: Handler> Tenant<H> {
         requires { (c : LetterOf) (m : MemberOf H.State) → slice_get self.old.letters letter ≡ Some c → slice_get self.old.members c.receiver ≡ Some m → IsAskingBy self.old m c c.content worked.input }
         ensures done { IfOk result (λ a. DoesAs H.meaning name.now (λ w. deliver_of H.meaning w letter) self.old a.reply self.new) }
         ensures plain { IfOk result IsPlain }
+        ensures shelves { IfOk result (λ _. SameShelves self.old self.new) }
         ensures err { OnErr result (self.new ≡ self.old) }
     {
         let sent = match self.letter(letter) {
@@ -151,6 +153,7 @@ impl<H: Handler> Tenant<H> {
     ) -> Result<Answer, NoMemory>
         ensures done { IfOk result (λ a. DoesAs H.meaning name.now (λ w. deliver_of H.meaning w letter) self.old a.reply self.new) }
         ensures plain { IfOk result IsPlain }
+        ensures shelves { IfOk result (λ _. SameShelves self.old self.new) }
         ensures err { OnErr result (self.new ≡ self.old) }
     {
         match self.ask_letter(alloc, handler, letter)? {

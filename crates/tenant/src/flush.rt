@@ -9,6 +9,7 @@ ghost use Rattle.model.specs.declared.records.Record.{Record as RecordOf};
 ghost use Rattle.model.specs.declared.steps.TenantStep.TheVariants.{Flush};
 ghost use Rattle.rollback.specs.Units.{stable_places};
 ghost use Rattle.unit_steps.specs.Receipts.{IsFrontier, frontier_of};
+ghost use Rattle.tenant.specs.Keeping.{KeepsOn};
 ghost use Rattle.tenant.specs.Kept.{GoOn, IsFlushed, Kept, Member as MemberOf, flushed_member};
 ghost use Rattle.tenant.specs.Stands.{Did, Stands};
 
@@ -187,6 +188,7 @@ impl<H: Handler> Tenant<H> {
     ) -> Result<Answer, NoMemory>
         ensures kept { IfOk result (λ a. a.kept ≡ a.reply) }
         ensures did { IfOk result (λ a. (w : World) → Stands H.meaning tenant.now self.old w log.old.records → Did H.meaning tenant.now w self.new (Flush unit) a.said a.reply log.old log.new) }
+        ensures keeps_on { IfOk result (λ a. KeepsOn H.meaning tenant.now self.old (Flush unit) a.said a.reply self.new log.old.records) }
         // What other tenants stand for stays.
         ensures others { (k : Kept H.State) (w : World) (other : List ℕ) → bytes_eq other tenant.now ≡ false → Stands H.meaning other k w log.old.records → Stands H.meaning other k w log.new.records }
         ensures err { OnErr result (self.new ≡ self.old) }

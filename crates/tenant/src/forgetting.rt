@@ -1,11 +1,13 @@
 //! What is firm for good is forgotten: each unit's base moves to its greatest snapshot below its frontier.
 
-ghost use Rattle.std.specs.Prelude.{◌≡◌, ◌<◌, Some, length, slice_get, slice_set};
+ghost use Rattle.std.specs.Prelude.{◌≡◌, ◌<◌, List, Some, length, slice_get, slice_set};
 ghost use Rattle.model.specs.World.{World};
 ghost use Rattle.compact.specs.Forgetting.{emptied};
 ghost use Rattle.rollback.specs.Units.{places};
 ghost use Rattle.tenant.specs.Bases.{IsBeside, LetsGo, emptied_all, emptied_by, given_up, moved_kept, moved_letters, moved_member, next_base, passed};
+ghost use Rattle.tenant.specs.Keeping.{Bases, KeepsPast, based_one};
 ghost use Rattle.tenant.specs.Kept.{Member as MemberOf};
+ghost use Rattle.model.specs.Keeping.{Shelf, where_added};
 ghost use Rattle.tenant.specs.Stands.{Stands};
 
 use crate::member::Member;
@@ -114,6 +116,7 @@ impl<H: Handler> Tenant<H> {
     fn forget_one<S: Store>(&mut self, tenant: &TenantName, at: usize, log: &mut SharedLog<S>)
         ensures stands { (w : World) → Stands H.meaning tenant.now self.old w log.old.records → Stands H.meaning tenant.now self.new w log.new.records }
         ensures beside { IsBeside tenant.now log.old log.new }
+        ensures bases { (w : World) (shelves : List Shelf) → Stands H.meaning tenant.now self.old w log.old.records → KeepsPast self.old w shelves → KeepsPast self.new w (based_one w at (slice_get w.members at) shelves) }
     {
         if at < self.members.len() && at < self.frontiers.len() {
             let frontier = self.frontiers[at];
@@ -125,6 +128,7 @@ impl<H: Handler> Tenant<H> {
     pub(crate) fn forget_firm<S: Store>(&mut self, tenant: &TenantName, log: &mut SharedLog<S>)
         ensures stands { (w : World) → Stands H.meaning tenant.now self.old w log.old.records → Stands H.meaning tenant.now self.new w log.new.records }
         ensures beside { IsBeside tenant.now log.old log.new }
+        ensures bases { Bases H.meaning tenant.now self.old log.old.records self.new }
     {
         for at in 0..self.member_count() {
             self.forget_one(tenant, at, log);
@@ -140,6 +144,7 @@ impl<H: Handler> Tenant<H> {
     )
         ensures stands { (w : World) → Stands H.meaning tenant.now self.old w log.old.records → Stands H.meaning tenant.now self.new w log.new.records }
         ensures beside { IsBeside tenant.now log.old log.new }
+        ensures bases { (w : World) (shelves : List Shelf) → Stands H.meaning tenant.now self.old w log.old.records → KeepsPast self.old w shelves → KeepsPast self.new w (where_added w added shelves) }
     {
         if added > 0 {
             self.forget_firm(tenant, log);

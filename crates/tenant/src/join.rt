@@ -3,6 +3,8 @@
 ghost use Rattle.std.specs.Prelude.{◌≡◌, ◌<◌, ◌+◌, ◌∷◌, [], ◌++◌, ℕ, IfOk, OnErr, OnOk, Some, length, option_map, slice_get, slice_set};
 ghost use Rattle.session.specs.Counts.{widened};
 ghost use Rattle.model.specs.Steps.{join as join_of};
+ghost use Rattle.model.specs.Keeping.{after_join};
+ghost use Rattle.tenant.specs.Keeping.{Shelves};
 ghost use Rattle.tenant.specs.Kept.{Member as MemberOf, fitted_from, fitted_member, joined_kept, released_of};
 ghost use Rattle.tenant.specs.Outcomes.{IsPlain};
 ghost use Rattle.tenant.specs.Represents.{Does};
@@ -115,6 +117,7 @@ impl<H: Handler> Tenant<H> {
     ) -> Result<Answer, NoMemory>
         ensures done { IfOk result (λ a. Does H.meaning (λ w. join_of H.meaning w name.now) self.old a.reply self.new) }
         ensures plain { IfOk result IsPlain }
+        ensures shelves { IfOk result (λ a. length self.old.released ≡ length self.old.members → Shelves (after_join a.reply) self.old self.new) }
         ensures err { OnErr result (self.new ≡ self.old) }
     {
         let kind = match handler.kind(name) {

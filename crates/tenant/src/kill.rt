@@ -2,6 +2,7 @@
 
 ghost use Rattle.std.specs.Prelude.{◌≡◌, ◌<◌, Some, length, slice_get, slice_set};
 ghost use Rattle.model.specs.Steps.{kill as kill_of};
+ghost use Rattle.tenant.specs.Keeping.{SameShelves};
 ghost use Rattle.tenant.specs.Kept.{Member as MemberOf, killed_member};
 ghost use Rattle.tenant.specs.Outcomes.{IsPlain};
 ghost use Rattle.tenant.specs.Represents.{Does};
@@ -36,6 +37,7 @@ impl<H: Handler> Tenant<H> {
     pub(crate) fn kill(&mut self, unit: Unit) -> Answer
         ensures done { Does H.meaning (λ w. kill_of w unit) self.old result.reply self.new }
         ensures plain { IsPlain result }
+        ensures shelves { SameShelves self.old self.new }
     {
         match self.up_member(unit) {
             Ok(_) => {}

@@ -4,6 +4,8 @@ ghost use Rattle.std.specs.Prelude.{◌≡◌, ◌<◌, IfOk, OnErr, List, ℕ, 
 ghost use Rattle.rollback.specs.Units.{places};
 ghost use Rattle.model.specs.World.{World};
 ghost use Rattle.model.specs.declared.steps.TenantStep.TheVariants.{Notice};
+ghost use Rattle.model.specs.Keeping.{after_return};
+ghost use Rattle.tenant.specs.Keeping.{Shelves};
 ghost use Rattle.tenant.specs.Kept.{Kept, Member as MemberOf};
 ghost use Rattle.tenant.specs.Stands.{Did, Stands};
 
@@ -59,6 +61,7 @@ impl<H: Handler> Tenant<H> {
     ) -> Result<Answer, NoMemory>
         ensures kept { IfOk result (λ a. a.kept ≡ a.reply) }
         ensures did { IfOk result (λ a. (w : World) → Stands H.meaning tenant.now self.old w log.old.records → Did H.meaning tenant.now w self.new (Notice unit) a.said a.reply log.old log.new) }
+        ensures shelves { IfOk result (λ a. Shelves (after_return unit a.reply) self.old self.new) }
         // What other tenants stand for stays.
         ensures others { (k : Kept H.State) (w : World) (other : List ℕ) → bytes_eq other tenant.now ≡ false → Stands H.meaning other k w log.old.records → Stands H.meaning other k w log.new.records }
         ensures err { OnErr result (self.new ≡ self.old) }

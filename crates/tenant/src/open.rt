@@ -1,9 +1,10 @@
 //! The step `open`.
 
-ghost use Rattle.std.specs.Prelude.{◌≡◌, ◌<◌, ◌≤◌, [], IfOk, length, not, replicate};
+ghost use Rattle.std.specs.Prelude.{◌≡◌, ◌<◌, ◌≤◌, [], IfOk, IfSome, List, length, not, replicate};
 ghost use Rattle.std.specs.List.{list_any, fold};
 ghost use Rattle.std.specs.Option.{is_none};
 ghost use Rattle.model.specs.Steps.{can_open as can_open_with, is_quota as is_quota_of, within as is_within, kind_or_0};
+ghost use Rattle.tenant.specs.Keeping.{OpensPast};
 ghost use Rattle.tenant.specs.Kept.{opened_kept, released_of, with_begun};
 ghost use Rattle.tenant.specs.Outcomes.{IsPlain};
 ghost use Rattle.tenant.specs.Represents.{OpensAs};
@@ -142,7 +143,8 @@ impl<H: Handler> Tenant<H> {
         quota: Quota,
         optimism: u32,
     ) -> Result<(Reply, Option<Tenant<H>>), NoMemory>
-        ensures { IfOk result (λ p. OpensAs H.meaning kinds.now quota optimism p.0 p.1) }
+        ensures opens { IfOk result (λ p. OpensAs H.meaning kinds.now quota optimism p.0 p.1) }
+        ensures past { IfOk result (λ p. IfSome p.1 (OpensPast p.0)) }
     {
         let names = kinds.as_slice();
         if can_open(handler, names, quota, optimism) {
@@ -172,6 +174,7 @@ impl<H: Handler> Tenant<H> {
         optimism: u32,
     ) -> Result<(Answer, Option<Tenant<H>>), NoMemory>
         ensures opened { IfOk result (λ p. IsOpened H.meaning kinds.now quota optimism p.0.reply p.1) }
+        ensures past { IfOk result (λ p. IfSome p.1 (OpensPast p.0.reply)) }
         ensures plain { IfOk result (λ p. IsPlain p.0) }
     {
         let (reply, tenant) = Tenant::opening(alloc, handler, kinds, quota, optimism)?;

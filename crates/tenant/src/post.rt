@@ -6,6 +6,7 @@ ghost use Rattle.model.specs.declared.records.Record.{Record as RecordOf};
 ghost use Rattle.model.specs.Steps.{post as post_of};
 ghost use Rattle.model.specs.World.{World};
 ghost use Rattle.unit_steps.specs.Receipts.{post_refused};
+ghost use Rattle.tenant.specs.Keeping.{SameShelves};
 ghost use Rattle.tenant.specs.Kept.{IsAsking, Member as MemberOf};
 ghost use Rattle.tenant.specs.Needs.{IsAsked, post_needs};
 ghost use Rattle.tenant.specs.Outcomes.{IsPlain};
@@ -65,6 +66,7 @@ impl<H: Handler> Tenant<H> {
         requires { (m : MemberOf H.State) → slice_get self.old.members unit ≡ Some m → IsAsking (post_refused self.old.quota.volatile m.recovering number text) m.recovering Outside text worked.input }
         ensures done { IfOk result (λ a. DoesAs H.meaning name.now (λ w. post_of H.meaning w unit number text) self.old a.reply self.new) }
         ensures plain { IfOk result IsPlain }
+        ensures shelves { IfOk result (λ _. SameShelves self.old self.new) }
         ensures err { OnErr result (self.new ≡ self.old) }
     {
         let member = match self.member(unit) {
@@ -106,6 +108,7 @@ impl<H: Handler> Tenant<H> {
     ) -> Result<Answer, NoMemory>
         ensures done { IfOk result (λ a. DoesAs H.meaning name.now (λ w. post_of H.meaning w unit number text) self.old a.reply self.new) }
         ensures plain { IfOk result IsPlain }
+        ensures shelves { IfOk result (λ _. SameShelves self.old self.new) }
         ensures err { OnErr result (self.new ≡ self.old) }
     {
         match self.ask_post(alloc, handler, unit, number, &text)? {

@@ -4,6 +4,7 @@ ghost use Rattle.std.specs.Prelude.{◌≡◌, ℕ, List, Option, IfNone, IfOk, 
 ghost use Rattle.model.specs.declared.records.Record.{Record as RecordOf};
 ghost use Rattle.model.specs.Steps.{deliver as deliver_of, post as post_of};
 ghost use Rattle.model.specs.World.{World};
+ghost use Rattle.tenant.specs.Keeping.{SameShelves};
 ghost use Rattle.tenant.specs.Needs.{WasFresh, deliver_needs, needs, post_needs};
 ghost use Rattle.tenant.specs.Outcomes.{IsPlain};
 ghost use Rattle.tenant.specs.Represents.{DoesAs, StandsFor};
@@ -71,6 +72,7 @@ impl<H: Handler> Tenant<H> {
         ensures fresh { IfOk result (λ o. (live : ℕ → List ℕ) (w : World) (log : List RecordOf) → StandsFor H.meaning name.now live self.old w log → WasFresh (post_needs H.meaning w unit number text) worked.input o) }
         ensures done { IfOk result (λ o. IfSome o (λ a. DoesAs H.meaning name.now (λ w. post_of H.meaning w unit number text) self.old a.reply self.new)) }
         ensures plain { IfOk result (λ o. IfSome o IsPlain) }
+        ensures shelves { IfOk result (λ o. IfSome o (λ _. SameShelves self.old self.new)) }
         ensures stale { IfOk result (λ o. IfNone o (self.new ≡ self.old)) }
         ensures err { OnErr result (self.new ≡ self.old) }
     {
@@ -99,6 +101,7 @@ impl<H: Handler> Tenant<H> {
         ensures fresh { IfOk result (λ o. (live : ℕ → List ℕ) (w : World) (log : List RecordOf) → StandsFor H.meaning name.now live self.old w log → WasFresh (deliver_needs H.meaning w letter) worked.input o) }
         ensures done { IfOk result (λ o. IfSome o (λ a. DoesAs H.meaning name.now (λ w. deliver_of H.meaning w letter) self.old a.reply self.new)) }
         ensures plain { IfOk result (λ o. IfSome o IsPlain) }
+        ensures shelves { IfOk result (λ o. IfSome o (λ _. SameShelves self.old self.new)) }
         ensures stale { IfOk result (λ o. IfNone o (self.new ≡ self.old)) }
         ensures err { OnErr result (self.new ≡ self.old) }
     {

@@ -1,7 +1,11 @@
 //! The step `release`.
 
-ghost use Rattle.std.specs.Prelude.{◌≡◌, ◌<◌, ℕ, List, IfOk, None, OnErr, Some, length, slice_get};
+ghost use Rattle.std.specs.Prelude.{◌≡◌, ◌<◌, ℕ, List, IfOk, None, OnErr, Option, Some, length, slice_get};
 ghost use Rattle.model.specs.Steps.{release as release_of};
+ghost use Rattle.model.specs.World.{World};
+ghost use Rattle.model.specs.declared.records.Record.{Record};
+ghost use Rattle.tenant.specs.Keeping.{SameShelves};
+ghost use Rattle.tenant.specs.Stands.{Stands};
 ghost use Rattle.tenant.specs.Kept.{Member as MemberOf, firm_of, firm_texts, released_of, with_firm_out};
 ghost use Rattle.tenant.specs.Outcomes.{IsPlain};
 ghost use Rattle.tenant.specs.Represents.{Does};
@@ -76,6 +80,7 @@ impl<H: Handler> Tenant<H> {
     pub(crate) fn release(&mut self, alloc: Global, unit: Unit) -> Result<Answer, NoMemory>
         ensures done { IfOk result (λ a. Does H.meaning (λ w. release_of H.meaning w unit) self.old a.reply self.new) }
         ensures plain { IfOk result IsPlain }
+        ensures shelves { IfOk result (λ _. (name : List ℕ) (w : World) (records : List (Option Record)) → Stands H.meaning name self.old w records → SameShelves self.old self.new) }
         ensures err { OnErr result (self.new ≡ self.old) }
     {
         match self.up_member(unit) {

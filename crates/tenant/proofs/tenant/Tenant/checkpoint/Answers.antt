@@ -5,6 +5,7 @@ use Rattle.tenant.specs.Kept.{Member}
 use Rattle.tenant.proofs.Moving.{beside_stands, did_then}
 use Rattle.tenant.proofs.Shelving.{checkpoint_done, checkpoint_refused, checkpoint_unlogged}
 use Rattle.tenant.proofs.Stepping.{any_did}
+use Rattle.tenant.proofs.Keeping.{checkpoint_keeps, refused_keeps}
 use Rattle.tenant.proofs.tenant.Tenant.checkpoint.Goals as goal
 
 pub returns-in-Err-clause-did : goal.returns-in-Err-clause-did
@@ -39,3 +40,21 @@ returns-clause-did g c = λ w s.
 pub returns-clause-others : goal.returns-clause-others
 returns-clause-others g c = λ k w other differs s.
     beside_stands g.H.Handler.meaning c.args.tenant.now other k w c.args.log.now c.forget_firm.new.log c.forget_firm.ensures.beside differs s
+
+pub returns-in-Err-clause-keeps_on : goal.returns-in-Err-clause-keeps_on
+returns-in-Err-clause-keeps_on g c =
+    refused_keeps g.H.Handler.meaning c.args.tenant.now c.args.self.now c.args.self.now c.args.log.now.records (Checkpoint c.args.unit) c.refused.result.said c.refused.result.reply _ c.refused.ensures.reply refl
+
+pub returns-then-volatile_count-gt0-clause-keeps_on : goal.returns-then-volatile_count-gt0-clause-keeps_on
+returns-then-volatile_count-gt0-clause-keeps_on g c =
+    let answer = c.refused-then-volatile_count-gt0.result in
+    refused_keeps g.H.Handler.meaning c.args.tenant.now c.args.self.now c.args.self.now c.args.log.now.records (Checkpoint c.args.unit) answer.said answer.reply _ c.refused-then-volatile_count-gt0.ensures.reply refl
+
+pub returns-clause-keeps_on : goal.returns-clause-keeps_on
+returns-clause-keeps_on g c =
+    let none = c.if-volatile_count-gt0.false in
+    let count = c.volatile_count.ensures in
+    let m : Member _ = c.in-Ok.member.now in
+    let new = c.in_ok-checkpoint_at.ensures.ok m c.in-Ok.ensures.found in
+    checkpoint_keeps g.H.Handler.meaning c.args.tenant.now c.args.self.now c.checkpoint_at.new.self c.forget_firm.new.self c.args.log.now.records c.args.unit m c.in-Ok.ensures.found c.in-Ok.ensures.up (omega (arith, none, count))
+    c.last_mark-at.result c.last_mark-at.ensures new c.forget_firm.ensures.bases c.twice.result.said c.twice.result.reply c.twice.ensures.reply

@@ -2,6 +2,9 @@ use Rattle.std.proofs.Common.{◌≡◌, length}
 use Rattle.std.proofs.lemmas.Option.{slice_get_within}
 use Rattle.tenant.specs.Kept.{Member}
 use Rattle.tenant.proofs.Killing.{kill_done, kill_refused}
+use Rattle.std.proofs.Common.{ap, refl}
+use Rattle.tenant.specs.Kept.{Kept, killed_member}
+use Rattle.tenant.proofs.Keeping.{no_letters, one_same}
 use Rattle.tenant.proofs.tenant.Tenant.kill.Goals as goal
 
 pub returns-in-Err-clause-done : goal.returns-in-Err-clause-done
@@ -16,3 +19,12 @@ returns-clause-done g c = λ name live w log s.
     let lost : c.kill_at-lost.result ≡ length m.recovering.volatile = c.kill_at-lost.ensures.lost m c.in-Ok.ensures.found in
     let new = c.kill_at-lost.ensures.tenant m c.in-Ok.ensures.found in
     rw (c.twice.ensures.reply, lost, new) (kill_done g.H.Handler.meaning name live c.args.self.now w log s c.args.unit m c.in-Ok.ensures.found c.in-Ok.ensures.up)
+
+pub returns-clause-shelves : goal.returns-clause-shelves
+returns-clause-shelves g c =
+    let m : Member g.row.H-State.Denot = c.in-Ok.field-0.now in
+    let found = c.in-Ok.ensures.found in
+    let t : Kept g.row.H-State.Denot = c.args.self.now in
+    let v : Kept g.row.H-State.Denot = c.kill_at-lost.new.self in
+    let new = c.kill_at-lost.ensures.tenant m found in
+    one_same t c.args.unit m found (killed_member m) v (ap (λ (z : Kept g.row.H-State.Denot). z.members) new) refl (no_letters t v (ap (λ (z : Kept g.row.H-State.Denot). z.letters) new))

@@ -1,4 +1,4 @@
-use Rattle.std.proofs.Common.{sym, ◌∙◌, ◌+◌}
+use Rattle.std.proofs.Common.{sym, ◌∙◌, ◌+◌, length}
 use Rattle.std.proofs.lemmas.Option.{slice_get_within}
 use Rattle.rollback.specs.Units.{places}
 use Rattle.tenant.specs.Kept.{Member}
@@ -6,6 +6,10 @@ use Rattle.tenant.proofs.Back.{above, not_above, notice_learns, notice_not_up, n
 use Rattle.tenant.proofs.Others.{either_beside, returned_beside}
 use Rattle.tenant.proofs.Results.{if_ok}
 use Rattle.tenant.proofs.Standing.{opened}
+use Rattle.std.proofs.Common.{ap, refl, inr}
+use Rattle.model.specs.declared.names.Start.{Start}
+use Rattle.tenant.specs.Kept.{Kept}
+use Rattle.tenant.proofs.Keeping.{no_letters, one_same, returned_shelves}
 use Rattle.tenant.proofs.tenant.Tenant.notice.Goals as goal
 
 pub returns-in-Err-clause-did : goal.returns-in-Err-clause-did
@@ -52,3 +56,19 @@ pub returns-clause-others : goal.returns-clause-others
 returns-clause-others g c = λ k w other differs s.
     returned_beside g.H.Handler.meaning c.args.tenant.now other c.args.unit k w c.args.log.now c.return_to.new.log
     (either_beside c.return_to.result c.args.tenant.now c.args.unit c.args.log.now c.return_to.new.log c.return_to.ensures.beside c.return_to.ensures.err_log) differs s
+
+pub returns-then-is_last-clause-shelves : goal.returns-then-is_last-clause-shelves
+returns-then-is_last-clause-shelves g c =
+    let m : Member g.row.H-State.Denot = c.in-Ok.field-0.now in
+    let found = c.in-Ok.ensures.found in
+    let t : Kept g.row.H-State.Denot = c.args.self.now in
+    let v : Kept g.row.H-State.Denot = c.learn_rows.new.self in
+    let new = c.learn_rows.ensures m found in
+    rw (c.twice.ensures.reply) (one_same t c.args.unit m found (record m { known = length t.table }) v (ap (λ (z : Kept g.row.H-State.Denot). z.members) new) refl (no_letters t v (ap (λ (z : Kept g.row.H-State.Denot). z.letters) new)))
+
+pub returns-clause-shelves : goal.returns-clause-shelves
+returns-clause-shelves g c =
+    let m : Member g.row.H-State.Denot = c.in-Ok.field-0.now in
+    let found = c.in-Ok.ensures.found in
+    let start = c.start_behind.result in
+    if_ok _ _ c.return_to.result (λ a returns. returned_shelves g.H.Handler.meaning c.args.tenant.now c.args.self.now c.return_to.new.self c.args.unit m found c.in-Some.target _ a c.args.log.now c.return_to.new.log start (ap (λ (z : Start). z.index) c.start_behind.ensures) (inr refl) (returns m found)) c.return_to.ensures.returns

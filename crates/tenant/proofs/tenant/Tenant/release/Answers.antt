@@ -1,6 +1,12 @@
 use Rattle.std.proofs.Common.{◌∙◌}
 use Rattle.std.proofs.lemmas.Option.{slice_get_within}
 use Rattle.tenant.proofs.Outgoing.{release_done, release_refused}
+use Rattle.std.proofs.Common.{ap, refl}
+use Rattle.tenant.specs.Kept.{Kept, Member, released_member}
+use Rattle.tenant.specs.Stands.{live_in}
+use Rattle.tenant.proofs.Follow.{keeps}
+use Rattle.tenant.proofs.Keeping.{no_letters, none_changed, one_same}
+use Rattle.tenant.proofs.Standing.{opened}
 use Rattle.tenant.proofs.tenant.Tenant.release.Goals as goal
 
 pub returns-in-Err-clause-done : goal.returns-in-Err-clause-done
@@ -17,3 +23,16 @@ returns-clause-done g c = λ name live w log s. rw (c.in_ok-answer.ensures.0)
     (release_done g.H.Handler.meaning name live c.args.self.now w log s c.args.unit c.in-Ok.field-0.now c.in-Ok.ensures.found c.in-Ok.ensures.up c.release_at.new.self c.new-outputs.result
     (λ frontier texts own front was. c.in_ok-release_at.ensures.ok c.in-Ok.field-0.now frontier texts c.in-Ok.ensures.found own front was)
     (λ frontier there. c.new-outputs.ensures ∙ c.in_ok-firm_texts.ensures c.in-Ok.field-0.now frontier c.in-Ok.ensures.found there))
+
+pub returns-in-Err-clause-shelves : goal.returns-in-Err-clause-shelves
+returns-in-Err-clause-shelves g c = λ name w records s. none_changed c.args.self.now c.args.self.now refl
+
+pub returns-clause-shelves : goal.returns-clause-shelves
+returns-clause-shelves g c = λ name w records s.
+    let m : Member g.row.H-State.Denot = c.in-Ok.field-0.now in
+    let found = c.in-Ok.ensures.found in
+    let t : Kept g.row.H-State.Denot = c.args.self.now in
+    let v : Kept g.row.H-State.Denot = c.release_at.new.self in
+    let x = keeps t (live_in name records) (opened s).stands.0 (opened s).stands.1 c.args.unit m found in
+    let new = c.in_ok-release_at.ensures.ok m x.unit.frontier x.unit.released found x.is.own x.is.frontier x.is.released in
+    one_same t c.args.unit m found (released_member m x.unit.frontier) v (ap (λ (z : Kept g.row.H-State.Denot). z.members) new) refl (no_letters t v (ap (λ (z : Kept g.row.H-State.Denot). z.letters) new))

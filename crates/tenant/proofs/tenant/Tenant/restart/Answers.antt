@@ -5,6 +5,9 @@ use Rattle.tenant.proofs.Back.{restart_refused_by, restart_returns}
 use Rattle.tenant.proofs.Others.{either_beside, returned_beside}
 use Rattle.tenant.proofs.Results.{if_ok}
 use Rattle.tenant.proofs.Standing.{opened}
+use Rattle.std.proofs.Common.{refl, inl}
+use Rattle.model.specs.declared.names.Start.{Start}
+use Rattle.tenant.proofs.Keeping.{returned_shelves}
 use Rattle.tenant.proofs.tenant.Tenant.restart.Goals as goal
 
 pub returns-in-Some-clause-did : goal.returns-in-Some-clause-did
@@ -25,3 +28,11 @@ pub returns-clause-others : goal.returns-clause-others
 returns-clause-others g c = λ k w other differs s.
     returned_beside g.H.Handler.meaning c.args.tenant.now other c.args.unit k w c.args.log.now c.return_to.new.log
     (either_beside c.return_to.result c.args.tenant.now c.args.unit c.args.log.now c.return_to.new.log c.return_to.ensures.beside c.return_to.ensures.err_log) differs s
+
+pub returns-clause-shelves : goal.returns-clause-shelves
+returns-clause-shelves g c =
+    let t = c.args.self.now in
+    let u = c.args.unit in
+    let m = get_below t.members u c.in-None.ensures.there in
+    let start = c.start_behind-row.result in
+    if_ok _ _ c.return_to.result (λ a returns. returned_shelves g.H.Handler.meaning c.args.tenant.now t c.return_to.new.self u m.0 m.1 c.in-Some-last_kept.target _ a c.args.log.now c.return_to.new.log start (ap (λ (z : Start). z.index) c.start_behind-row.ensures) (inl refl) (returns m.0 m.1)) c.return_to.ensures.returns

@@ -2,6 +2,8 @@ use Rattle.std.proofs.Common.{refl}
 use Rattle.model.specs.declared.steps.TenantStep.TheVariants.{Deliver, Post}
 use Rattle.tenant.specs.Needs.{deliver_needs, post_needs}
 use Rattle.tenant.proofs.Stepping.{fresh_ok, some_ok}
+use Rattle.tenant.proofs.Keeping.{same_worked}
+use Rattle.tenant.proofs.Keeping.StepStays.{deliver_stays, post_stays}
 use Rattle.tenant.proofs.tenant.Tenant.step_with.Goals as goal
 
 pub returns-in-Post-clause-fresh : goal.returns-in-Post-clause-fresh
@@ -23,3 +25,9 @@ pub returns-in-Deliver-clause-did : goal.returns-in-Deliver-clause-did
 returns-in-Deliver-clause-did g c =
     rw (c.in-Deliver.is)
     (some_ok g.H.Handler.meaning c.args.name.now c.args.self.now c.deliver_with.new.self (Deliver c.in-Deliver.letter) c.args.log.now (λ w. (refl, refl, refl)) c.deliver_with.result c.deliver_with.ensures.done c.deliver_with.ensures.plain)
+
+pub returns-in-Post-clause-keeps_on : goal.returns-in-Post-clause-keeps_on
+returns-in-Post-clause-keeps_on g c = rw (c.in-Post.is) (same_worked g.H.Handler.meaning c.args.name.now c.args.self.now c.post_with.new.self c.args.log.now.records (Post c.in-Post.unit c.in-Post.number c.in-Post.text) (post_stays c.in-Post.unit c.in-Post.number c.in-Post.text) c.post_with.result c.post_with.ensures.shelves)
+
+pub returns-in-Deliver-clause-keeps_on : goal.returns-in-Deliver-clause-keeps_on
+returns-in-Deliver-clause-keeps_on g c = rw (c.in-Deliver.is) (same_worked g.H.Handler.meaning c.args.name.now c.args.self.now c.deliver_with.new.self c.args.log.now.records (Deliver c.in-Deliver.letter) (deliver_stays c.in-Deliver.letter) c.deliver_with.result c.deliver_with.ensures.shelves)

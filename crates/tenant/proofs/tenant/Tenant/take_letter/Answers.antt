@@ -8,7 +8,8 @@ use Rattle.tenant.specs.declared.answer.Answer.{Answer}
 use Rattle.tenant.specs.Kept.{IsAskingBy}
 use Rattle.tenant.proofs.Asking.{refused_stays}
 use Rattle.tenant.proofs.Delivering.{letter_none, letter_no_unit, letter_planned, letter_refused_then}
-use Rattle.tenant.proofs.Planning.{planned_few, planned_next, planned_plain}
+use Rattle.tenant.proofs.Planning.{planned_few, planned_next, planned_plain, planned_whole}
+use Rattle.tenant.proofs.Keeping.{received_same}
 use Rattle.tenant.proofs.tenant.Tenant.take_letter.Goals as goal
 
 pub returns-in-None-clause-done : goal.returns-in-None-clause-done
@@ -90,3 +91,14 @@ returns-in_ok-answer-in-Ok-clause-done g c = λ live w log s.
     let planned = rw (c.in-Ok.is) at c.in_ok-refusal.ensures in
     letter_planned g.H.Handler.meaning c.args.name.now live c.args.self.now w log s c.args.letter sent there c.in-Some-member.member.now c.in-Some-member.ensures content whole c.args.worked.input is c.turn.result.now c.turn.ensures c.in-Ok.plan planned
     c.in_ok-answer-in-Ok.answer.reply (ap (λ (a : Answer). a.reply) c.in_ok-answer-in-Ok.ensures.answer) c.enter.new.self (c.in_ok-answer-in-Ok.ensures.ok c.in-Some-member.member.now c.in-Some-member.ensures)
+
+pub returns-in_ok-answer-in-Ok-clause-shelves : goal.returns-in_ok-answer-in-Ok-clause-shelves
+returns-in_ok-answer-in-Ok-clause-shelves g c =
+    let sent : Letter = record { source = c.sent.inside.source; receiver = c.sent.inside.receiver; number = c.sent.inside.number; content = c.sent.inside.content } in
+    let there : slice_get c.args.self.now.letters c.args.letter ≡ Some sent = (c.in-Some.ensures ∙ ap (λ (l : Letter). Some l) (sym c.sent.view_is)) in
+    let content : Content = record { text = c.content.inside.text; vector = c.content.inside.vector } in
+    let whole : sent.content ≡ Some content = (c.in-Some-content.is ∙ ap (λ (o : Content). Some o) (sym c.content.view_is)) in
+    let is = subst (λ (o : Option Content). IsAskingBy c.args.self.now c.in-Some-member.member.now sent o c.args.worked.input) whole (c.requires sent c.in-Some-member.member.now there c.in-Some-member.ensures) in
+    let planned = rw (c.in-Ok.is) at c.in_ok-refusal.ensures in
+    received_same g.H.Handler.meaning c.args.self.now c.sent.inside.receiver c.in-Some-member.member.now c.in-Some-member.ensures c.enter.new.self c.in-Ok.plan.logged c.in-Ok.plan.outputs.items c.in-Ok.plan.made.items (c.in_ok-answer-in-Ok.ensures.ok c.in-Some-member.member.now c.in-Some-member.ensures)
+    (planned_whole c.args.name.now c.args.self.now c.sent.inside.receiver c.in-Some-member.member.now (delivered c.args.letter sent content) c.turn.result.now c.in-Ok.plan planned _ (FromUnit sent.source) content.text c.args.worked.input is)

@@ -4,8 +4,9 @@ use Rattle.std.proofs.lemmas.Option.{slice_get_within}
 use Rattle.model.specs.declared.names.Source.TheVariants.{Outside}
 use Rattle.tenant.specs.declared.answer.Answer.{Answer}
 use Rattle.tenant.proofs.Asking.{refused_stays}
-use Rattle.tenant.proofs.Planning.{planned_few, planned_next, planned_plain}
+use Rattle.tenant.proofs.Planning.{planned_few, planned_next, planned_plain, planned_whole}
 use Rattle.tenant.proofs.Posting.{post_none, post_planned, post_refused_then}
+use Rattle.tenant.proofs.Keeping.{received_same}
 use Rattle.tenant.proofs.tenant.Tenant.take_post.Goals as goal
 
 pub returns-in-None-clause-done : goal.returns-in-None-clause-done
@@ -41,3 +42,9 @@ returns-clause-done g c = λ live w log s.
     post_planned g.H.Handler.meaning c.args.name.now live c.args.self.now w log s c.args.unit c.args.number c.args.text c.in-Some.member.now c.in-Some.ensures c.args.worked.input (c.requires c.in-Some.member.now c.in-Some.ensures)
     c.turn.result.now c.turn.ensures _ (λ i. record { source = Outside; letter = None; number = c.from.ensures i; text = c.args.text; vector = c.in_ok-vector.ensures i }) c.in-Ok.plan planned
     c.in_ok-answer-in-Ok.answer.reply (ap (λ (a : Answer). a.reply) c.in_ok-answer-in-Ok.ensures.answer) c.enter.new.self (c.in_ok-answer-in-Ok.ensures.ok c.in-Some.member.now c.in-Some.ensures)
+
+pub returns-clause-shelves : goal.returns-clause-shelves
+returns-clause-shelves g c =
+    let planned = rw (c.in-Ok.is) at c.in_ok-refusal.ensures in
+    received_same g.H.Handler.meaning c.args.self.now c.args.unit c.in-Some.member.now c.in-Some.ensures c.enter.new.self c.in-Ok.plan.logged c.in-Ok.plan.outputs.items c.in-Ok.plan.made.items (c.in_ok-answer-in-Ok.ensures.ok c.in-Some.member.now c.in-Some.ensures)
+    (planned_whole c.args.name.now c.args.self.now c.args.unit c.in-Some.member.now _ c.turn.result.now c.in-Ok.plan planned _ Outside c.args.text c.args.worked.input (c.requires c.in-Some.member.now c.in-Some.ensures))
