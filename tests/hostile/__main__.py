@@ -13,10 +13,11 @@ from multiprocessing import Pool
 import allocations
 import bad_lines
 import ends
+import kept
 import kills
 from program import Program
 
-SUITES = (("memory", allocations), ("input and output", ends), ("kills", kills), ("lines", bad_lines))
+SUITES = (("memory", allocations), ("what is kept", kept), ("input and output", ends), ("kills", kills), ("lines", bad_lines))
 
 
 def named(word):

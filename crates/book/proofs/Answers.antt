@@ -1,5 +1,5 @@
 -- What the calls of a tenant say of a tenant that may be unopened.
-use Rattle.std.proofs.Common.{◌≡◌, ℕ, List, [], ◌∷◌, Bool, true, false, if◌then◌else◌, refl, sym, ap, subst}
+use Rattle.std.proofs.Common.{◌≡◌, ◌≤◌, ℕ, List, [], ◌∷◌, Bool, true, false, if◌then◌else◌, refl, sym, ap, subst}
 use Rattle.std.specs.Prelude.{Option, None, Some, Result, Ok, Err, IfOk, IfSome, bytes_eq}
 use Rattle.model.specs.Addresses.{addressed}
 use Rattle.model.specs.Alone.{step_open}
@@ -25,10 +25,20 @@ pub if_ok : {A E : Type 0} {P Q : A → Type 0} (r : Result A E) → ((a : A) �
 if_ok (Ok a) f h = f a h
 if_ok (Err e) f h = tt
 
+-- two clauses on `Ok` are one
+pub both_ok : {A E : Type 0} (P Q : A → Type 0) (r : Result A E) → IfOk r P → IfOk r Q → IfOk r (λ a. P a × Q a)
+both_ok P Q (Ok a) p q = (p, q)
+both_ok P Q (Err e) p q = tt
+
 -- what follows from a clause on `Some`
 pub if_some : {A : Type 0} {P Q : A → Type 0} (o : Option A) → ((a : A) → P a → Q a) → IfSome o P → IfSome o Q
 if_some None f h = tt
 if_some (Some a) f h = f a h
+
+-- and so are two on `Some`
+pub both_some : {A : Type 0} (P Q : A → Type 0) (o : Option A) → IfSome o P → IfSome o Q → IfSome o (λ a. P a × Q a)
+both_some P Q None p q = tt
+both_some P Q (Some a) p q = (p, q)
 
 module _ {S : Type 0} (M : Meaning S) where
   -- what an opening gives, where it is accepted or not
@@ -68,11 +78,11 @@ module _ {S : Type 0} (M : Meaning S) where
 
   -- what an open tenant logged
   pub logs_open : (name : List ℕ) (old new : Kept S) (step : TenantStep) (said : Said) (answer : Reply) (before after : Logged)
-      → ((w : World) → Stands M name old w before.records → Did M name w new step said answer before after)
+      → ((w : World) → Stands M name old w before.records → Did M name w new step said answer before after) → before.failures ≤ after.failures
       → (w : Option World) → StandsAt M name (Some old) w before.records → LogsAt M name w step said before after
-  logs_open name old new step said answer before after did None stands = absurd stands
-  logs_open name old new step said answer before after did (Some w) stands =
-      let d = did w stands in record { honest = d.logs.honest; device = d.logs.device }
+  logs_open name old new step said answer before after did up None stands = absurd stands
+  logs_open name old new step said answer before after did up (Some w) stands =
+      let d = did w stands in record { honest = d.logs.honest; device = d.logs.device; up = up }
 
   unopened_from : (name : List ℕ) (w : World) (step : TenantStep) (said : Said) (answer : Reply) (z : World)
       → step_open M w step said ≡ done answer z → opened_by name step answer ≡ []

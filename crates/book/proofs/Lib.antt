@@ -3,3 +3,5 @@ pub mod Replays
 pub mod Runs
 pub mod Certified
 pub mod Lasting
+pub mod Keeping
+pub mod Devices

@@ -1,11 +1,11 @@
 -- One more entry: the book is still the replay of its history.
-use Rattle.std.proofs.Common.{◌≡◌, ℕ, List, [], ◌∷◌, ◌++◌, map, Bool, true, false, cond, refl, sym, ap, subst, ◌∙◌, append_assoc}
+use Rattle.std.proofs.Common.{◌≡◌, ℕ, List, [], ◌∷◌, ◌++◌, length, arith, map, Bool, true, false, cond, refl, sym, ap, subst, ◌∙◌, append_assoc}
 use Rattle.std.specs.Prelude.{Option, None, bytes_eq}
 use Rattle.std.specs.List.{filter}
 use Rattle.std.proofs.lemmas.Slice.Eq.{bytes_eq-Decides}
 use Rattle.std.proofs.lemmas.List.Elements.{filter-append}
 use Rattle.std.proofs.lemmas.List.Concat.{flat_map-append}
-use Rattle.std.proofs.lemmas.List.{map-append, append-nil}
+use Rattle.std.proofs.lemmas.List.{length-append, map-append, append-nil}
 use Rattle.model.specs.Addresses.{addressed}
 use Rattle.model.specs.Alone.{Course, Event, alone, course_from, step}
 use Rattle.model.specs.Handler.{Meaning}
@@ -16,8 +16,14 @@ use Rattle.model.specs.declared.records.Record.{Record}
 use Rattle.model.specs.declared.replies.Entry.{Entry}
 use Rattle.model.specs.declared.replies.Said.{Said}
 use Rattle.model.specs.declared.steps.Step.{Step}
+use Rattle.shared_log.specs.Logged.{Grows}
 use Rattle.tenant.specs.Stands.{Kept, StandsAt}
-use Rattle.book.specs.History.{DidAt, Holding, IsAnswered, IsHonestAfter, IsIsolated, IsReplay, RecordedAfter, opened, opened_by, world_of}
+use Rattle.book.specs.Entries.{Ledger}
+use Rattle.model.specs.Keeping.{Keeping, keeping, keeping_on}
+use Rattle.book.specs.Keeping.{KeepsAt, KeepsIn, keeping_after}
+use Rattle.book.proofs.Devices.{counts_on}
+use Rattle.book.proofs.Keeping.{keeping-push, keeping_world}
+use Rattle.book.specs.History.{DidAt, Holding, IsAnswered, IsHonestAfter, IsIsolated, IsReplay, IsSaidHonestly, RecordedAfter, opened, opened_by, world_of}
 
 -- what an entry is to its tenant
 abbrev pub event_of : Entry → Event
@@ -70,6 +76,17 @@ opened-push : (h : List Entry) (e : Entry) → opened (h ++ e ∷ []) ≡ opened
 opened-push h e =
     flat_map-append (λ (x : Entry). opened_by (name_of x) (addressed x.step).1 x.reply) h (e ∷ [])
     ∙ ap (λ (l : List (List ℕ)). opened h ++ l) (append-nil (opened_by (name_of e) (addressed e.step).1 e.reply))
+
+last_same : (h : List Entry) (e f : Entry) → h ++ e ∷ [] ≡ h ++ f ∷ [] → e ≡ f
+last_same [] e f is = cc is
+last_same (x ∷ h) e f is = last_same h e f (cc is)
+
+never_more : (h : List Entry) (e : Entry) → h ≡ h ++ e ∷ [] → ⊥
+never_more h e is = let a = ap length is in let b = length-append h (e ∷ []) in omega (arith, a, b)
+
+-- where none was added there is nothing to be honest about
+pub none_added : {S : Type 0} (M : Meaning S) (before after : Ledger) → after.history ≡ before.history → IsSaidHonestly M before after
+none_added M before after same e is = absurd (never_more before.history e (sym same ∙ is))
 
 module _ {S : Type 0} (M : Meaning S) where
   -- ---- one more event of a tenant alone
@@ -148,16 +165,38 @@ module _ {S : Type 0} (M : Meaning S) where
         (subst (λ k. StandsAt M t k (world_of M t h) after.log.records) (sym (answered.others t is))
         (answered.others_stand (before.at t) (world_of M t h) t is (replay.stands t)))
 
+    keeps_here : KeepsAt (after.at (name_of e)) (keeping_on M (keeping_after M (name_of e) h) (event_of e))
+    keeps_here =
+        let k : Keeping = keeping_after M (name_of e) h in
+        subst (λ w. KeepsIn (before.at (name_of e)) w k.shelves → KeepsAt (after.at (name_of e)) (keeping_on M (record { world = w; shelves = k.shelves }) (event_of e)))
+        (sym (keeping_world M (name_of e) h)) (done.keeps k.shelves) (replay.keeps (name_of e))
+
+    keeps_after : (t : List ℕ) (b : Bool) → bytes_eq t (name_of e) ≡ b → KeepsAt (after.at t) (keeping_after M t (h ++ e ∷ []))
+    keeps_after t true is =
+        subst (KeepsAt (after.at t)) (sym (ap (keeping M) (own-named t h e is) ∙ keeping-push M (own t (pairs h)) (event_of e)))
+        (subst (λ u. KeepsAt (after.at u) (keeping_on M (keeping_after M u h) (event_of e))) (sym (same_name t (name_of e) is)) keeps_here)
+    keeps_after t false is =
+        subst (KeepsAt (after.at t)) (sym (ap (keeping M) (own-apart t h e is)))
+        (subst (λ k. KeepsAt k (keeping_after M t h)) (sym (answered.others t is)) (replay.keeps t))
+
     legal_after : (t : List ℕ) (b : Bool) → bytes_eq t (name_of e) ≡ b → replies_to t (h ++ e ∷ []) ≡ (alone M (own t (pairs (h ++ e ∷ [])))).replies
     legal_after t true is =
         legal-named t h e is (replay.legal t)
         (subst (λ u. (step M (world_of M u h) (event_of e)).reply ≡ e.reply) (sym (same_name t (name_of e) is)) (ap (λ (o : Outcome). o.reply) done.steps.1))
     legal_after t false is = legal-apart t h e is (replay.legal t)
 
+    -- what the store said during its step is honest
+    honest_here : (grown : List Record) × Grows before.log.records grown after.log.records × IsHonestAfter M h e grown
+    honest_here = done.logs.honest
+
+    pub said_honestly : IsSaidHonestly M (record { history = h; log = before.log }) (record { history = h ++ e ∷ []; log = after.log })
+    said_honestly other is = subst (λ (x : Entry). (grown : List Record) × Grows before.log.records grown after.log.records × IsHonestAfter M h x grown) (last_same h e other is) honest_here
+
     -- one more entry, whose step was done
     pub entered : IsReplay M after (h ++ e ∷ [])
     entered = record {
       stands = λ t. stands_after t (bytes_eq t (name_of e)) refl;
+      keeps = λ t. keeps_after t (bytes_eq t (name_of e)) refl;
       order = done.order ∙ ap (λ (l : List (List ℕ)). l ++ opened_by (name_of e) (addressed e.step).1 e.reply) replay.order ∙ sym (opened-push h e);
       legal = λ t. legal_after t (bytes_eq t (name_of e)) refl;
       recorded = (
@@ -165,6 +204,7 @@ module _ {S : Type 0} (M : Meaning S) where
         recorded-push [] h e replay.recorded.0 done.logs.honest.0 replay.recorded.1 done.logs.honest.2,
         done.logs.honest.1 replay.recorded.0 replay.recorded.2,
       );
+      device = counts_on h e before.log.failures after.log.failures done.logs.device done.logs.up replay.device;
     }
 
 -- a tenant's replies and its world follow from its own pairs

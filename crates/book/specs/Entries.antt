@@ -1,5 +1,6 @@
 -- How a step is entered in the history of a book.
-use Rattle.std.specs.Prelude.{◌≡◌, ◌⊎◌, List, [], ◌∷◌, ◌++◌}
+use Rattle.std.specs.Prelude.{◌≡◌, ◌⊎◌, ◌≤◌, ◌-◌, ◌^◌, ℕ, List, [], ◌∷◌, ◌++◌, length}
+use Rattle.std.specs.List.{filter}
 use Rattle.model.specs.declared.refusals.Refusal.TheVariants.{Memory}
 use Rattle.model.specs.declared.replies.Entry.{Entry}
 use Rattle.model.specs.declared.replies.End.TheVariants.{Device}
@@ -10,6 +11,7 @@ use Rattle.model.specs.declared.replies.Who.{Who}
 use Rattle.model.specs.declared.steps.Step.{Step}
 use Rattle.model.specs.declared.steps.Step.TheVariants.{Open, Join, Post, Deliver, Flush, Checkpoint, Kill, Restart, Notice, Release, Status}
 use Rattle.model.specs.Failures.{HasRisen}
+use Rattle.model.specs.Steps.{is_device}
 use Rattle.shared_log.specs.Logged.{Logged}
 
 -- what a book is seen as: its history, and the log of all tenants
@@ -31,18 +33,28 @@ memory_reply (Notice tenant unit) = Refused Memory
 memory_reply (Release tenant unit) = Refused Memory
 memory_reply (Status tenant unit) = Refused Memory
 
--- The step was entered at the end with this reply. The device is said to have failed only where it did.
+-- The step was entered at the end with this reply. The device is said to have failed only where it did, and the count of its failures never falls.
 abbrev pub IsAdded : Ledger → Who → Step → Reply → Ledger → Type 0
 IsAdded before who step answer after =
     (said : Said)
     × (after.history ≡ before.history ++ record { who = who; step = step; said = said; reply = answer } ∷ [])
     × (said.end ≡ Device → HasRisen before.log.failures after.log.failures)
+    × (before.log.failures ≤ after.log.failures)
 
--- there was no memory for the step, and nothing changed
+-- there was no memory for the step, and nothing changed but that calls of the device may have failed
 abbrev pub IsForgone : Ledger → Step → Reply → Ledger → Type 0
 IsForgone before step answer after =
     (answer ≡ memory_reply step) × (after.history ≡ before.history) × (after.log.records ≡ before.log.records)
+    × (before.log.failures ≤ after.log.failures)
 
 -- one of the two
 abbrev pub IsEntered : Ledger → Who → Step → Reply → Ledger → Type 0
 IsEntered before who step answer after = IsAdded before who step answer after ⊎ IsForgone before step answer after
+
+-- how many of the entries say that the device failed
+abbrev pub devices : List Entry → ℕ
+devices history = length (filter (λ e. is_device e.said.end) history)
+
+-- They are no more than the failures that were counted, or that count is as great as it can be.
+abbrev pub CountsDevice : List Entry → ℕ → Type 0
+CountsDevice history failures = (devices history ≤ failures) ⊎ (2 ^ 64 - 1 ≤ failures)

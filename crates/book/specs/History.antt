@@ -1,5 +1,5 @@
 -- What a history makes of the tenants and of the log.
-use Rattle.std.specs.Prelude.{◌≡◌, ℕ, false, List, [], ◌∷◌, ◌++◌, Option, Some, None, option_map, bytes_eq}
+use Rattle.std.specs.Prelude.{◌≡◌, ◌≤◌, ℕ, false, List, [], ◌∷◌, ◌++◌, Option, Some, None, option_map, bytes_eq}
 use Rattle.std.specs.List.{flat_map}
 use Rattle.indexmap.specs.IndexMap.{IndexMap, get, keys}
 use Rattle.model.specs.Addresses.{addressed}
@@ -22,7 +22,8 @@ use Rattle.model.specs.declared.steps.TenantStep.{TenantStep}
 use Rattle.model.specs.declared.steps.TenantStep.TheVariants.{Open}
 use Rattle.shared_log.specs.Logged.{Grows, IsLeftOf, Logged}
 use Rattle.tenant.specs.Stands.{Kept, StandsAt, released_in}
-use Rattle.book.specs.Entries.{Ledger, IsEntered}
+use Rattle.book.specs.Entries.{CountsDevice, Ledger, IsEntered}
+use Rattle.book.specs.Keeping.{KeepsAt, KeepsOnAt, keeping_after}
 
 -- ---- tenants
 
@@ -99,14 +100,16 @@ StepsAt M tenant w k step said answer records =
     × (step_alone M w (record { step = step; said = said }) ≡ record { reply = answer; world = z })
     × StandsAt M tenant k z records
 
--- the log grew by what the store took during a step of the tenant, honestly (it may have forgotten others), and the device is said to have failed only where it did
+-- the log grew by what the store took during a step of the tenant, honestly (it may have forgotten others), the device is said to have failed only where it did, and the count of its failures never falls
 pub record LogsAt {S : Type 0} (M : Meaning S) (tenant : List ℕ) (w : Option World) (step : TenantStep) (said : Said) (before after : Logged) : Type 0 where
   pub honest : (grown : List Record) × Grows before.records grown after.records × IsHonestAt M tenant w step said grown
   pub device : said.end ≡ Device → HasRisen before.failures after.failures
+  pub up : before.failures ≤ after.failures
 
 -- the step of a tenant that may be unopened was done
 pub record DidAt {S : Type 0} (M : Meaning S) (tenant : List ℕ) (w : Option World) (step : TenantStep) (said : Said) (answer : Reply) (before after : Holding (Kept S)) : Type 0 where
   pub steps : StepsAt M tenant w (after.at tenant) step said answer after.log.records
+  pub keeps : KeepsOnAt M w (before.at tenant) (record { step = step; said = said }) (after.at tenant)
   pub logs : LogsAt M tenant w step said before.log after.log
   pub order : after.names ≡ before.names ++ opened_by tenant step answer
 
@@ -124,20 +127,29 @@ pub record IsAnswered {S : Type 0} (M : Meaning S) (step : Step) (said : Said) (
   pub others : (other : List ℕ) → bytes_eq other (addressed step).0 ≡ false → after.at other ≡ before.at other
   pub others_stand : KeepsOthers M (addressed step).0 before.log.records after.log.records
 
--- the tenants and the log's records are as they were
+-- the tenants and the log's records are as they were, and the count of the device's failures never falls
 pub record IsKept {K : Type 0} (before after : Holding K) : Type 0 where
   pub tenants : (tenant : List ℕ) → after.at tenant ≡ before.at tenant
   pub order : after.names ≡ before.names
   pub records : after.log.records ≡ before.log.records
+  pub up : before.log.failures ≤ after.log.failures
 
 -- ---- the whole book
 
--- the tenants and the log's records are what the history makes of them
+-- the tenants and the log's records are what the history makes of them, and of their past the tenants keep what the rules leave
 pub record IsReplay {S : Type 0} (M : Meaning S) (book : Holding (Kept S)) (history : List Entry) : Type 0 where
   pub stands : (tenant : List ℕ) → StandsAt M tenant (book.at tenant) (world_of M tenant history) book.log.records
+  pub keeps : (tenant : List ℕ) → KeepsAt (book.at tenant) (keeping_after M tenant history)
   pub order : book.names ≡ opened history
   pub legal : IsLegal M history
   pub recorded : IsRecordedIn M history book.log.records
+  pub device : CountsDevice history book.log.failures
+
+-- Where an entry was added, what the store said during its step is honest, where the log grew by these records (it may have forgotten others).
+abbrev pub IsSaidHonestly : {S : Type 0} → Meaning S → Ledger → Ledger → Type 0
+IsSaidHonestly M before after =
+    (e : Entry) → after.history ≡ before.history ++ e ∷ []
+    → (grown : List Record) × Grows before.log.records grown after.log.records × IsHonestAfter M before.history e grown
 
 -- the steps were entered in order, with these replies
 abbrev pub Ran : Ledger → List Step → List Reply → Ledger → Type 0

@@ -2,3 +2,4 @@ pub mod Entries
 pub mod History
 pub mod Certificates
 pub mod Commits
+pub mod Keeping

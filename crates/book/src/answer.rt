@@ -1,6 +1,6 @@
 //! The work of one step, whichever the tenant.
 
-ghost use Rattle.std.specs.Prelude.{◌≡◌, [], ◌∷◌, ◌++◌, ℕ, List, IfOk, IfNone, IfSome, OnOk, OnErr, Option, None, Some, false, bytes_eq};
+ghost use Rattle.std.specs.Prelude.{◌≡◌, ◌≤◌, [], ◌∷◌, ◌++◌, ℕ, List, IfOk, IfNone, IfSome, OnOk, OnErr, Option, None, Some, false, bytes_eq};
 ghost use Rattle.indexmap.specs.IndexMap.{IsUnchanged, get, keys};
 ghost use Rattle.model.specs.Addresses.{addressed};
 ghost use Rattle.model.specs.World.{World};
@@ -11,6 +11,7 @@ ghost use Rattle.tenant.specs.Stands.{IsOpened, StandsAt};
 ghost use Rattle.shared_log.specs.Logged.{Logged};
 ghost use Rattle.book.specs.Commits.{needs_at};
 ghost use Rattle.book.specs.Entries.{memory_reply as reply_of_memory};
+ghost use Rattle.book.specs.Keeping.{KeepsOnAt};
 ghost use Rattle.book.specs.History.{DidAt, IsAnswered, IsKept, KeepsOthers, LogsAt, StepsAt, holding, opened_by};
 
 use handler::{Ask, Done, Handler};
@@ -92,6 +93,7 @@ fn open_new<H: Handler>(
     requires { get bytes_eq tenants.old name.now ≡ None }
     ensures plain { IfOk result IsPlain }
     ensures opened { IfOk result (λ a. IsOpened H.meaning kinds.now quota optimism a.reply (get bytes_eq tenants.new name.now)) }
+    ensures keeps { IfOk result (λ a. KeepsOnAt H.meaning None None (record { step = TenantStep.Open kinds.now quota optimism; said = a.said }) (get bytes_eq tenants.new name.now)) }
     ensures names { IfOk result (λ a. keys tenants.new ≡ keys tenants.old ++ opened_by name.now (TenantStep.Open kinds.now quota optimism) a.reply) }
     ensures others { (t : List ℕ) → bytes_eq t name.now ≡ false → get bytes_eq tenants.new t ≡ get bytes_eq tenants.old t }
     ensures err { OnErr result (IsUnchanged tenants.old tenants.new) }
@@ -121,9 +123,11 @@ fn answer_open<H: Handler, S: Store>(
 ) -> Result<Answer, NoMemory>
     ensures kept { IfOk result (λ a. a.kept ≡ a.reply) }
     ensures steps { IfOk result (λ a. (w : Option World) → StandsAt H.meaning name.now (Some tenant.old) w log.old.records → StepsAt H.meaning name.now w (Some tenant.new) step a.said a.reply log.new.records) }
+    ensures keeps { IfOk result (λ a. (w : Option World) → StandsAt H.meaning name.now (Some tenant.old) w log.old.records → KeepsOnAt H.meaning w (Some tenant.old) (record { step = step; said = a.said }) (Some tenant.new)) }
     ensures logs { IfOk result (λ a. (w : Option World) → StandsAt H.meaning name.now (Some tenant.old) w log.old.records → LogsAt H.meaning name.now w step a.said log.old log.new) }
     ensures unopened { IfOk result (λ a. (w : Option World) → StandsAt H.meaning name.now (Some tenant.old) w log.old.records → opened_by name.now step a.reply ≡ []) }
     ensures others_stand { KeepsOthers H.meaning name.now log.old.records log.new.records }
+    ensures up { log.old.failures ≤ log.new.failures }
     ensures err { OnErr result (tenant.new ≡ tenant.old) }
     ensures err_log { OnErr result (log.new.records ≡ log.old.records) }
 {
@@ -204,9 +208,11 @@ fn answer_open_with<H: Handler, S: Store>(
     ensures fresh { IfOk result (λ o. (w : Option World) → StandsAt H.meaning name.now (Some tenant.old) w log.old.records → WasFresh (needs_at H.meaning w step) worked.input o) }
     ensures kept { IfOk result (λ o. IfSome o (λ a. a.kept ≡ a.reply)) }
     ensures steps { IfOk result (λ o. IfSome o (λ a. (w : Option World) → StandsAt H.meaning name.now (Some tenant.old) w log.old.records → StepsAt H.meaning name.now w (Some tenant.new) step a.said a.reply log.new.records)) }
+    ensures keeps { IfOk result (λ o. IfSome o (λ a. (w : Option World) → StandsAt H.meaning name.now (Some tenant.old) w log.old.records → KeepsOnAt H.meaning w (Some tenant.old) (record { step = step; said = a.said }) (Some tenant.new))) }
     ensures logs { IfOk result (λ o. IfSome o (λ a. (w : Option World) → StandsAt H.meaning name.now (Some tenant.old) w log.old.records → LogsAt H.meaning name.now w step a.said log.old log.new)) }
     ensures unopened { IfOk result (λ o. IfSome o (λ a. (w : Option World) → StandsAt H.meaning name.now (Some tenant.old) w log.old.records → opened_by name.now step a.reply ≡ [])) }
     ensures others_stand { KeepsOthers H.meaning name.now log.old.records log.new.records }
+    ensures up { log.old.failures ≤ log.new.failures }
     ensures stale { IfOk result (λ o. IfNone o (tenant.new ≡ tenant.old)) }
     ensures stale_log { IfOk result (λ o. IfNone o (log.new ≡ log.old)) }
     ensures err { OnErr result (tenant.new ≡ tenant.old) }

@@ -6,14 +6,15 @@ ghost use Rattle.model.specs.History.{IsLegal, own, pairs, replies_to};
 ghost use Rattle.model.specs.declared.replies.Who.TheVariants.{Caller};
 ghost use Rattle.book.specs.Certificates.{CertifiesAt, IsHeadline, certificate_at, seats_at};
 ghost use Rattle.book.specs.Commits.{Commits, needed};
-ghost use Rattle.book.specs.Entries.{IsEntered};
-ghost use Rattle.book.specs.History.{IsIsolated, IsRecordedIn, Ran, opened, released_at, table_at, world_of};
+ghost use Rattle.book.specs.Entries.{CountsDevice, IsEntered};
+ghost use Rattle.book.specs.Keeping.{kept_after};
+ghost use Rattle.book.specs.History.{IsIsolated, IsRecordedIn, IsSaidHonestly, Ran, opened, released_at, table_at, world_of};
 
 use crate::answer::{Tenants, answer, answer_with, ask, memory_reply};
 use crate::committed::Committed;
 use handler::{Ask, Done, Handler};
 use indexmap::IndexMap;
-use model::{Entry, Move, NoMemory, Reply, Row, Seat, Step, TenantName, Text, Unit, Who};
+use model::{Entry, Kept, Move, NoMemory, Reply, Row, Seat, Step, TenantName, Text, Unit, Who};
 use shared_log::{SharedLog, Store};
 use std::alloc::Global;
 use std::marker::Model;
@@ -61,11 +62,12 @@ impl<H: Handler, S: Store> Book<H, S> {
 
     /// The entries, in order. To each tenant the replies are those that it gets alone, and the
     /// records of the log are those that the entries acknowledged, honestly, but for the places whose
-    /// records were forgotten.
+    /// records were forgotten. No more entries say that the device failed than it counted failures.
     pub fn history(&self) -> &[Entry]
         ensures entries { result.now ≡ self.now.history }
         ensures legal { IsLegal H.meaning self.now.history }
         ensures recorded { IsRecordedIn H.meaning self.now.history self.now.log.records }
+        ensures device { CountsDevice self.now.history self.now.log.failures }
     {
         self.history.as_slice()
     }
@@ -76,7 +78,8 @@ impl<H: Handler, S: Store> Book<H, S> {
     /// record), it is not entered, and history, tenants and records are as they were. A flush that
     /// is stopped later has had its effect, and is entered.
     pub fn step_as(&mut self, who: Who, step: Step) -> Reply
-        ensures { IsEntered self.old who step result self.new }
+        ensures entered { IsEntered self.old who step result self.new }
+        ensures honest { IsSaidHonestly H.meaning self.old self.new }
     {
         if reserve_place(&mut self.history).is_err() {
             return memory_reply(&step);
@@ -110,7 +113,8 @@ impl<H: Handler, S: Store> Book<H, S> {
     /// whole input (seat, state, source and text). Where there is no memory for it the answer is as
     /// that of `step_as`.
     pub fn step_with(&mut self, who: Who, step: Step, worked: Done<H>) -> Committed
-        ensures { Commits H.meaning self.old who step worked.input result self.new }
+        ensures commits { Commits H.meaning self.old who step worked.input result self.new }
+        ensures honest { IsSaidHonestly H.meaning self.old self.new }
     {
         if reserve_place(&mut self.history).is_err() {
             return Committed::Reply(memory_reply(&step));
@@ -132,7 +136,8 @@ impl<H: Handler, S: Store> Book<H, S> {
 
     /// Does a step of a caller, and enters it with its reply, as `step_as` does.
     pub fn step(&mut self, step: Step) -> Reply
-        ensures { IsEntered self.old Caller step result self.new }
+        ensures entered { IsEntered self.old Caller step result self.new }
+        ensures honest { IsSaidHonestly H.meaning self.old self.new }
     {
         self.step_as(Who::Caller, step)
     }
@@ -201,6 +206,17 @@ impl<H: Handler, S: Store> Book<H, S> {
     {
         match self.tenants.get(tenant) {
             Some(open) => Some(open.rollbacks()),
+            None => None,
+        }
+    }
+
+    /// How much the book keeps of the past of a unit of the tenant, if the tenant is open and has the unit: what the
+    /// rules of keeping leave of the tenant's own entries. Takes no memory, and time by the number of its letters.
+    pub fn kept(&self, tenant: &TenantName, unit: Unit) -> Option<Kept>
+        ensures { result ≡ kept_after H.meaning tenant.now self.now.history unit }
+    {
+        match self.tenants.get(tenant) {
+            Some(open) => open.kept(unit),
             None => None,
         }
     }

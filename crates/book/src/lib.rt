@@ -14,16 +14,17 @@
 //!   worked beside the book, and is taken only if the step still needs that very input.
 //! - `Book::history` gives the entries. They are legal, and what the store said in them is honest.
 //! - `Book::tenants`, `replies_of`, `released` and `rollbacks` read what the history says of a
-//!   tenant.
+//!   tenant, and `Book::kept` how much of a unit's past is kept.
 //! - `isolated` is the law that tenants are isolated: the replies to a tenant and its world follow
 //!   from its own entries alone, whatever the other tenants do.
 //! - `Book::certificate` and `Book::seats` show what was released: a run without failures, for an
 //!   auditor. `headline` says what follows of isolation and certificate together.
-//! - `Step`, `Reply`, `Who`, `Entry` with `Said` and `End`, and `Move` are those of `model`.
+//! - `Step`, `Reply`, `Who`, `Entry` with `Said` and `End`, `Move` and `Kept` are those of `model`.
 //!
-//! The words of the contracts are in `specs/`: `Entries` says how a step is entered, and `History`
-//! what a history makes of tenants and log. The work of one step is `answer::answer`, and the lemma
-//! `entered` of `proofs/Replays` shows that the book is still the replay of its history after it.
+//! The words of the contracts are in `specs/`: `Entries` says how a step is entered, `History` what a
+//! history makes of tenants and log, and `Keeping` what it leaves of their past. The work of one step
+//! is `answer::answer`, and the lemma `entered` of `proofs/Replays` shows that the book is still the
+//! replay of its history after it.
 //!
 //! For a host that does steps by calls, and for whoever relies on what was released. A caller:
 //!
@@ -46,4 +47,4 @@ mod committed;
 
 pub use book::{Book, headline, isolated};
 pub use committed::Committed;
-pub use model::{End, Entry, Move, Reply, Said, Step, Who};
+pub use model::{End, Entry, Kept, Move, Reply, Said, Step, Who};

@@ -3,6 +3,7 @@
 
 use crate::audits::audit_all;
 use crate::journal_file::JournalFile;
+use crate::kept::tell_kept;
 use crate::run::{BLOCK, answer_all};
 use crate::words::RunWords;
 use book::Book;
@@ -97,6 +98,7 @@ fn go_on<L: Log, R: Read + Drop, W: Write>(
     match answer_all(told, alloc, &mut reader, writer, book, explained) {
         Ok(count) => {
             info!(told; "lines answered: {count}, behind {lines} of the journal");
+            tell_kept(told, book, asked.talk);
             Ok(())
         }
         Err(fault) => Err(stop_at_input(reader.inner.get_ref(), fault, lines)),

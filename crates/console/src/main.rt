@@ -19,6 +19,7 @@ mod explained;
 mod feeds;
 mod journal_file;
 mod journaled_run;
+mod kept;
 mod log_file;
 mod progress;
 mod run;

@@ -4,6 +4,7 @@ ghost use Rattle.std.specs.Prelude.{◌≡◌, []};
 
 use crate::audits::audit_all;
 use crate::explained::serve_explained;
+use crate::kept::tell_kept;
 use crate::words::RunWords;
 use book::Book;
 use handler::Sample;
@@ -45,6 +46,7 @@ pub(crate) fn run_on<L: Log, R: Read + Drop, W: Write + Drop, S: Store>(
     let status = match answer_all(rt, alloc, &mut reader, &mut writer, &mut book, explained) {
         Ok(count) => {
             info!(rt; "lines answered: {count}");
+            tell_kept(rt, &book, asked.talk);
             if asked.audit {
                 audit_all(rt, alloc, &mut writer.inner, &book)
             } else {

@@ -1,13 +1,15 @@
 -- What is found on a shelf on which the last interval was put.
-use Rattle.std.proofs.Common.{◌≡◌, ◌⊎◌, inl, inr, refl, ap, ℕ, zero, suc, ◌≤◌, Bool, true, false, cond, List, ◌∷◌, ◌++◌, [], length, arith}
+use Rattle.std.proofs.Common.{◌≡◌, ◌⊎◌, inl, inr, refl, ap, ℕ, zero, suc, ◌≤◌, ◌^◌, Bool, true, false, cond, List, ◌∷◌, ◌++◌, [], length, arith}
 use Rattle.std.specs.Prelude.{Option, Some, None, slice_get, nat_lt, option_map}
 use Rattle.std.specs.List.{list_any, remove}
 use Rattle.std.specs.Option.{is_some, option_map_or}
+use Rattle.std.proofs.lemmas.Option.{slice_get_within}
+use Rattle.model.proofs.Places.{get_below}
 use Rattle.theory.proofs.ListLaws.{any_at, append_get, append_get_last, bool_cases, eq_true, or_cases}
 use Rattle.checkpoint.specs.declared.snapshot.Snapshot.{Snapshot}
 use Rattle.checkpoint.specs.Shelves.{Shelved, Rises, IsShelved, IsTop, has_index, is_at, nearest_of, put_on, with_room}
 use Rattle.checkpoint.proofs.Nearest.{nearest_some, nearest_none}
-use Rattle.rollback.specs.Units.{KeepsShelved, shelf_with}
+use Rattle.rollback.specs.Units.{IsKept, KeepsShelved, Recovering, shelf_with}
 use Rattle.rollback.proofs.Keeping.{put_rises}
 
 -- a snapshot of its own index is the nearest to it, or one of the same index is
@@ -77,3 +79,29 @@ put_keeps {P} s x = go (has_index s x.index)
 pub shelved_keeps : {P : Type 0} (s : Shelved P) (index : ℕ) (o : Option P) → KeepsShelved s (shelf_with s index o)
 shelved_keeps s index None = record { base = refl; others = λ y there. inl there }
 shelved_keeps {P} s index (Some p) = put_keeps s (record { index = index; state = p })
+
+-- ---- how many there are
+
+-- indices rise, so each is at least its place
+at_least : {P : Type 0} (base : Option (Snapshot P)) (others : List (Snapshot P)) → Rises base others → (i : ℕ) (x : Snapshot P) → slice_get others i ≡ Some x → i ≤ x.index
+at_least base others r zero x e = omega arith
+at_least base others r (suc i) x e =
+    let within = slice_get_within others (suc i) x e in
+    let y = get_below others i (omega (arith, within)) in
+    let low = at_least base others r i y.0 y.1 in
+    let less = r.rising i (suc i) y.0 x (omega arith) y.1 e in
+    omega (arith, low, less)
+
+-- so there are no more than a path can have intervals
+pub few_others : {S : Type 0} (u : Recovering S) → IsKept u → length u.shelf.others ≤ 2 ^ 32
+few_others {S} u k = go (length u.shelf.others) refl
+  where
+    go : (n : ℕ) → length u.shelf.others ≡ n → length u.shelf.others ≤ 2 ^ 32
+    go zero e = omega (arith, e)
+    go (suc n) e =
+        let x = get_below u.shelf.others n (omega (arith, e)) in
+        let low = at_least u.shelf.base u.shelf.others k.rises n x.0 x.1 in
+        let top = k.top x.0 (inr (n, x.1)) in
+        let few = k.few in
+        let stable = k.stable in
+        omega (arith, e, low, top, few, stable)

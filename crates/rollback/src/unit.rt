@@ -165,6 +165,15 @@ impl<H: Handler> RecoveryUnit<H> {
         self.shelf.has(index)
     }
 
+    /// How many snapshots are shelved beside the base. Their indices rise, so there are no more of them than a path
+    /// can have intervals.
+    pub fn shelved(&self) -> usize
+        ensures count { result ≡ length self.now.shelf.others }
+        ensures few { result ≤ 2 ^ 32 }
+    {
+        self.shelf.len()
+    }
+
     /// The whole input of the unit's turn upon a receipt from this source, where the unit is up.
     ///
     /// # Errors

@@ -4,7 +4,7 @@
 use anyhow::bail;
 use audit::{Verdict, check};
 use auditor::{audit_line, audit_tenant, can_check};
-use book::{Book, Committed};
+use book::{Book, Committed, Kept};
 use handler::{Done, Sample};
 use lines::{Counted, ServeFault, read_step, serve, write_reply};
 use model::{Entry, Flaw, Move, Reply, Row, Seat, Step, TenantName, Text, Texts, Unit, Who};
@@ -52,6 +52,14 @@ pub(crate) fn released<'a>(book: &'a Books, name: &TenantName, number: u8) -> Op
 
 pub(crate) fn rollbacks<'a>(book: &'a Books, name: &TenantName) -> Option<&'a [Row]> {
     book.rollbacks(name)
+}
+
+pub(crate) fn kept<S: Store>(
+    book: &Book<Sample, S>,
+    name: &TenantName,
+    number: u8,
+) -> Option<Kept> {
+    book.kept(name, Unit::new(number))
 }
 
 pub(crate) fn seats(book: &Books, name: &TenantName) -> anyhow::Result<Vec<Seat>> {

@@ -5,6 +5,7 @@
 //! N bytes. All other lines are steps.
 
 use crate::answers::{answer, push_reply};
+use crate::kept::push_kept;
 use book::Book;
 use handler::Sample;
 use model::{Refusal, Reply};
@@ -65,16 +66,20 @@ fn replies<S: Store>(
     Ok(text)
 }
 
-/// What a row came to where the step that the store refused was given again.
+/// What a row came to where a step that was refused for the store, or for want of memory, was given
+/// again.
 #[derive(Drop)]
-struct Again {
-    replies: String,
-    refused: bool,
+pub(crate) struct Again {
+    pub(crate) replies: String,
+    pub(crate) refused: bool,
 }
 
 impl Again {
-    /// Adds the reply to a line. A flush that the store stopped counts what both times logged.
+    /// Adds what comes out for a line. A flush that was stopped counts what both times logged.
     fn add(&mut self, alloc: Global, book: &mut Books, line: &str) -> anyhow::Result<()> {
+        if let Some(unit) = line.strip_prefix("kept ") {
+            return push_kept(alloc, &mut self.replies, book, unit);
+        }
         let first = answer(alloc, book, line)?;
         let reply = match logged_before(&first) {
             Some(count) => {
@@ -87,15 +92,15 @@ impl Again {
     }
 }
 
-/// How many records a step had logged when the store failed it, if it did.
+/// How many records a step had logged when it was refused for the store, or for want of memory, if it was.
 fn logged_before(reply: &Reply) -> Option<u64> {
     match reply {
         Reply::Stopped {
             count,
-            refusal: Refusal::Store,
+            refusal: Refusal::Store | Refusal::Memory,
         } => Some(*count),
         Reply::Refused {
-            refusal: Refusal::Store,
+            refusal: Refusal::Store | Refusal::Memory,
         } => Some(0),
         _ => None,
     }
@@ -127,6 +132,11 @@ fn given_again(
         all.add(alloc, &mut book, line)?;
     }
     Ok(all)
+}
+
+/// What the steps come to over a store that never fails.
+pub(crate) fn once(alloc: Global, lines: &str) -> anyhow::Result<Again> {
+    given_again(alloc, lines, Vec::new(alloc), Vec::new(alloc))
 }
 
 /// What the steps come to over a store that fails one append or one fetch, of this number.

@@ -8,7 +8,11 @@
 //! For a name that begins with `turns-` the lines also tell which turns are worked beside
 //! the book, and for one that begins with `fails-` which calls of the store fail. Those of
 //! `certified-` show seats, moves and audits, those of `told-` what a book tells of its tenants and
-//! entries, and those of `audited-` are audits of lists from anywhere.
+//! entries, those of `kept-` how much of a unit's past is kept, and those of `audited-` are audits of
+//! lists from anywhere.
+//!
+//! `once NAME` does the steps of a row of `kept-` once, over a store that never fails, and tells
+//! whether some step found no memory.
 #![tactic(auto)]
 
 mod answers;
@@ -17,6 +21,7 @@ mod beside;
 mod calls;
 mod certified;
 mod failing;
+mod kept;
 mod told;
 mod turned;
 
@@ -24,7 +29,7 @@ use audited::audited;
 use beside::{every, with_noise};
 use calls::{new_book, serve_all};
 use certified::certified;
-use failing::{failed, survives_each};
+use failing::{failed, once, survives_each};
 use lines::Counted;
 use std::alloc::Global;
 use std::fs;
@@ -42,8 +47,9 @@ fn main(rt: HostRuntime) -> anyhow::Result<()> {
 
 /// How a row came out.
 fn verdict(rt: &HostRuntime, name: &str) -> anyhow::Result<&'static str> {
-    let steps = fs::read_to_string(rt, format!(in rt.alloc(); "{name}.steps")?)?;
-    let replies = fs::read_to_string(rt, format!(in rt.alloc(); "{name}.replies")?)?;
+    let row = name.strip_prefix("once ").unwrap_or(name);
+    let steps = fs::read_to_string(rt, format!(in rt.alloc(); "{row}.steps")?)?;
+    let replies = fs::read_to_string(rt, format!(in rt.alloc(); "{row}.replies")?)?;
     row_verdict(rt.alloc(), name, steps.as_str(), replies.as_str())
 }
 
@@ -54,7 +60,11 @@ fn row_verdict(
     steps: &str,
     replies: &str,
 ) -> anyhow::Result<&'static str> {
-    if name.starts_with("turns-") {
+    if name.starts_with("once ") {
+        once_verdict(alloc, steps, replies)
+    } else if name.starts_with("kept-") {
+        kept_verdict(alloc, steps, replies)
+    } else if name.starts_with("turns-") {
         turned_verdict(alloc, steps, replies)
     } else if name.starts_with("fails-") {
         failed_verdict(alloc, steps, replies)
@@ -67,6 +77,25 @@ fn row_verdict(
     } else {
         worked_verdict(alloc, steps, replies)
     }
+}
+
+fn once_verdict(alloc: Global, steps: &str, replies: &str) -> anyhow::Result<&'static str> {
+    let all = once(alloc, steps)?;
+    Ok(if all.replies.as_str() != replies {
+        "what is kept differs"
+    } else if all.refused {
+        "what is kept is as it must be, and a step found no memory"
+    } else {
+        "what is kept is as it must be, and each step found memory"
+    })
+}
+
+fn kept_verdict(alloc: Global, steps: &str, replies: &str) -> anyhow::Result<&'static str> {
+    Ok(if survives_each(alloc, steps, replies)? {
+        "what is kept is as it must be, also where any append or fetch fails"
+    } else {
+        "what is kept differs"
+    })
 }
 
 fn turned_verdict(alloc: Global, steps: &str, replies: &str) -> anyhow::Result<&'static str> {

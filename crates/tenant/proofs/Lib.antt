@@ -36,3 +36,4 @@ pub mod Fresh
 pub mod Reading
 pub mod Certifying
 pub mod Standing
+mod Counted

@@ -1,5 +1,8 @@
 -- What a tenant keeps of its world's past.
-use Rattle.std.specs.Prelude.{◌≡◌, ℕ, suc, ◌++◌, ◌∷◌, [], true, false, List, length, map, take, Option, Some, None, slice_get, is_none}
+use Rattle.std.specs.Prelude.{◌≡◌, ℕ, suc, ◌+◌, ◌++◌, ◌∷◌, ◌==◌, ◌&&◌, [], Bool, true, false, cond, List, length, map, take, Option, Some, None, option_map, slice_get, is_none}
+use Rattle.std.specs.List.{filter}
+use Rattle.std.specs.Option.{is_some}
+use Rattle.model.specs.declared.kept.Kept.{Kept as Amount}
 use Rattle.model.specs.declared.replies.Reply.{Reply}
 use Rattle.model.specs.declared.replies.Said.{Said}
 use Rattle.model.specs.declared.steps.TenantStep.{TenantStep}
@@ -10,7 +13,7 @@ use Rattle.model.specs.Keeping.{Shelf, after_open, all_based, based, changed, fi
 use Rattle.model.specs.World.{Member as MemberOf, World}
 use Rattle.compact.specs.Compact.{Letter}
 use Rattle.rollback.specs.Units.{Recovering}
-use Rattle.tenant.specs.Kept.{Kept, Member}
+use Rattle.tenant.specs.Kept.{Kept, Member, live_count}
 use Rattle.tenant.specs.Outcomes.{done}
 use Rattle.tenant.specs.Stands.{Stands}
 
@@ -63,3 +66,20 @@ based_one w u (Some m) shelves = changed (based (firm_length w m)) u shelves
 -- The bases of all units moved as far as they are firm.
 abbrev pub Bases : {S : Type 0} → Meaning S → List ℕ → Kept S → List (Option Record) → Kept S → Type 0
 Bases M name t records v = (w : World) (shelves : List Shelf) → Stands M name t w records → KeepsPast t w shelves → KeepsPast v w (all_based w w.members shelves)
+
+-- ---- how much that is
+
+-- the letter is to this unit, and has its content
+abbrev pub is_whole_to : ℕ → Letter → Bool
+is_whole_to u c = (c.receiver == u) && is_some c.content
+
+-- how many checkpoints a unit has: a base at the beginning is none
+abbrev pub shelved_count : {S : Type 0} → Recovering S → ℕ
+shelved_count r = length r.shelf.others + cond (r.base == 0) 0 1
+
+abbrev pub amount_of : {S : Type 0} → List Letter → ℕ → Member S → Amount
+amount_of letters u m = record { records = live_count m.recovering; shelved = shelved_count m.recovering; letters = length (filter (is_whole_to u) letters) }
+
+-- how much is kept of this unit's past, if the unit is there
+abbrev pub kept_by : {S : Type 0} → Kept S → ℕ → Option Amount
+kept_by t u = option_map (amount_of t.letters u) (slice_get t.members u)

@@ -75,6 +75,7 @@ fn append_all<H: Handler, S: Store>(
     ensures within { result.appended ≤ length recovering.now.volatile }
     ensures whole { (result.end ≡ Whole) ↔ (result.appended ≡ length recovering.now.volatile) }
     ensures device { result.end ≡ Device → HasRisen log.old.failures log.new.failures }
+    ensures up { log.old.failures ≤ log.new.failures }
 {
     for i in 0..recovering.volatile_count() {
         match append_at(tenant, recovering, i, log) {
@@ -191,6 +192,7 @@ impl<H: Handler> Tenant<H> {
         ensures keeps_on { IfOk result (λ a. KeepsOn H.meaning tenant.now self.old (Flush unit) a.said a.reply self.new log.old.records) }
         // What other tenants stand for stays.
         ensures others { (k : Kept H.State) (w : World) (other : List ℕ) → bytes_eq other tenant.now ≡ false → Stands H.meaning other k w log.old.records → Stands H.meaning other k w log.new.records }
+        ensures up { log.old.failures ≤ log.new.failures }
         ensures err { OnErr result (self.new ≡ self.old) }
         ensures err_log { OnErr result (log.new.records ≡ log.old.records) }
     {

@@ -24,9 +24,9 @@
 //! - `receipts`: what a receipt makes (what refuses one: `unit_steps`, `refusals`); `returning`: a unit goes back;
 //!   `forgetting`: what is firm for good is given up; `waiting`, `releasing`: outputs that wait, and those on their way
 //!   out.
-//! - `reads`, `certifies`: what whoever stands above reads off a tenant.
+//! - `reads`, `certifies`, `kept`: what whoever stands above reads off a tenant.
 //! - `laws`: what holds over time of the worlds that a tenant stands for.
-//! - `TenantStep` and `Reply` are those of `model`.
+//! - `TenantStep`, `Reply` and `Kept` are those of `model`.
 //!
 //! Contracts see the tenant as `Kept` of `specs/Kept`. `specs/Represents` says which world that is over a whole log, and
 //! what a step does whatever the log; `specs/Stands` says it over a log that may have forgotten records, and
@@ -60,6 +60,7 @@ mod deliver;
 mod flush;
 mod forgetting;
 mod join;
+mod kept;
 mod kill;
 pub mod laws;
 mod member;
@@ -79,5 +80,5 @@ mod tenant;
 mod waiting;
 
 pub use answer::Answer;
-pub use model::{Reply, TenantStep};
+pub use model::{Kept, Reply, TenantStep};
 pub use tenant::Tenant;

@@ -12,6 +12,7 @@ ghost use Rattle.rollback.specs.Units.{IsKept, IsTarget, OrphansAreTail, places,
 ghost use Rattle.session.specs.Counts.{widened};
 ghost use Rattle.rollback_laws.specs.Seen.{IsSeen};
 ghost use Rattle.tenant.specs.Bases.{next_base, rebased_member};
+ghost use Rattle.tenant.specs.Keeping.{shelved_count};
 ghost use Rattle.tenant.specs.Kept.{begun_member, checkpointed_member, firm_texts, flushed_member, killed_member, outputs_to, released_member, fitted_member, kept_length, live_count, returned_member, IsNext, received_member};
 
 use crate::waiting::Waiting;
@@ -320,6 +321,18 @@ impl<H: Handler> Member<H> {
     {
         let stable = self.stable_count().saturating_sub(1);
         stable.saturating_sub(u64::from(self.recovering.base())) as usize
+    }
+
+    /// How many checkpoints it has, with its base where that is not its beginning.
+    pub(crate) fn shelved_count(&self) -> usize
+        ensures { result ≡ shelved_count self.now.recovering }
+    {
+        let others = self.recovering.shelved();
+        if self.recovering.base() == 0 {
+            others
+        } else {
+            others + 1
+        }
     }
 
     /// Its progress at the target, by replay of these records and then of its own volatile ones.

@@ -1,6 +1,6 @@
 //! The step `notice`.
 
-ghost use Rattle.std.specs.Prelude.{◌≡◌, ◌<◌, IfOk, OnErr, List, ℕ, Some, ◌+◌, false, bytes_eq, length, nat_le, slice_get, slice_set};
+ghost use Rattle.std.specs.Prelude.{◌≡◌, ◌≤◌, ◌<◌, IfOk, OnErr, List, ℕ, Some, ◌+◌, false, bytes_eq, length, nat_le, slice_get, slice_set};
 ghost use Rattle.rollback.specs.Units.{places};
 ghost use Rattle.model.specs.World.{World};
 ghost use Rattle.model.specs.declared.steps.TenantStep.TheVariants.{Notice};
@@ -64,6 +64,7 @@ impl<H: Handler> Tenant<H> {
         ensures shelves { IfOk result (λ a. Shelves (after_return unit a.reply) self.old self.new) }
         // What other tenants stand for stays.
         ensures others { (k : Kept H.State) (w : World) (other : List ℕ) → bytes_eq other tenant.now ≡ false → Stands H.meaning other k w log.old.records → Stands H.meaning other k w log.new.records }
+        ensures up { log.old.failures ≤ log.new.failures }
         ensures err { OnErr result (self.new ≡ self.old) }
         ensures err_log { OnErr result (log.new.records ≡ log.old.records) }
     {

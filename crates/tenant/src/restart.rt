@@ -1,6 +1,6 @@
 //! The step `restart`.
 
-ghost use Rattle.std.specs.Prelude.{◌≡◌, ◌<◌, IfNone, IfOk, OnErr, List, ℕ, false, bytes_eq, length, slice_get};
+ghost use Rattle.std.specs.Prelude.{◌≡◌, ◌≤◌, ◌<◌, IfNone, IfOk, OnErr, List, ℕ, false, bytes_eq, length, slice_get};
 ghost use Rattle.model.specs.World.{World, incarnation_of};
 ghost use Rattle.model.specs.declared.steps.TenantStep.TheVariants.{Restart};
 ghost use Rattle.model.specs.Keeping.{after_return};
@@ -54,6 +54,7 @@ impl<H: Handler> Tenant<H> {
         ensures shelves { IfOk result (λ a. Shelves (after_return unit a.reply) self.old self.new) }
         // What other tenants stand for stays.
         ensures others { (k : Kept H.State) (w : World) (other : List ℕ) → bytes_eq other tenant.now ≡ false → Stands H.meaning other k w log.old.records → Stands H.meaning other k w log.new.records }
+        ensures up { log.old.failures ≤ log.new.failures }
         ensures err { OnErr result (self.new ≡ self.old) }
         ensures err_log { OnErr result (log.new.records ≡ log.old.records) }
     {

@@ -69,6 +69,7 @@ fn cut_behind<S: Store>(
     ensures own { places_of tenant.now unit log.new ≡ take (skipped + keep) (places_of tenant.now unit log.old) }
     ensures others { OthersKept tenant.now unit log.old log.new }
     ensures grows { Grows log.old.records [] log.new.records }
+    ensures failures { log.new.failures ≡ log.old.failures }
 {
     let count = log.of(tenant, unit).len();
     if keep < count.saturating_sub(skipped) {
@@ -159,6 +160,7 @@ impl<H: Handler> Tenant<H> {
         ensures records { log.new.records ≡ log.old.records }
         ensures replayed { IfOk result (λ p. IsReplayed H.meaning log.old.records (places_of tenant.now unit log.old) member.now.recovering target (length self.now.members) p) }
         ensures device { result ≡ Err StoreFault.Device → HasRisen log.old.failures log.new.failures }
+        ensures up { log.old.failures ≤ log.new.failures }
     {
         let (first, last) = member.needed(target);
         let skipped = count_before(tenant, unit, member.live_count(), log);
@@ -224,6 +226,7 @@ impl<H: Handler> Tenant<H> {
         ensures kept { IfOk result (λ a. a.kept ≡ a.reply) }
         ensures returns { IfOk result (λ a. (m : MemberOf H.State) → slice_get self.old.members unit ≡ Some m → Returns H.meaning tenant.now self.old unit m target reply a self.new log.old log.new) }
         ensures beside { IfOk result (λ _. Grows log.old.records [] log.new.records × OthersKept tenant.now unit log.old log.new) }
+        ensures up { log.old.failures ≤ log.new.failures }
         ensures err { OnErr result (self.new ≡ self.old) }
         ensures err_log { OnErr result (log.new.records ≡ log.old.records) }
     {

@@ -1,6 +1,6 @@
 //! One step of an open tenant.
 
-ghost use Rattle.std.specs.Prelude.{◌≡◌, IfNone, IfOk, IfSome, OnErr, List, ℕ, false, bytes_eq};
+ghost use Rattle.std.specs.Prelude.{◌≡◌, ◌≤◌, IfNone, IfOk, IfSome, OnErr, List, ℕ, false, bytes_eq};
 ghost use Rattle.model.specs.World.{World};
 ghost use Rattle.tenant.specs.Keeping.{KeepsOn};
 ghost use Rattle.tenant.specs.Kept.{Kept};
@@ -31,6 +31,8 @@ impl<H: Handler> Tenant<H> {
         ensures keeps_on { IfOk result (λ a. KeepsOn H.meaning name.now self.old step a.said a.reply self.new log.old.records) }
         // What other tenants stand for stays.
         ensures others { (k : Kept H.State) (w : World) (other : List ℕ) → bytes_eq other name.now ≡ false → Stands H.meaning other k w log.old.records → Stands H.meaning other k w log.new.records }
+        // The count of the device's failures never falls.
+        ensures up { log.old.failures ≤ log.new.failures }
         ensures err { OnErr result (self.new ≡ self.old) }
         ensures err_log { OnErr result (log.new.records ≡ log.old.records) }
     {
@@ -71,6 +73,8 @@ impl<H: Handler> Tenant<H> {
         ensures stale_log { IfOk result (λ o. IfNone o (log.new ≡ log.old)) }
         // What other tenants stand for stays.
         ensures others { (k : Kept H.State) (w : World) (other : List ℕ) → bytes_eq other name.now ≡ false → Stands H.meaning other k w log.old.records → Stands H.meaning other k w log.new.records }
+        // The count of the device's failures never falls.
+        ensures up { log.old.failures ≤ log.new.failures }
         ensures err { OnErr result (self.new ≡ self.old) }
         ensures err_log { OnErr result (log.new.records ≡ log.old.records) }
     {

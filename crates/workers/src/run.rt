@@ -2,6 +2,7 @@
 
 ghost use Rattle.std.specs.Prelude.{◌≡◌, ◌<◌, ◌^◌, [], IfOk, length, map, vec_len};
 ghost use denote.Param.Send.{IsSend};
+ghost use Rattle.book.specs.Entries.{CountsDevice};
 ghost use Rattle.book.specs.History.{IsRecordedIn};
 ghost use Rattle.model.specs.History.{IsLegal};
 ghost use Rattle.workers.specs.Interleaves.{HasReceipts, Interleaves};
@@ -142,6 +143,7 @@ fn gather<H: Handler, S: Store>(
     ensures interleaves { IfOk result (λ c. Interleaves (map (λ f. f.items) feeds.now) c.history) }
     ensures legal { IfOk result (λ c. IsLegal H.meaning c.history) }
     ensures recorded { IfOk result (λ c. IsRecordedIn H.meaning c.history c.log.records) }
+    ensures device { IfOk result (λ c. CountsDevice c.history c.log.failures) }
     ensures same { IfOk result (λ c. c ≡ book) }
     ensures received { IfOk result (λ c. HasReceipts (length feeds.now) (map (λ r. r.items) receipts.now) c.history) }
 {
@@ -163,7 +165,8 @@ fn gather<H: Handler, S: Store>(
 /// step, and at the end these receipts are compared with the history's replies to the feed.
 ///
 /// On `Ok` the history is legal, holds each step of each feed once, in its feed's order, and between
-/// them flushes by the logger alone. `NoMemory` comes where there was none for a list, or for a step
+/// them flushes by the logger alone; and no more entries say that the device failed than it counted
+/// failures. `NoMemory` comes where there was none for a list, or for a step
 /// of a feed; `NoThread` where a thread can't be started; `Unmatched` where the history isn't that
 /// of the feeds, or a receipt isn't in it as its feed has it. There is no book then.
 pub fn run_feeds<
@@ -184,6 +187,7 @@ pub fn run_feeds<
     ensures interleaves { IfOk result (λ c. Interleaves (map (λ f. f.items) feeds.items) c.history) }
     ensures legal { IfOk result (λ c. IsLegal H.meaning c.history) }
     ensures recorded { IfOk result (λ c. IsRecordedIn H.meaning c.history c.log.records) }
+    ensures device { IfOk result (λ c. CountsDevice c.history c.log.failures) }
 {
     let shared = Mutex::new(Book::new(alloc, handler, store));
     let receipts = do_all(rt, alloc, handler, &shared, feeds.as_slice(), gate)?;

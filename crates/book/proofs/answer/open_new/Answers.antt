@@ -1,10 +1,14 @@
 use Rattle.std.proofs.Common.{◌≡◌, ◌++◌, ◌∷◌, [], ℕ, List, false, bytes_eq, ap, sym, subst, ◌∙◌}
 use Rattle.std.proofs.lemmas.List.{append-nil}
-use Rattle.std.specs.Prelude.{Some}
+use Rattle.std.specs.Prelude.{IfSome, None, Some}
 use Rattle.std.specs.Map.{keys_of, lookup}
 use Rattle.indexmap.specs.IndexMap.{get, keys}
+use Rattle.tenant.specs.Keeping.{OpensPast}
 use Rattle.tenant.specs.Stands.{IsOpened}
+use Rattle.model.specs.declared.steps.TenantStep.TheVariants.{Open}
+use Rattle.book.specs.Keeping.{KeepsOnAt}
 use Rattle.book.proofs.Answers.{opened-none, opened-some}
+use Rattle.book.proofs.Keeping.{keeps_opened}
 use Rattle.book.proofs.answer.open_new.Goals as goal
 
 pub returns-in-None-clause-names : goal.returns-in-None-clause-names
@@ -37,3 +41,14 @@ pub returns-in_ok-put-in-Some-clause-others : goal.returns-in_ok-put-in-Some-cla
 returns-in_ok-put-in-Some-clause-others g c t apart =
     c.put.ensures.others t (subst (λ n. bytes_eq t n ≡ false) (sym c.in_ok-own_name.ensures) apart)
     ∙ ap (lookup (bytes_eq t)) c.reserve.ensures.entries
+
+pub returns-in_ok-put-in-Some-clause-keeps : goal.returns-in_ok-put-in-Some-clause-keeps
+returns-in_ok-put-in-Some-clause-keeps g c =
+    let M = g.H.Handler.meaning in
+    let a = c.args in
+    let answer = c.in_ok-answer.answer in
+    let is = subst (IsOpened M a.kinds.now a.quota a.optimism answer.reply) c.in-Some.is c.in_ok-answer.ensures.opened in
+    let past = subst (λ t. IfSome t (OpensPast answer.reply)) c.in-Some.is c.in_ok-answer.ensures.past in
+    let here : get bytes_eq c.put.new.tenants a.name.now ≡ Some c.in-Some.tenant = rw c.in_ok-own_name.ensures at c.in_ok-put-in-Some.ensures.here in
+    subst (KeepsOnAt M None None (record { step = Open a.kinds.now a.quota a.optimism; said = answer.said })) (sym here)
+    (keeps_opened M a.kinds.now a.quota a.optimism answer.reply (Some c.in-Some.tenant) answer.said is past)

@@ -1,5 +1,5 @@
 use Rattle.book.specs.History.{holding}
-use Rattle.book.proofs.Replays.{entered}
+use Rattle.book.proofs.Replays.{entered, said_honestly}
 use Rattle.book.proofs.book.Book.step_as.Goals as goal
 
 pub invariant_of-self-in-Ok : goal.invariant_of-self-in-Ok
@@ -9,5 +9,15 @@ invariant_of-self-in-Ok g c =
     let a = c.in-Ok.answer in
     rw (c.enter.ensures.entered, c.reserve_place.ensures.same, c.in-Ok.ensures.kept) (
     entered g.H.Handler.meaning (holding now.tenants now.log) (holding next.tenants next.log) now.history.items
+    (record { who = c.args.who; step = c.args.step; said = a.said; reply = a.reply })
+    c.self.invariant c.in-Ok.ensures.answered)
+
+pub returns-in-Ok-clause-honest : goal.returns-in-Ok-clause-honest
+returns-in-Ok-clause-honest g c =
+    let now = c.self.inside in
+    let next = c.answer-done.new in
+    let a = c.in-Ok.answer in
+    rw (← c.self.view_is, c.enter.ensures.entered, c.reserve_place.ensures.same, c.in-Ok.ensures.kept) (
+    said_honestly g.H.Handler.meaning (holding now.tenants now.log) (holding next.tenants next.log) now.history.items
     (record { who = c.args.who; step = c.args.step; said = a.said; reply = a.reply })
     c.self.invariant c.in-Ok.ensures.answered)

@@ -1,0 +1,57 @@
+//! What a run keeps of the past, which `--verbose` tells.
+
+use crate::complaints::Talk;
+use book::{Book, Kept};
+use handler::Sample;
+use ident::MAX_UNITS;
+use log::{Log, info};
+use model::{NoMemory, TenantName, Unit};
+use stable_log::Store;
+
+/// Tells the sums over all units of all tenants, where so much is told.
+pub(crate) fn tell_kept<L: Log, S: Store>(told: &L, book: &Book<Sample, S>, talk: Talk) {
+    if talk != Talk::Verbose {
+        return;
+    }
+    match kept_of_all(book) {
+        Ok(kept) => {
+            info!(told; "kept of the past: {} live records, {} checkpoints, the texts of {} letters", kept.records, kept.shelved, kept.letters);
+        }
+        Err(NoMemory) => {
+            info!(told; "there is no memory for the names of the tenants: what is kept of the past isn't told");
+        }
+    }
+}
+
+/// The sums over all units of all tenants.
+fn kept_of_all<S: Store>(book: &Book<Sample, S>) -> Result<Kept, NoMemory> {
+    let mut all = Kept {
+        records: 0,
+        shelved: 0,
+        letters: 0,
+    };
+    for name in names_of(book)? {
+        for number in 0..MAX_UNITS as u8 {
+            match kept_of(book, &name, Unit::new(number)) {
+                Some(kept) => add(&mut all, kept),
+                None => break,
+            }
+        }
+    }
+    Ok(all)
+}
+
+fn names_of<S: Store>(book: &Book<Sample, S>) -> Result<Vec<TenantName>, NoMemory> {
+    book.tenants()
+}
+
+fn kept_of<S: Store>(book: &Book<Sample, S>, name: &TenantName, unit: Unit) -> Option<Kept> {
+    book.kept(name, unit)
+}
+
+/// Adds what is kept of one unit.
+fn add(all: &mut Kept, kept: Kept) {
+    all.records = all.records.saturating_add(kept.records);
+    all.shelved = all.shelved.saturating_add(kept.shelved);
+    all.letters = all.letters.saturating_add(kept.letters);
+}
