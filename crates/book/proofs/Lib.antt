@@ -5,3 +5,4 @@ pub mod Certified
 pub mod Lasting
 pub mod Keeping
 pub mod Devices
+pub mod Wanting

@@ -18,7 +18,8 @@ use Rattle.model.specs.declared.replies.Said.{Said}
 use Rattle.model.specs.declared.steps.Step.{Step}
 use Rattle.shared_log.specs.Logged.{Grows}
 use Rattle.tenant.specs.Stands.{Kept, StandsAt}
-use Rattle.book.specs.Entries.{Ledger}
+use Rattle.book.specs.Entries.{IsAdded, Ledger}
+use Rattle.book.proofs.Wanting.{never_wanting}
 use Rattle.model.specs.Keeping.{Keeping, keeping, keeping_on}
 use Rattle.book.specs.Keeping.{KeepsAt, KeepsIn, keeping_after}
 use Rattle.book.proofs.Devices.{counts_on}
@@ -184,6 +185,16 @@ module _ {S : Type 0} (M : Meaning S) where
         legal-named t h e is (replay.legal t)
         (subst (λ u. (step M (world_of M u h) (event_of e)).reply ≡ e.reply) (sym (same_name t (name_of e) is)) (ap (λ (o : Outcome). o.reply) done.steps.1))
     legal_after t false is = legal-apart t h e is (replay.legal t)
+
+    -- its step was entered
+    pub is_added : IsAdded (record { history = h; log = before.log }) e.who e.step e.reply (record { history = h ++ e ∷ []; log = after.log })
+    is_added = (
+      e.said,
+      refl,
+      done.logs.device,
+      done.logs.up,
+      never_wanting M e.step (world_of M (name_of e) h) e.said done.logs.honest.0 e.reply done.logs.honest.2 (ap (λ (o : Outcome). o.reply) done.steps.1),
+    )
 
     -- what the store said during its step is honest
     honest_here : (grown : List Record) × Grows before.log.records grown after.log.records × IsHonestAfter M h e grown

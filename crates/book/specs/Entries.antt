@@ -1,5 +1,5 @@
 -- How a step is entered in the history of a book.
-use Rattle.std.specs.Prelude.{◌≡◌, ◌⊎◌, ◌≤◌, ◌-◌, ◌^◌, ℕ, List, [], ◌∷◌, ◌++◌, length}
+use Rattle.std.specs.Prelude.{◌≡◌, ◌≢◌, ◌⊎◌, ◌≤◌, ◌-◌, ◌^◌, ℕ, List, [], ◌∷◌, ◌++◌, length}
 use Rattle.std.specs.List.{filter}
 use Rattle.model.specs.declared.refusals.Refusal.TheVariants.{Memory}
 use Rattle.model.specs.declared.replies.Entry.{Entry}
@@ -33,13 +33,14 @@ memory_reply (Notice tenant unit) = Refused Memory
 memory_reply (Release tenant unit) = Refused Memory
 memory_reply (Status tenant unit) = Refused Memory
 
--- The step was entered at the end with this reply. The device is said to have failed only where it did, and the count of its failures never falls.
+-- The step was entered at the end with this reply, which doesn't say that there was no memory for it. The device is said to have failed only where it did, and the count of its failures never falls.
 abbrev pub IsAdded : Ledger → Who → Step → Reply → Ledger → Type 0
 IsAdded before who step answer after =
     (said : Said)
     × (after.history ≡ before.history ++ record { who = who; step = step; said = said; reply = answer } ∷ [])
     × (said.end ≡ Device → HasRisen before.log.failures after.log.failures)
     × (before.log.failures ≤ after.log.failures)
+    × (answer ≢ memory_reply step)
 
 -- there was no memory for the step, and nothing changed but that calls of the device may have failed
 abbrev pub IsForgone : Ledger → Step → Reply → Ledger → Type 0

@@ -4,11 +4,11 @@ use Rattle.std.specs.Prelude.{nat_le, nat_lt, slice_get, if◌then◌else◌}
 use Rattle.model.specs.Alone.{Event, step}
 use Rattle.model.specs.Handler.{Meaning}
 use Rattle.model.specs.Records.{IsFlushed, FlushesUnit}
-use Rattle.model.specs.Steps.{Outcome, first_refusal, unless, if_unit, at_unit, at_up, is_down, is_device, is_memory, flush, flush_reply, flushed, with_member, restart, notice, notice_rows, path_kept, gone_back, start_of, row_for}
+use Rattle.model.specs.Steps.{Outcome, first_refusal, unless, if_unit, at_unit, at_up, is_down, is_device, flush, flush_reply, flushed, with_member, restart, notice, notice_rows, path_kept, gone_back, start_of, row_for}
 use Rattle.model.specs.World.{World, Member, incarnation_of}
 use Rattle.model.specs.declared.records.Record.{Record}
 use Rattle.model.specs.declared.refusals.Refusal.{Refusal}
-use Rattle.model.specs.declared.refusals.Refusal.TheVariants.{Up, Down, Limit, Store, Memory}
+use Rattle.model.specs.declared.refusals.Refusal.TheVariants.{Up, Down, Limit, Store}
 use Rattle.model.specs.declared.replies.End.{End}
 use Rattle.model.specs.declared.replies.End.TheVariants.{Whole, Device, Memory as NoMemory}
 use Rattle.model.specs.declared.replies.Reply.TheVariants.{Restarted, Noticed}
@@ -22,7 +22,7 @@ use Rattle.journal.specs.GoingOn.{IsPromise}
 
 -- what going back answers, where the store's answers ended so
 abbrev back : World → Bool → End → Outcome → Outcome
-back w limit end outcome = unless w ((limit, Limit) ∷ (is_device end, Store) ∷ (is_memory end, Memory) ∷ []) outcome
+back w limit end outcome = unless w ((limit, Limit) ∷ (is_device end, Store) ∷ []) outcome
 
 back-whole : (w : World) (limit : Bool) (end : End) (outcome : Outcome) → IsPromise (back w limit end outcome).reply
     → back w limit end outcome ≡ back w limit Whole outcome
@@ -30,11 +30,11 @@ unfolding first_refusal
 back-whole w true end outcome p = refl
 back-whole w false Whole outcome p = refl
 back-whole w false Device outcome p = absurd p
-back-whole w false NoMemory outcome p = absurd p
+back-whole w false NoMemory outcome p = refl
 
 -- the same behind one more test
 abbrev back_unless : World → Bool → Refusal → Bool → End → Outcome → Outcome
-back_unless w first why limit end outcome = unless w ((first, why) ∷ (limit, Limit) ∷ (is_device end, Store) ∷ (is_memory end, Memory) ∷ []) outcome
+back_unless w first why limit end outcome = unless w ((first, why) ∷ (limit, Limit) ∷ (is_device end, Store) ∷ []) outcome
 
 back_unless-whole : (w : World) (first : Bool) (why : Refusal) (limit : Bool) (end : End) (outcome : Outcome) → IsPromise (back_unless w first why limit end outcome).reply
     → back_unless w first why limit end outcome ≡ back_unless w first why limit Whole outcome

@@ -28,7 +28,7 @@ pub record Outcome : Type 0 where
 abbrev pub refused : World → Refusal → Outcome
 refused w r = record { reply = Refused r; world = Some w }
 
--- the refusal of the first test that fails
+-- the refusal of the first test that holds
 unfoldable pub first_refusal : List (Bool × Refusal) → Option Refusal
 first_refusal [] = None
 first_refusal (test ∷ tests) = cond test.0 (Some test.1) (first_refusal tests)
@@ -38,7 +38,7 @@ abbrev pub outcome_or : World → Outcome → Option Refusal → Outcome
 outcome_or w outcome None = outcome
 outcome_or w outcome (Some r) = refused w r
 
--- the outcome, or the refusal of the first test that fails
+-- the outcome, or the refusal of the first test that holds
 abbrev pub unless : World → List (Bool × Refusal) → Outcome → Outcome
 unless w tests outcome = outcome_or w outcome (first_refusal tests)
 
@@ -230,14 +230,9 @@ is_device Whole = false
 is_device Device = true
 is_device NoMemory = false
 
-abbrev pub is_memory : End → Bool
-is_memory Whole = false
-is_memory Device = false
-is_memory NoMemory = true
-
 -- a new incarnation is due, and the store may fail to give the records
 abbrev pub going_back_tests : World → ℕ → Said → List (Bool × Refusal)
-going_back_tests w u said = (nat_le 65535 (incarnation_of w.table u), Limit) ∷ (is_device said.end, Store) ∷ (is_memory said.end, Memory) ∷ []
+going_back_tests w u said = (nat_le 65535 (incarnation_of w.table u), Limit) ∷ (is_device said.end, Store) ∷ []
 
 abbrev pub restart : World → ℕ → Said → Outcome
 restart w u said = at_unit w u (λ m.

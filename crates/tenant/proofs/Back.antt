@@ -10,7 +10,7 @@ use Rattle.model.specs.declared.names.Row.{Row}
 use Rattle.model.specs.declared.names.Start.{Start}
 use Rattle.model.specs.declared.records.Record.{Record}
 use Rattle.model.specs.declared.refusals.Refusal.{Refusal}
-use Rattle.model.specs.declared.refusals.Refusal.TheVariants.{Limit, Memory, NoUnit, Store, Up}
+use Rattle.model.specs.declared.refusals.Refusal.TheVariants.{Limit, NoUnit, Store, Up}
 use Rattle.model.specs.declared.replies.End.TheVariants.{Device}
 use Rattle.model.specs.declared.replies.Reply.{Reply}
 use Rattle.model.specs.declared.replies.Reply.TheVariants.{Noticed, Refused, Restarted}
@@ -22,7 +22,7 @@ use Rattle.model.specs.Alone.Reachable.{stepped}
 use Rattle.model.specs.Failures.{HasRisen}
 use Rattle.model.specs.Handler.{Meaning}
 use Rattle.model.specs.Records.{IsHonest}
-use Rattle.model.specs.Steps.{first_refusal, is_device, is_memory, notice, restart, start_of}
+use Rattle.model.specs.Steps.{Outcome, first_refusal, is_device, notice, restart, start_of}
 use Rattle.model.specs.World.{World, incarnation_of}
 use Rattle.model.proofs.Places.{get_below}
 use Rattle.theory.proofs.ListLaws.{get_set, set_get_other, set_get_same}
@@ -46,6 +46,7 @@ use Rattle.tenant.specs.Outcomes.{failing, quiet}
 use Rattle.tenant.specs.Returns.{Failed, Returns, Went}
 use Rattle.tenant.specs.Stands.{Did, IsStanding, live_in}
 use Rattle.tenant.specs.Represents.{AreLast, IsCompact, IsMember, Leaves}
+use Rattle.tenant.proofs.Touching.{failing_asked, notice_asked, quiet_asked, restart_asked}
 use Rattle.tenant.proofs.Fetching.{whole_fetched}
 use Rattle.tenant.proofs.Follow.{Keeps, is_up, keeps, leaves, no_unit, none_kept, not_up, with_one}
 use Rattle.tenant.proofs.Killing.{hold_cut, whole_hold}
@@ -65,11 +66,11 @@ unfolding first_refusal
 later_first true q rest e = absurd (cc e)
 later_first false q rest e = refl
 
-failing_first : first_refusal ((is_device failing.end, Store) ∷ (is_memory failing.end, Memory) ∷ []) ≡ Some Store
+failing_first : first_refusal ((is_device failing.end, Store) ∷ []) ≡ Some Store
 unfolding first_refusal
 failing_first = refl
 
-quiet_first : first_refusal ((is_device quiet.end, Store) ∷ (is_memory quiet.end, Memory) ∷ []) ≡ None
+quiet_first : first_refusal ((is_device quiet.end, Store) ∷ []) ≡ None
 unfolding first_refusal
 quiet_first = refl
 
@@ -127,6 +128,12 @@ module _ {S : Type 0} (M : Meaning S) (name : List ℕ) (t : Kept S) (w : World)
     logs = record { honest = ([], grows, honest); device = device };
   }
 
+  -- what a refusal leaves, where what the store said is honest for this refusal
+  refused_closes : (step : TenantStep) (said : Said) (q : Refusal) (after : Logged) → after.records ≡ before.records → ((step_open M w step said).reply ≡ Refused q → IsHonest M name w step said []) → (said.end ≡ Device → HasRisen before.failures after.failures)
+      → Leaves M name (live_in name after.records) (step_open M w step said) (Refused q) t whole → Did M name w t step said (Refused q) before after
+  refused_closes step said q after records honest device l =
+      closes step said (Refused q) t after l (same_grows before.records after.records records) (honest (ap (λ (o : Outcome). o.reply) l.1)) device
+
   same_live : (after : Logged) → after.records ≡ before.records → IsCompact t (live_in name after.records) k
   same_live after e = subst (λ (rs : List (Option Record)). IsCompact t (live_in name rs) k) (sym e) is
 
@@ -150,7 +157,7 @@ module _ {S : Type 0} (M : Meaning S) (name : List ℕ) (t : Kept S) (w : World)
       (leaves M name live whole (restart w u quiet) (reach_restart quiet) _ (record { reply = Refused NoUnit; state = k })
       (restarts_follow M name k w whole st u quiet some_progress (λ x at none. absurd (none_or_some (slice_get k.units u) x (none_kept t live k is u e) at)))
       (no_unit t live k is u (restart_of k u quiet some_progress) e) t is)
-      unchanged (refl, refl) (λ f. absurd (cc f))
+      unchanged (quiet_asked _) (λ f. absurd (cc f))
 
   -- ---- one that is there
 
@@ -172,24 +179,22 @@ module _ {S : Type 0} (M : Meaning S) (name : List ℕ) (t : Kept S) (w : World)
     only P p y at = subst P (same_Some x.unit y (sym x.at ∙ at)) p
 
     -- refused whatever the store said
-    module _ (said : Said) (q : Refusal) (after : Logged) (records : after.records ≡ before.records) (quiet_said : said.appended ≡ 0) (device : said.end ≡ Device → HasRisen before.failures after.failures) where
-      pub restart_refused : first_refusal ((x.unit.up, Up) ∷ tests_of_back k u said) ≡ Some q → Did M name w t (Restart u) said (Refused q) before after
-      restart_refused e =
-          closes (Restart u) said (Refused q) t after
+    module _ (said : Said) (q : Refusal) (after : Logged) (records : after.records ≡ before.records) (device : said.end ≡ Device → HasRisen before.failures after.failures) where
+      pub restart_refused : ((restart w u said).reply ≡ Refused q → IsHonest M name w (Restart u) said []) → first_refusal ((x.unit.up, Up) ∷ tests_of_back k u said) ≡ Some q → Did M name w t (Restart u) said (Refused q) before after
+      restart_refused honest e =
+          refused_closes (Restart u) said q after records honest device
           (leaves M name (live_in name after.records) whole (restart w u said) (reach_restart said) _ (record { reply = Refused q; state = k })
           (restarts_follow M name k w whole st u said some_progress (λ y at none. absurd (none_or_some (first_refusal ((x.unit.up, Up) ∷ tests_of_back k u said)) q
           (ap (λ (z : Unit S). first_refusal ((z.up, Up) ∷ tests_of_back k u said)) (same_Some x.unit y (sym x.at ∙ at)) ∙ none) e)))
           (ap (at_unit_of k (restart_of k u said some_progress)) x.at ∙ ap (or_refused k _) e) t (same_live after records))
-          (same_grows before.records after.records records) (quiet_said, refl) device
 
-      pub notice_refused : is_some r.progress ≡ true → kept_places k x.unit < all_of x.unit → first_refusal (tests_of_back k u said) ≡ Some q → Did M name w t (Notice u) said (Refused q) before after
-      notice_refused up cut e =
-          closes (Notice u) said (Refused q) t after
+      pub notice_refused : ((notice w u said).reply ≡ Refused q → IsHonest M name w (Notice u) said []) → is_some r.progress ≡ true → kept_places k x.unit < all_of x.unit → first_refusal (tests_of_back k u said) ≡ Some q → Did M name w t (Notice u) said (Refused q) before after
+      notice_refused honest up cut e =
+          refused_closes (Notice u) said q after records honest device
           (leaves M name (live_in name after.records) whole (notice w u said) (reach_notice said) _ (record { reply = Refused q; state = k })
           (notices_follow M name k w whole st u said some_progress (λ y at less none. absurd (none_or_some (first_refusal (tests_of_back k u said)) q none e)))
           (is_up t live k is u (notice_of k u said some_progress) m x up ∙ ap (λ b. cond b (going said some_progress) staying) (test_true (kept_places k x.unit) (all_of x.unit) cut) ∙ ap (or_refused k _) e)
           t (same_live after records))
-          (same_grows before.records after.records records) (quiet_said, refl) device
 
     -- ---- it goes back
 
@@ -408,7 +413,7 @@ module _ {S : Type 0} (M : Meaning S) (name : List ℕ) (t : Kept S) (w : World)
             (restarts_follow M name k w whole st u quiet p (λ y at none. only (λ (z : Unit S). IsRebuilt M k z whole p) back.rebuilt y at))
             (ap (at_unit_of k (restart_of k u quiet p)) x.at ∙ ap (or_refused k _) (later_first x.unit.up Up _ down ∙ no_refusal room) ∙ (λ i. record { reply = Restarted (start_is i); state = state }))
             v2 is_after)
-            wt.grows (refl, refl) not_device)
+            wt.grows (quiet_asked _) not_device)
 
         pub notice_done : is_some r.progress ≡ true → target + 1 < places r → nat_le 65535 (incarnation_of t.table u) ≡ false → Noticed (Some (record { incarnation = incarnation_of t.table u + 1; index = target + 1 })) ≡ given
             → Did M name w v (Notice u) a.said a.reply before after
@@ -419,7 +424,7 @@ module _ {S : Type 0} (M : Meaning S) (name : List ℕ) (t : Kept S) (w : World)
             (notices_follow M name k w whole st u quiet p (λ y at less none. only (λ (z : Unit S). IsRebuilt M k z whole p) back.rebuilt y at))
             (is_up t live k is u (notice_of k u quiet p) m x up ∙ ap (λ c. cond c (going quiet p) staying) (test_true (kept_places k x.unit) (all_of x.unit) (some_cut cut)) ∙ ap (or_refused k _) (no_refusal room) ∙ (λ i. record { reply = Noticed (Some (start_is i)); state = state }))
             v2 is_after)
-            wt.grows (refl, refl) not_device)
+            wt.grows (quiet_asked _) not_device)
 
       failed : (step : TenantStep) (v : Kept S) (after : Logged) (a : Answer) → Failed t a v before after → Did M name w t step failing (Refused Store) before after → Did M name w v step a.said a.reply before after
       failed step v after a fl d =
@@ -435,18 +440,18 @@ module _ {S : Type 0} (M : Meaning S) (name : List ℕ) (t : Kept S) (w : World)
           restart_done v after a (Restarted start) wt (x.is.seen.up ∙ f.0) f.1 (ap Restarted (sym e))
       restart_returns none start e v after a (inr fl) =
           let f = passes (is_some r.progress) (nat_le 65535 (incarnation_of t.table u)) none in
-          failed (Restart u) v after a fl (restart_refused failing Store after fl.records refl (λ d. fl.device)
+          failed (Restart u) v after a fl (restart_refused failing Store after fl.records (λ d. fl.device) (λ is. failing_asked _ (restart_asked w u failing is))
           (later_first x.unit.up Up _ (x.is.seen.up ∙ f.0) ∙ later_first (nat_le 65535 (incarnation_of k.table u)) Limit _ (ap (λ rows. nat_le 65535 (incarnation_of rows u)) is.table ∙ f.1) ∙ failing_first))
 
       pub notice_returns : is_some r.progress ≡ true → target + 1 < places r → nat_le 65535 (incarnation_of t.table u) ≡ false → (start : Start) → start ≡ record { incarnation = incarnation_of t.table u + 1; index = target + 1 } → (v : Kept S) (after : Logged) (a : Answer)
           → Returns M name t u m target (Noticed (Some start)) a v before after → Did M name w v (Notice u) a.said a.reply before after
       notice_returns up cut room start e v after a (inl wt) = notice_done v after a (Noticed (Some start)) wt up cut room (ap (λ z. Noticed (Some z)) (sym e))
       notice_returns up cut room start e v after a (inr fl) =
-          failed (Notice u) v after a fl (notice_refused failing Store after fl.records refl (λ d. fl.device) up (some_cut cut)
+          failed (Notice u) v after a fl (notice_refused failing Store after fl.records (λ d. fl.device) (λ is. failing_asked _ (notice_asked w u failing is)) up (some_cut cut)
           (later_first (nat_le 65535 (incarnation_of k.table u)) Limit _ (ap (λ rows. nat_le 65535 (incarnation_of rows u)) is.table ∙ room) ∙ failing_first))
 
       pub notice_worn : is_some r.progress ≡ true → target + 1 < places r → nat_le 65535 (incarnation_of t.table u) ≡ true → Did M name w t (Notice u) quiet (Refused Limit) before before
-      notice_worn up cut worn = notice_refused quiet Limit before refl refl (λ f. absurd (cc f)) up (some_cut cut) (worn_first (nat_le 65535 (incarnation_of k.table u)) _ (ap (λ rows. nat_le 65535 (incarnation_of rows u)) is.table ∙ worn))
+      notice_worn up cut worn = notice_refused quiet Limit before refl (λ f. absurd (cc f)) (λ is. quiet_asked _) up (some_cut cut) (worn_first (nat_le 65535 (incarnation_of k.table u)) _ (ap (λ rows. nat_le 65535 (incarnation_of rows u)) is.table ∙ worn))
 
       -- it keeps all, and learns the rows
       pub notice_learns : is_some r.progress ≡ true → places r ≤ target + 1 → Did M name w (record t { members = slice_set t.members u (record m { known = length t.table }) }) (Notice u) quiet (Noticed None) before before
@@ -458,7 +463,7 @@ module _ {S : Type 0} (M : Meaning S) (name : List ℕ) (t : Kept S) (w : World)
           (is_up t live k is u (notice_of k u quiet some_progress) m x up ∙ ap (λ c. cond c (going quiet some_progress) staying) (all_kept whole_path))
           (record t { members = slice_set t.members u learned })
           (with_one t live k is u learned (knowing_unit k x.unit) (record { kept = x.is.kept; seen = record { seat = x.is.seen.seat; up = x.is.seen.up; now = x.is.seen.now; stable = x.is.seen.stable; outside = x.is.seen.outside; base = x.is.seen.base; shelf = x.is.seen.shelf; intervals = x.is.seen.intervals; volatile = x.is.seen.volatile }; own = x.is.own; outputs = x.is.outputs; known = ap length is.table; stable = x.is.stable; frontier = x.is.frontier; released = x.is.released; places = x.is.places })))
-          unchanged (refl, refl) (λ f. absurd (cc f))
+          unchanged (quiet_asked _) (λ f. absurd (cc f))
         where
           not_cut : (y : Unit S) → slice_get k.units u ≡ Some y → kept_places k y < all_of y → ⊥
           not_cut y at less =
@@ -471,9 +476,9 @@ module _ {S : Type 0} (M : Meaning S) (name : List ℕ) (t : Kept S) (w : World)
     where
       limited : (m : Member S) (found : slice_get t.members u ≡ Some m) (up worn : Bool) → is_some m.recovering.progress ≡ up → nat_le 65535 (incarnation_of t.table u) ≡ worn → cond up (Some Up) (cond worn (Some Limit) None) ≡ Some q
           → Did M name w t (Restart u) quiet (Refused q) before before
-      limited m found true worn a b f = restart_refused m found quiet q before refl refl (λ d. absurd (cc d)) (up_first _ _ ((x m found).is.seen.up ∙ a) ∙ f)
+      limited m found true worn a b f = restart_refused m found quiet q before refl (λ d. absurd (cc d)) (λ is. quiet_asked _) (up_first _ _ ((x m found).is.seen.up ∙ a) ∙ f)
       limited m found false true a b f =
-          restart_refused m found quiet q before refl refl (λ d. absurd (cc d))
+          restart_refused m found quiet q before refl (λ d. absurd (cc d)) (λ is. quiet_asked _)
           (later_first _ Up _ ((x m found).is.seen.up ∙ a) ∙ worn_first _ _ (ap (λ rows. nat_le 65535 (incarnation_of rows u)) is.table ∙ b) ∙ f)
       limited m found false false a b f = absurd (cc f)
 
@@ -491,7 +496,7 @@ module _ {S : Type 0} (M : Meaning S) (name : List ℕ) (t : Kept S) (w : World)
           (leaves M name live whole (notice w u quiet) (reach_notice quiet) _ (record { reply = Refused q; state = k })
           (notices_follow M name k w whole st u quiet progress (λ y at less none. rebuilds y at))
           (not_up t live k is u (notice_of k u quiet progress) q e) t is)
-          unchanged (refl, refl) (λ f. absurd (cc f))
+          unchanged (quiet_asked _) (λ f. absurd (cc f))
 
       go : (o : Option (Member S)) → slice_get t.members u ≡ o → Did M name w t (Notice u) quiet (Refused q) before before
       go None a = refused some_progress (λ y at. absurd (none_or_some (slice_get k.units u) y (none_kept t live k is u a) at))

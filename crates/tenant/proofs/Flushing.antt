@@ -1,5 +1,5 @@
 -- The step `flush`.
-use Rattle.std.proofs.Common.{◌≡◌, inl, inr, refl, sym, ◌∙◌, ap, subst, ℕ, suc, ◌+◌, ◌-◌, ◌≤◌, Bool, true, false, cond, min, List, [], ◌∷◌, ◌++◌, length, take, drop, arith, map, length-set, append-nil}
+use Rattle.std.proofs.Common.{◌<◌, ◌≡◌, inl, inr, refl, sym, ◌∙◌, ap, subst, ℕ, suc, ◌+◌, ◌-◌, ◌≤◌, Bool, true, false, cond, min, List, [], ◌∷◌, ◌++◌, length, take, drop, arith, map, length-set, append-nil}
 use Rattle.std.specs.Prelude.{Option, Some, None, slice_get, slice_set, ◌↔◌}
 use Rattle.std.specs.Option.{is_some}
 use Rattle.std.proofs.lemmas.List.{length-map, length-take-le}
@@ -7,7 +7,7 @@ use Rattle.std.proofs.lemmas.Option.{slice_get_within, same_Some}
 use Rattle.model.specs.declared.records.Record.{Record}
 use Rattle.model.specs.declared.refusals.Refusal.{Refusal}
 use Rattle.model.specs.declared.refusals.Refusal.TheVariants.{Down}
-use Rattle.model.specs.declared.replies.End.TheVariants.{Device, Whole}
+use Rattle.model.specs.declared.replies.End.TheVariants.{Device, Memory as NoMemory, Whole}
 use Rattle.model.specs.declared.replies.Reply.TheVariants.{Refused}
 use Rattle.model.specs.declared.replies.Said.{Said}
 use Rattle.model.specs.declared.steps.TenantStep.TheVariants.{Flush}
@@ -108,7 +108,7 @@ module _ {S : Type 0} (M : Meaning S) (name : List ℕ) (t : Kept S) (w : World)
 
   module _ (m : Member S) (found : slice_get t.members u ≡ Some m) (up : is_some m.recovering.progress ≡ true) (after : Logged) (v : Kept S) (said : Said)
       (logged : after.records ≡ before.records ++ map Some (take said.appended m.recovering.volatile)) (few : said.appended ≤ length m.recovering.volatile)
-      (ended : (said.end ≡ Whole) ↔ (said.appended ≡ length m.recovering.volatile)) (f : IsFlushed t u said.appended m v) where
+      (ended : (said.end ≡ Whole) ↔ (said.appended ≡ length m.recovering.volatile)) (some : said.end ≡ NoMemory → 0 < said.appended) (f : IsFlushed t u said.appended m v) where
     abbrev r : Recovering S
     r = m.recovering
 
@@ -130,6 +130,7 @@ module _ {S : Type 0} (M : Meaning S) (name : List ℕ) (t : Kept S) (w : World)
         first = ap (take said.appended) volatile_is;
         within = subst (λ (vs : List Record). said.appended ≤ length vs) volatile_is few;
         whole = subst (λ (vs : List Record). (said.end ≡ Whole) ↔ (said.appended ≡ length vs)) volatile_is ended;
+        some = some;
       }),
       (λ down. absurd (down (sym (st.represents.units u mw.0 x.unit mw.1 x.at).up ∙ x.is.seen.up ∙ up))),
     )

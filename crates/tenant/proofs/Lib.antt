@@ -37,3 +37,4 @@ pub mod Reading
 pub mod Certifying
 pub mod Standing
 mod Counted
+mod Touching

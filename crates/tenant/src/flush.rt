@@ -1,10 +1,10 @@
 //! The step `flush`.
 
-ghost use Rattle.std.specs.Prelude.{◌≡◌, ◌⊎◌, ◌<◌, ◌≤◌, ◌++◌, ◌∷◌, [], ◌↔◌, All, IfOk, IfErr, MatchOption, None, OnOk, OnErr, length, map, take, slice_get, slice_set, Some, true, false, List, ℕ, ◌+◌, bytes_eq};
+ghost use Rattle.std.specs.Prelude.{◌≡◌, ◌⊎◌, ◌<◌, ◌≤◌, ◌++◌, ◌∷◌, [], ◌↔◌, All, IfOk, IfErr, IsTrue, MatchOption, None, OnOk, OnErr, length, map, take, slice_get, slice_set, Some, true, false, List, ℕ, ◌+◌, bytes_eq};
 ghost use Rattle.model.specs.Failures.{HasRisen};
 ghost use Rattle.model.specs.Steps.{flush_reply as flush_reply_of};
 ghost use Rattle.model.specs.World.{World};
-ghost use Rattle.model.specs.declared.replies.End.TheVariants.{Whole, Device};
+ghost use Rattle.model.specs.declared.replies.End.TheVariants.{Whole, Device, Memory};
 ghost use Rattle.model.specs.declared.records.Record.{Record as RecordOf};
 ghost use Rattle.model.specs.declared.steps.TenantStep.TheVariants.{Flush};
 ghost use Rattle.rollback.specs.Units.{stable_places};
@@ -91,6 +91,17 @@ fn append_all<H: Handler, S: Store>(
     Said {
         appended: recovering.volatile_count() as u64,
         end: End::Whole,
+    }
+}
+
+/// Whether there was no memory for the first record.
+fn is_forgone(said: Said) -> bool
+    ensures none { IsTrue result → said.appended ≡ 0 }
+    ensures some { result ≡ false → said.end ≡ Memory → 0 < said.appended }
+{
+    match said.end {
+        End::Memory => said.appended == 0,
+        _ => false,
     }
 }
 
@@ -201,7 +212,7 @@ impl<H: Handler> Tenant<H> {
             Err(refusal) => return Ok(Answer::refused(refusal)),
         };
         let said = append_all(tenant, member.recovering(), log);
-        if said.end == End::Memory && said.appended == 0 {
+        if is_forgone(said) {
             return Err(NoMemory);
         }
         self.enter_stable(unit, said.appended as usize);

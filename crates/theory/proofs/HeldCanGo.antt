@@ -1,4 +1,4 @@
--- A node that is not firm can go by at most three recovery steps; and a release leaves just what is firm released.
+-- A node that is not firm can go by a kill, a restart and a notice at most; and a release leaves just what is firm released.
 use Rattle.std.proofs.Common.{◌≡◌, ◌≢◌, inl, inr, refl, sym, ◌∙◌, ap, subst, ℕ, zero, suc, ◌+◌, ◌-◌, ◌<◌, ◌≤◌, Bool, true, false, cond, not, max, ◌||◌, List, [], ◌∷◌, ◌++◌, length, take, drop, arith, map, length-take, ne_eqb}
 use Rattle.std.specs.Prelude.{Some, None, slice_get, slice_set, ◌==◌, nat_lt, nat_le}
 use Rattle.std.specs.List.{take_while, list_all, list_any, flat_map}
@@ -57,13 +57,13 @@ kill_does : (w : World) (u : ℕ) (m : Member) → slice_get w.members u ≡ Som
 kill_does w u m found up = ap (λ o. o.world) (at_up_found w u _ m found up)
 
 restart_does : (w : World) (u : ℕ) (m : Member) → slice_get w.members u ≡ Some m → m.up ≡ false → nat_le 65535 (incarnation_of w.table u) ≡ false → (restart w u quiet).world ≡ Some (gone_back w u m (path_kept w m))
-restart_does w u m found down room = ap (λ o. o.world) (at_unit_found w u _ m found ∙ unless_pass w _ _ (down, (room, (refl, (refl, tt)))))
+restart_does w u m found down room = ap (λ o. o.world) (at_unit_found w u _ m found ∙ unless_pass w _ _ (down, (room, (refl, tt))))
 
 notice_does : (w : World) (u : ℕ) (m : Member) → slice_get w.members u ≡ Some m → m.up ≡ true → nat_le 65535 (incarnation_of w.table u) ≡ false → length (path_kept w m) < length m.path → (notice w u quiet).world ≡ Some (gone_back w u m (path_kept w m))
 notice_does w u m found up room less =
     let goes : (cond (nat_lt (length (path_kept w m)) (length m.path)) (notice_orphan w u quiet m) (notice_rows w u m)).world ≡ Some (gone_back w u m (path_kept w m)) =
     rw (true_lt (length (path_kept w m)) (length m.path) less)
-    (ap (λ o. o.world) (unless_pass w (going_back_tests w u quiet) _ (room, (refl, (refl, tt))))) in
+    (ap (λ o. o.world) (unless_pass w (going_back_tests w u quiet) _ (room, (refl, tt)))) in
     ap (λ o. o.world) (at_up_found w u _ m found up) ∙ goes
 
 -- ---- down
@@ -232,10 +232,10 @@ module _ {S : Type 0} (M : Meaning S) where
       let room' = rooms v vin in
       let mine : u ≡ v → m ≡ q = λ e. same_Some m q (sym found ∙ ap (slice_get w.members) e ∙ found') in
       elim ((c.units v q found').whereabouts y yin refl) [
-        | lost l ↦ (record { step = Notice u; said = quiet } ∷ [], omega arith, (refl, refl, tt), notice_goes w s u m found up room i x y on d l)
+        | lost l ↦ (record { step = Notice u; said = quiet } ∷ [], record { kills = omega arith; restarts = omega arith; notices = omega arith }, (refl, refl, tt), notice_goes w s u m found up room i x y on d l)
         | cut_off dn high ↦ (
           record { step = Restart v; said = quiet } ∷ record { step = Notice u; said = quiet } ∷ [],
-          omega arith,
+          record { kills = omega arith; restarts = omega arith; notices = omega arith },
           (refl, refl, (refl, refl, tt)),
           restart_goes w c u v m q (λ e. absurd (let t = ap (λ z. z.up) (mine e) in cc (t, dn, up))) found up room found' dn room' i x y on d yin refl high,
         )
@@ -246,7 +246,7 @@ module _ {S : Type 0} (M : Meaning S) where
               | inl qup ↦ elim (ℕ_discrete u v) [
                 | yes z ↦ (
                   record { step = Kill u; said = quiet } ∷ [],
-                  omega arith,
+                  record { kills = omega arith; restarts = omega arith; notices = omega arith },
                   (refl, refl, tt),
                   kill_goes w s u m found up i (node_at w.nodes y).index x y on (ap (λ n. slice_get n.path (node_at w.nodes y).index) (mine z) ∙ e) (let t = ap (λ n. n.stable) (mine z) in omega arith) le,
                 )
@@ -271,7 +271,7 @@ module _ {S : Type 0} (M : Meaning S) where
           let short : length cut.path ≤ (node_at w.nodes y).index = let t = length-take q.stable q.path in omega arith in
           let g = restart_goes next c' u v m cut other (set_get_other w.members v u cut other ∙ found) up room (set_get_same w.members v cut q found') refl room' i x y on d yin own short in (
             record { step = Kill v; said = quiet } ∷ record { step = Restart v; said = quiet } ∷ record { step = Notice u; said = quiet } ∷ [],
-            omega arith,
+            record { kills = omega arith; restarts = omega arith; notices = omega arith },
             (refl, refl, (refl, refl, (refl, refl, tt))),
             (g.0, ap (λ o. (course_from M o (record { step = Restart v; said = quiet } ∷ record { step = Notice u; said = quiet } ∷ [])).world) (kill_does w v q found' qup) ∙ g.1, g.2),
           )

@@ -65,9 +65,31 @@ abbrev pub AllRecover : List Event → Type 0
 AllRecover [] = Unit {0}
 AllRecover (e ∷ events) = (recovers e.step ≡ true) × (e.said.end ≡ Whole) × AllRecover events
 
--- at most three recovery steps lead to a world where the node is off the unit's path
+-- how many of the events are of such steps
+abbrev pub how_many : (TenantStep → Bool) → List Event → ℕ
+how_many p events = length (filter (λ e. p e.step) events)
+
+abbrev pub is_kill : TenantStep → Bool
+is_kill (Kill unit) = true
+is_kill _ = false
+
+abbrev pub is_restart : TenantStep → Bool
+is_restart (Restart unit) = true
+is_restart _ = false
+
+abbrev pub is_notice : TenantStep → Bool
+is_notice (Notice unit) = true
+is_notice _ = false
+
+-- at most one kill, one restart and one notice are among them
+pub record OnceEach (events : List Event) : Type 0 where
+  pub kills : how_many is_kill events ≤ 1
+  pub restarts : how_many is_restart events ≤ 1
+  pub notices : how_many is_notice events ≤ 1
+
+-- at most one kill, one restart and one notice, and no other step, lead to a world where the node is off the unit's path
 abbrev pub CanGo : {S : Type 0} → Meaning S → World → ℕ → ℕ → Type 0
-CanGo M w u x = (events : List Event) × (length events ≤ 3) × AllRecover events
+CanGo M w u x = (events : List Event) × OnceEach events × AllRecover events
     × ((z : World) × ((course_from M (Some w) events).world ≡ Some z) × ((m : Member) × (slice_get z.members u ≡ Some m) × (has m.path x ≡ false)))
 
 -- Where an accepted release leaves outputs held and no unit's incarnation is the last,

@@ -61,6 +61,15 @@ fn is_forgone(reply: &Reply) -> bool {
     )
 }
 
+/// The unit that takes the step's receipt: the one that a post names, or else the one whose turn was
+/// asked for.
+fn receiver_of(step: &Step, asked: Option<Unit>) -> Option<Unit> {
+    match step {
+        Step::Post { unit, .. } => Some(*unit),
+        _ => asked,
+    }
+}
+
 impl<'a, H: Handler, S: Store, G: Gate> Job<'a, H, S, G> {
     /// Does the steps of the feed in order, and gives the reply to each as its receipt.
     pub(crate) fn run<R: Wait>(self, rt: &R) -> Result<Vec<Reply>, NoMemory> {
@@ -111,10 +120,10 @@ impl<'a, H: Handler, S: Store, G: Gate> Job<'a, H, S, G> {
         Ok((reply, asked))
     }
 
-    /// Tells the logger of an accepted receipt whose turn was asked for. A nudge that can't be sent
-    /// is dropped.
+    /// Tells the logger of an accepted receipt, where it is known whose it is. A nudge that can't be
+    /// sent is dropped.
     fn nudge<R: Wait>(&self, rt: &R, step: &Step, reply: &Reply, asked: Option<Unit>) {
-        let Some(unit) = asked else {
+        let Some(unit) = receiver_of(step, asked) else {
             return;
         };
         if let Reply::Accepted { .. } = reply {

@@ -1,5 +1,6 @@
 use Rattle.book.specs.History.{holding}
-use Rattle.book.proofs.Replays.{entered, said_honestly}
+use Rattle.std.proofs.Common.{inl}
+use Rattle.book.proofs.Replays.{entered, is_added, said_honestly}
 use Rattle.book.proofs.book.Book.step_as.Goals as goal
 
 pub invariant_of-self-in-Ok : goal.invariant_of-self-in-Ok
@@ -21,3 +22,13 @@ returns-in-Ok-clause-honest g c =
     said_honestly g.H.Handler.meaning (holding now.tenants now.log) (holding next.tenants next.log) now.history.items
     (record { who = c.args.who; step = c.args.step; said = a.said; reply = a.reply })
     c.self.invariant c.in-Ok.ensures.answered)
+
+pub returns-in-Ok-clause-entered : goal.returns-in-Ok-clause-entered
+returns-in-Ok-clause-entered g c =
+    let now = c.self.inside in
+    let next = c.answer-done.new in
+    let a = c.in-Ok.answer in
+    rw (← c.self.view_is, c.enter.ensures.entered, c.enter.ensures.reply, c.reserve_place.ensures.same, c.in-Ok.ensures.kept) (inl (
+    is_added g.H.Handler.meaning (holding now.tenants now.log) (holding next.tenants next.log) now.history.items
+    (record { who = c.args.who; step = c.args.step; said = a.said; reply = a.reply })
+    c.self.invariant c.in-Ok.ensures.answered))

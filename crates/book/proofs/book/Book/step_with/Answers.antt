@@ -1,5 +1,8 @@
 use Rattle.book.specs.History.{holding}
-use Rattle.book.proofs.Replays.{entered, said_honestly}
+use Rattle.std.proofs.Common.{inl}
+use Rattle.model.specs.Addresses.{addressed}
+use Rattle.book.specs.History.{world_of}
+use Rattle.book.proofs.Replays.{entered, is_added, said_honestly}
 use Rattle.book.proofs.book.Book.step_with.Goals as goal
 
 pub invariant_of-self-in-Ok-Some : goal.invariant_of-self-in-Ok-Some
@@ -23,3 +26,17 @@ returns-in-Ok-Some-clause-honest g c =
     said_honestly g.H.Handler.meaning (holding now.tenants now.log) (holding next.tenants next.log) now.history.items
     (record { who = c.args.who; step = c.args.step; said = a.said; reply = a.reply })
     c.self.invariant (rw is at c.in-Ok-Some.ensures.answered))
+
+pub returns-in-Ok-Some-clause-commits : goal.returns-in-Ok-Some-clause-commits
+returns-in-Ok-Some-clause-commits g c =
+    let now = c.self.inside in
+    let next = c.answer_with-done.new in
+    let a = c.in-Ok-Some.answer in
+    let is = c.in-Ok-Some.field-0-is in
+    let name = (addressed c.args.step).0 in
+    rw (← c.self.view_is, c.enter.ensures.entered, c.enter.ensures.reply, c.reserve_place.ensures.same, (rw is at c.in-Ok-Some.ensures.kept)) (inl (
+      is_added g.H.Handler.meaning (holding now.tenants now.log) (holding next.tenants next.log) now.history.items
+      (record { who = c.args.who; step = c.args.step; said = a.said; reply = a.reply })
+      c.self.invariant (rw is at c.in-Ok-Some.ensures.answered),
+      (rw is at c.in-Ok-Some.ensures.fresh) (world_of g.H.Handler.meaning name now.history.items) (c.self.invariant.stands name),
+    ))

@@ -32,6 +32,7 @@ returns-clause-did g c = λ w s.
     (c.append_all-said.ensures.records ∙ ap (λ vs. c.args.log.now.records ++ map Some (take said.appended vs)) volatile)
     (subst (λ vs. said.appended ≤ length vs) volatile c.append_all-said.ensures.within)
     (subst (λ vs. (said.end ≡ Whole) ↔ (said.appended ≡ length vs)) volatile c.append_all-said.ensures.whole)
+    (c.is_forgone.ensures.some c.if-is_forgone.false)
     (c.enter_stable.ensures m c.in-Ok.ensures.found)
     c.append_all-said.ensures.device)
     c.forget_after.ensures.stands c.forget_after.ensures.beside)
@@ -57,6 +58,7 @@ returns-clause-keeps_on g c =
     (c.append_all-said.ensures.records ∙ ap (λ vs. c.args.log.now.records ++ map Some (take said.appended vs)) volatile)
     (subst (λ vs. said.appended ≤ length vs) volatile c.append_all-said.ensures.within)
     (subst (λ vs. (said.end ≡ Whole) ↔ (said.appended ≡ length vs)) volatile c.append_all-said.ensures.whole)
+    (c.is_forgone.ensures.some c.if-is_forgone.false)
     (c.enter_stable.ensures m c.in-Ok.ensures.found)
     c.append_all-said.ensures.device)
     c.forget_after.ensures.bases c.flush_reply.result c.flush_reply.ensures
