@@ -3,7 +3,7 @@
 ghost use Rattle.std.specs.Prelude.{◌≡◌, ◌↔◌, IfOk, IsTrue};
 ghost use Rattle.handler.specs.Inputs.{Worked, turn_of};
 
-use crate::law::Handler;
+use crate::handler::Handler;
 use crate::turn::Turn;
 use ident::{NoMemory, Seat, Source, Text};
 use std::alloc::Global;

@@ -17,11 +17,11 @@
 #![tactic(auto)]
 
 mod ask;
-mod law;
+mod handler;
 mod sample;
 mod turn;
 
 pub use ask::{Ask, Done};
-pub use law::Handler;
+pub use handler::Handler;
 pub use sample::Sample;
 pub use turn::Turn;

@@ -1,12 +1,13 @@
 //! The sample handler: echo, relay, count, adder and tee.
 
-ghost use Rattle.std.specs.Prelude.{◌≡◌, ◌<◌, ◌+◌, ◌-◌, ◌*◌, ◌&&◌, nat_le, IfOk, MatchOption, List, ℕ, ◌∷◌, [], true, false, codes};
+ghost use Rattle.std.specs.Prelude.{◌≡◌, ◌<◌, ◌+◌, ◌-◌, ◌*◌, ◌&&◌, nat_le, IfOk, MatchOption, option_map, List, ℕ, ◌∷◌, [], true, false, codes};
 ghost use Rattle.std.specs.List.{list_all};
+ghost use Rattle.handler.specs.Kinds.{number_of};
 ghost use Rattle.handler.specs.States.{states_equal};
 ghost use Rattle.model.specs.Handler.{Turn as TurnOf};
-ghost use Rattle.model.specs.Sample.{State, sample, echo, relay, tee, count, tell, adder, greatest, is_number, value_of, number_in};
+ghost use Rattle.model.specs.Sample.{State, kind_named, sample, echo, relay, tee, count, tell, adder, greatest, is_number, value_of, number_in};
 
-use crate::law::Handler;
+use crate::handler::Handler;
 use crate::turn::Turn;
 use ident::{Kind, NoMemory, Seat, Source, Text, Unit};
 use std::alloc::Global;
@@ -17,6 +18,68 @@ pub struct Sample;
 
 /// The number of a unit that has one.
 type Number = Option<u64>;
+
+/// What a unit of the sample handler does.
+#[derive(Debug, Clone, Copy, PartialEq, Eq)]
+enum SampleKind {
+    /// Puts out each text.
+    Echo,
+    /// Sends each text to the next unit.
+    Relay,
+    /// Puts out how many texts came.
+    Count,
+    /// Adds up the numbers that come, and puts out the sum.
+    Adder,
+    /// Puts out each text, and sends it to the unit with the next number.
+    Tee,
+}
+
+impl SampleKind {
+    /// The kind of this name.
+    fn named(name: &str) -> Option<SampleKind>
+        ensures { option_map number_of result ≡ kind_named name.now }
+    {
+        if name == "echo" {
+            Some(SampleKind::Echo)
+        } else if name == "relay" {
+            Some(SampleKind::Relay)
+        } else if name == "count" {
+            Some(SampleKind::Count)
+        } else if name == "adder" {
+            Some(SampleKind::Adder)
+        } else if name == "tee" {
+            Some(SampleKind::Tee)
+        } else {
+            None
+        }
+    }
+
+    /// The kind of this number.
+    fn numbered(kind: Kind) -> Option<SampleKind>
+        ensures { MatchOption result (4 < kind) (λ k. number_of k ≡ kind) }
+    {
+        match kind.number() {
+            0 => Some(SampleKind::Echo),
+            1 => Some(SampleKind::Relay),
+            2 => Some(SampleKind::Count),
+            3 => Some(SampleKind::Adder),
+            4 => Some(SampleKind::Tee),
+            _ => None,
+        }
+    }
+
+    fn number(self) -> u8
+        ensures { result ≡ number_of self }
+    {
+        match self {
+            SampleKind::Echo => 0,
+            SampleKind::Relay => 1,
+            SampleKind::Count => 2,
+            SampleKind::Adder => 3,
+            SampleKind::Tee => 4,
+        }
+    }
+}
 
 /// One text.
 fn one_text(alloc: Global, text: &str) -> Result<Vec<Text>, NoMemory>
@@ -193,29 +256,16 @@ impl Handler for Sample {
     }
 
     fn kind(&self, name: &str) -> Option<Kind> {
-        if name == "echo" {
-            Some(Kind::new(0))
-        } else if name == "relay" {
-            Some(Kind::new(1))
-        } else if name == "count" {
-            Some(Kind::new(2))
-        } else if name == "adder" {
-            Some(Kind::new(3))
-        } else if name == "tee" {
-            Some(Kind::new(4))
-        } else {
-            None
+        match SampleKind::named(name) {
+            Some(kind) => Some(Kind::new(kind.number())),
+            None => None,
         }
     }
 
     fn begin(&self, _alloc: Global, seat: Seat) -> Result<Option<u64>, NoMemory> {
-        let kind = seat.kind.number();
-        Ok(if kind == 2 {
-            Some(0)
-        } else if kind == 3 {
-            Some(0)
-        } else {
-            None
+        Ok(match SampleKind::numbered(seat.kind) {
+            Some(SampleKind::Count | SampleKind::Adder) => Some(0),
+            _ => None,
         })
     }
 
@@ -227,23 +277,17 @@ impl Handler for Sample {
         _source: Source,
         text: &str,
     ) -> Result<Turn<Option<u64>>, NoMemory> {
-        let kind = seat.kind.number();
-        if kind == 0 {
-            echo_turn(alloc, *state, text)
-        } else if kind == 1 {
-            relay_turn(alloc, seat, *state, text)
-        } else if kind == 2 {
-            count_turn(alloc, *state)
-        } else if kind == 3 {
-            adder_turn(alloc, *state, text)
-        } else if kind == 4 {
-            tee_turn(alloc, seat, *state, text)
-        } else {
-            Ok(Turn {
+        match SampleKind::numbered(seat.kind) {
+            Some(SampleKind::Echo) => echo_turn(alloc, *state, text),
+            Some(SampleKind::Relay) => relay_turn(alloc, seat, *state, text),
+            Some(SampleKind::Count) => count_turn(alloc, *state),
+            Some(SampleKind::Adder) => adder_turn(alloc, *state, text),
+            Some(SampleKind::Tee) => tee_turn(alloc, seat, *state, text),
+            None => Ok(Turn {
                 state: *state,
                 sends: Vec::new(alloc),
                 outputs: Vec::new(alloc),
-            })
+            }),
         }
     }
 }
