@@ -4,6 +4,7 @@
 //! - `read_feed`: the steps of all lines of a reader; `put_reply` and `fault_reply` answer them.
 //! - `Counted`: a reader or a writer with a count of its failures, by which the contracts tell
 //!   which end failed. What raises the count is private to the module `counted`.
+//! - `FuseReader`: a reader for tests, which fails before a line.
 //! - `part` and `input`: a line is read a part at a time, in one buffer whatever its length.
 //! - `read_step`, `write_reply` and `LineFault` are those of `forms`: what one line means.
 //!
@@ -27,6 +28,7 @@
 mod counted;
 mod fault;
 mod feed;
+mod fuse_reader;
 mod input;
 mod part;
 mod serving;
@@ -34,5 +36,6 @@ mod serving;
 pub use counted::Counted;
 pub use fault::ServeFault;
 pub use feed::read_feed;
+pub use fuse_reader::FuseReader;
 pub use forms::{LineFault, read_step, write_reply};
 pub use serving::{fault_reply, memory_aside, put_reply, serve};

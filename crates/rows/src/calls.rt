@@ -10,6 +10,7 @@ use lines::{Counted, ServeFault, read_step, serve, write_reply};
 use model::{Entry, Flaw, Move, Reply, Row, Seat, Step, TenantName, Text, Texts, Unit, Who};
 use stable_log::{MemoryStore, Store};
 use std::alloc::Global;
+use std::io::BufRead;
 
 pub(crate) type Books = Book<Sample, MemoryStore>;
 
@@ -114,9 +115,9 @@ pub(crate) fn reply_line(alloc: Global, reply: &Reply) -> anyhow::Result<String>
 }
 
 /// Answers each line of the reader.
-pub(crate) fn serve_all(
+pub(crate) fn serve_all<R: BufRead>(
     alloc: Global,
-    reader: &mut Counted<&[u8]>,
+    reader: &mut Counted<R>,
     writer: &mut Counted<Vec<u8>>,
     book: &mut Books,
 ) -> Result<u64, ServeFault> {

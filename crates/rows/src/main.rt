@@ -22,6 +22,7 @@ mod calls;
 mod certified;
 mod failing;
 mod kept;
+mod reading;
 mod told;
 mod turned;
 
@@ -31,6 +32,7 @@ use calls::{new_book, serve_all};
 use certified::certified;
 use failing::{failed, once, survives_each};
 use lines::Counted;
+use reading::answers_up_to_each;
 use std::alloc::Global;
 use std::fs;
 use told::told;
@@ -149,8 +151,11 @@ fn worked_verdict(alloc: Global, steps: &str, replies: &str) -> anyhow::Result<&
     if !survives_each(alloc, steps, replies)? {
         return Ok("the replies differ where an append or a fetch fails");
     }
+    if !answers_up_to_each(alloc, steps, replies)? {
+        return Ok("the replies differ where the input fails");
+    }
     Ok(
-        "the replies are as they must be, alone, beside a busy tenant and where any append or fetch fails",
+        "the replies are as they must be, alone, beside a busy tenant and where any append or fetch, or the input, fails",
     )
 }
 

@@ -1,10 +1,13 @@
 //! The step `status`.
 
-ghost use Rattle.std.specs.Prelude.{◌≡◌};
+ghost use Rattle.std.specs.Prelude.{◌≡◌, ℕ, List, Option};
 ghost use Rattle.model.specs.Steps.{status as status_of};
+ghost use Rattle.model.specs.World.{World};
+ghost use Rattle.model.specs.declared.records.Record.{Record};
 ghost use Rattle.model.specs.declared.replies.Reply.TheVariants.{Status};
 ghost use Rattle.tenant.specs.Outcomes.{IsPlain};
 ghost use Rattle.tenant.specs.Represents.{Does};
+ghost use Rattle.tenant.specs.Stands.{Stands};
 
 use crate::answer::Answer;
 use crate::tenant::Tenant;
@@ -44,8 +47,15 @@ impl Standing {
 }
 
 impl<H: Handler> Tenant<H> {
-    /// What a unit is at. Takes no memory.
-    pub(crate) fn status(&self, unit: Unit) -> Answer
+    /// What a unit is at, as the step `status` tells it. Takes no memory.
+    pub fn status(&self, unit: Unit) -> Reply
+        ensures { (name : List ℕ) (w : World) (records : List (Option Record)) → Stands H.meaning name self.now w records → result ≡ (status_of H.meaning w unit).reply }
+    {
+        self.answer_status(unit).reply
+    }
+
+    /// The same, as an answer.
+    pub(crate) fn answer_status(&self, unit: Unit) -> Answer
         ensures done { Does H.meaning (λ w. status_of H.meaning w unit) self.now result.reply self.now }
         ensures plain { IsPlain result }
     {

@@ -49,7 +49,7 @@ impl<H: Handler> Tenant<H> {
             TenantStep::Restart { unit } => self.restart(alloc, handler, name, unit, log),
             TenantStep::Notice { unit } => self.notice(alloc, handler, name, unit, log),
             TenantStep::Release { unit } => self.release(alloc, unit),
-            TenantStep::Status { unit } => Ok(self.status(unit)),
+            TenantStep::Status { unit } => Ok(self.answer_status(unit)),
         }
     }
 

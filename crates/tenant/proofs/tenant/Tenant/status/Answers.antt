@@ -1,11 +1,8 @@
-use Rattle.std.proofs.Common.{◌∙◌, ap, ◌-◌}
-use Rattle.tenant.proofs.Telling.{status_done, status_refused}
+use Rattle.std.proofs.Common.{◌≡◌, ap, sym}
+use Rattle.model.specs.Steps.{Outcome}
+use Rattle.tenant.specs.Stands.{live_in}
+use Rattle.tenant.proofs.Standing.{opened}
 use Rattle.tenant.proofs.tenant.Tenant.status.Goals as goal
 
-pub returns-in-None-clause-done : goal.returns-in-None-clause-done
-returns-in-None-clause-done g c = λ name live w log s. rw c.refused.ensures.reply (status_refused g.H.Handler.meaning name live c.args.self.now w log s c.args.unit c.in-None.ensures)
-
-pub returns-clause-done : goal.returns-clause-done
-returns-clause-done g c = λ name live w log s. rw (c.twice.ensures.reply, c.reply.ensures)
-    (status_done g.H.Handler.meaning name live c.args.self.now w log s c.args.unit c.in-Some.member.now c.in-Some.ensures _ _ _ _ _ _ _ _ _
-    c.last_mark.ensures c.held_count.ensures c.known.ensures c.outside.ensures c.released_count.ensures c.rows.ensures (c.saturating_sub.ensures ∙ ap (λ n. n - 1) c.stable_count.ensures) c.is_up.ensures c.volatile_count.ensures)
+pub returns : goal.returns
+returns g c = λ name w records s. sym (ap (λ (o : Outcome). o.reply) (c.answer_status.ensures.done name (live_in name records) w (opened s).whole (opened s).stands).1)

@@ -45,7 +45,7 @@ returns-in-Release-clause-did g c =
 pub returns-clause-did : goal.returns-clause-did
 returns-clause-did g c =
     rw (c.in-Status.is)
-    (any_did g.H.Handler.meaning c.args.name.now c.args.self.now c.args.self.now (Status c.in-Status.unit) c.args.log.now (λ w. (refl, refl, refl)) c.status.result c.status.ensures.done c.status.ensures.plain)
+    (any_did g.H.Handler.meaning c.args.name.now c.args.self.now c.args.self.now (Status c.in-Status.unit) c.args.log.now (λ w. (refl, refl, refl)) c.answer_status.result c.answer_status.ensures.done c.answer_status.ensures.plain)
 
 pub returns-in-Join-clause-keeps_on : goal.returns-in-Join-clause-keeps_on
 returns-in-Join-clause-keeps_on g c = rw (c.in-Join.is, ← c.as_str.ensures) (join_ok g.H.Handler.meaning c.args.name.now c.args.self.now c.join.new.self c.args.log.now.records c.as_str.result.now c.join.result c.join.ensures.shelves)
@@ -69,4 +69,4 @@ pub returns-in-Release-clause-keeps_on : goal.returns-in-Release-clause-keeps_on
 returns-in-Release-clause-keeps_on g c = rw (c.in-Release.is) (release_ok g.H.Handler.meaning c.args.name.now c.args.self.now c.release.new.self c.args.log.now.records c.in-Release.unit c.release.result c.release.ensures.shelves)
 
 pub returns-clause-keeps_on : goal.returns-clause-keeps_on
-returns-clause-keeps_on g c = rw (c.in-Status.is) (same_keeps g.H.Handler.meaning c.args.name.now c.args.self.now c.args.self.now c.args.log.now.records (Status c.in-Status.unit) (status_stays c.in-Status.unit) (none_changed c.args.self.now c.args.self.now refl) c.status.result)
+returns-clause-keeps_on g c = rw (c.in-Status.is) (same_keeps g.H.Handler.meaning c.args.name.now c.args.self.now c.args.self.now c.args.log.now.records (Status c.in-Status.unit) (status_stays c.in-Status.unit) (none_changed c.args.self.now c.args.self.now refl) c.answer_status.result)
