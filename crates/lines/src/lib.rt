@@ -36,6 +36,6 @@ mod serving;
 pub use counted::Counted;
 pub use fault::ServeFault;
 pub use feed::read_feed;
-pub use fuse_reader::FuseReader;
 pub use forms::{LineFault, read_step, write_reply};
+pub use fuse_reader::FuseReader;
 pub use serving::{fault_reply, memory_aside, put_reply, serve};

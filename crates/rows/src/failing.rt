@@ -65,11 +65,7 @@ fn full_book(alloc: Global, room: usize) -> Book<Sample, WriterStore<FuseWriter>
 fn failing_book(alloc: Global, lines: &str) -> anyhow::Result<Books> {
     let appends = numbers_in(alloc, lines, "append ")?;
     let fetches = numbers_in(alloc, lines, "fetch ")?;
-    Ok(Book::new(
-        alloc,
-        Sample,
-        FuseStore::new(alloc, appends, fetches),
-    ))
+    Ok(Book::new(alloc, Sample, FuseStore::new(alloc, appends, fetches)))
 }
 
 /// The replies of a new book to the steps of a row, which must be those of another one that runs them
@@ -124,7 +120,10 @@ fn told<S: Store>(alloc: Global, book: &Book<Sample, S>, steps: &[Step]) -> anyh
         let name = steps[at].tenant();
         let before = count_to(&steps[..at], name);
         let replies = calls::replies_of(book, name)?;
-        let reply = replies.as_slice().get(before).context("a reply is missing")?;
+        let reply = replies
+            .as_slice()
+            .get(before)
+            .context("a reply is missing")?;
         push_reply(alloc, &mut text, reply)?;
     }
     Ok(text)

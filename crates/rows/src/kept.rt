@@ -21,7 +21,10 @@ pub(crate) fn push_kept<S: Store>(
     let (name, number) = words.split_once(' ').context("a unit is wanted")?;
     let number = number.parse::<u8>().context("a number is wanted")?;
     let line = match calls::kept(book, &name_of(alloc, name)?, number) {
-        Some(kept) => format!(in alloc; "kept {} {} {}\n", kept.records, kept.shelved, kept.letters)?,
+        Some(kept) => format!(in alloc;
+            "kept {} {} {}\n",
+            kept.records, kept.shelved, kept.letters
+        )?,
         None => String::from_str(alloc, "kept nothing\n")?,
     };
     text.push_str(line.as_str())?;

@@ -24,12 +24,7 @@ pub(crate) fn answers_up_to_each(
 }
 
 /// Whether input that fails before the line of this number has these replies.
-fn answers_up_to(
-    alloc: Global,
-    steps: &str,
-    number: u64,
-    replies: &str,
-) -> anyhow::Result<bool> {
+fn answers_up_to(alloc: Global, steps: &str, number: u64, replies: &str) -> anyhow::Result<bool> {
     let mut reader = Counted::new(FuseReader::new(steps.as_bytes(), number));
     let mut writer = Counted::new(Vec::new(alloc));
     let mut book = new_book(alloc);

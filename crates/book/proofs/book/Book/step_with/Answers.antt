@@ -36,7 +36,7 @@ returns-in-Ok-Some-clause-commits g c =
     let name = (addressed c.args.step).0 in
     rw (← c.self.view_is, c.enter.ensures.entered, c.enter.ensures.reply, c.reserve_place.ensures.same, (rw is at c.in-Ok-Some.ensures.kept)) (inl (
       is_added g.H.Handler.meaning (holding now.tenants now.log) (holding next.tenants next.log) now.history.items
-      (record { who = c.args.who; step = c.args.step; said = a.said; reply = a.reply })
-      c.self.invariant (rw is at c.in-Ok-Some.ensures.answered),
+          (record { who = c.args.who; step = c.args.step; said = a.said; reply = a.reply })
+          c.self.invariant (rw is at c.in-Ok-Some.ensures.answered),
       (rw is at c.in-Ok-Some.ensures.fresh) (world_of g.H.Handler.meaning name now.history.items) (c.self.invariant.stands name),
     ))
