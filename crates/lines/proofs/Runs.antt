@@ -118,9 +118,9 @@ one_line : (read : Option Step) (old mid : Ledger) (reply : Reply) → IsRemembe
 one_line None old mid reply kept (inl (is, same)) = absurd (kept.0 is)
 one_line None old mid reply kept (inr (is, same)) = (is, [], ap (λ l. l.history) same ∙ sym (append-nil old.history), λ others. refl)
 one_line (Some step) old mid reply kept (inl (is, same)) = absurd (kept.0 is)
-one_line (Some step) old mid reply kept (inr (inl (said, grown, device))) =
+one_line (Some step) old mid reply kept (inr (inl (said, grown, device, up, other))) =
     (tt, record { who = Caller; step = step; said = said; reply = reply } ∷ [], grown, λ others. refl)
-one_line (Some step) old mid reply kept (inr (inr (is, same, log))) = memory_reply_is step reply kept is
+one_line (Some step) old mid reply kept (inr (inr (is, same, log, up))) = memory_reply_is step reply kept is
 
 -- the law, one line after the other
 pub enters_each : (lines : List (List ℕ)) (old new : Ledger) (replies : List Reply) → Serves lines old replies new → All IsRemembered replies → EntersEach lines old replies new
