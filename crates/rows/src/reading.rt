@@ -11,14 +11,14 @@ pub(crate) fn answers_up_to_each(
     replies: &str,
 ) -> anyhow::Result<bool> {
     let mut before = String::new(alloc);
-    let mut number = 0;
+    let mut number = 0u64;
     for reply in replies.lines() {
         if !answers_up_to(alloc, steps, number, before.as_str())? {
             return Ok(false);
         }
         before.push_str(reply)?;
         before.push('\n')?;
-        number += 1;
+        number = number.saturating_add(1);
     }
     Ok(true)
 }
