@@ -5,12 +5,10 @@
 //! N bytes. All other lines are steps.
 
 use crate::answers::{answer, push_reply};
-use crate::calls;
 use crate::kept::push_kept;
-use anyhow::{Context, bail};
 use book::Book;
 use handler::Sample;
-use model::{Refusal, Reply, Step, TenantName};
+use model::{Refusal, Reply};
 use stable_log::{FuseStore, FuseWriter, Store, WriterStore};
 use std::alloc::Global;
 
@@ -40,98 +38,32 @@ fn is_step(line: &str) -> bool {
     !line.ends_with(" fails")
 }
 
-/// The replies of a new book over a store that fails as the row tells: step by step, and the same
-/// where all are run at once; and a book tells them of each tenant.
+/// The replies of a new book over a store that fails as the row tells.
 pub(crate) fn failed(alloc: Global, lines: &str) -> anyhow::Result<String> {
     if let Some(room) = numbers_in(alloc, lines, "write past ")?.as_slice().first() {
-        let room = *room as usize;
-        return both_ways(alloc, full_book(alloc, room), full_book(alloc, room), lines);
+        let writer = FuseWriter::new(alloc, *room as usize);
+        let book = Book::new(alloc, Sample, WriterStore::new(alloc, writer));
+        return replies(alloc, book, lines);
     }
-    both_ways(
-        alloc,
-        failing_book(alloc, lines)?,
-        failing_book(alloc, lines)?,
-        lines,
-    )
-}
-
-/// A new book whose log goes to a writer that takes so many bytes.
-fn full_book(alloc: Global, room: usize) -> Book<Sample, WriterStore<FuseWriter>> {
-    let writer = FuseWriter::new(alloc, room);
-    Book::new(alloc, Sample, WriterStore::new(alloc, writer))
-}
-
-/// A new book over a store that fails the calls that the row tells.
-fn failing_book(alloc: Global, lines: &str) -> anyhow::Result<Books> {
     let appends = numbers_in(alloc, lines, "append ")?;
     let fetches = numbers_in(alloc, lines, "fetch ")?;
-    Ok(Book::new(alloc, Sample, FuseStore::new(alloc, appends, fetches)))
+    let book: Books = Book::new(alloc, Sample, FuseStore::new(alloc, appends, fetches));
+    replies(alloc, book, lines)
 }
 
-/// The replies of a new book to the steps of a row, which must be those of another one that runs them
-/// at once, and those that it tells of its tenants.
-fn both_ways<S: Store>(
+/// The replies of a new book to the steps of a row.
+fn replies<S: Store>(
     alloc: Global,
     mut book: Book<Sample, S>,
-    mut other: Book<Sample, S>,
     lines: &str,
 ) -> anyhow::Result<String> {
-    let steps = steps_in(alloc, lines)?;
     let mut text = String::new(alloc);
     for line in lines.lines() {
         if is_step(line) {
             push_reply(alloc, &mut text, &answer(alloc, &mut book, line)?)?;
         }
     }
-    if told(alloc, &book, steps.as_slice())?.as_str() != text.as_str() {
-        bail!("what the book tells of its tenants differs");
-    }
-    let at_once = calls::run(&mut other, steps.as_slice())?;
-    if lines_of(alloc, at_once.as_slice())?.as_str() != text.as_str() {
-        bail!("the replies differ where all steps are run at once");
-    }
     Ok(text)
-}
-
-/// The steps of a row.
-fn steps_in(alloc: Global, lines: &str) -> anyhow::Result<Vec<Step>> {
-    let mut steps = Vec::new(alloc);
-    for line in lines.lines() {
-        if is_step(line) {
-            steps.push(calls::step_of(alloc, line)?)?;
-        }
-    }
-    Ok(steps)
-}
-
-/// Reply lines.
-fn lines_of(alloc: Global, replies: &[Reply]) -> anyhow::Result<String> {
-    let mut text = String::new(alloc);
-    for reply in replies {
-        push_reply(alloc, &mut text, reply)?;
-    }
-    Ok(text)
-}
-
-/// For each step the next of the replies that the book tells of its tenant.
-fn told<S: Store>(alloc: Global, book: &Book<Sample, S>, steps: &[Step]) -> anyhow::Result<String> {
-    let mut text = String::new(alloc);
-    for at in 0..steps.len() {
-        let name = steps[at].tenant();
-        let before = count_to(&steps[..at], name);
-        let replies = calls::replies_of(book, name)?;
-        let reply = replies
-            .as_slice()
-            .get(before)
-            .context("a reply is missing")?;
-        push_reply(alloc, &mut text, reply)?;
-    }
-    Ok(text)
-}
-
-/// How many of the steps are to this tenant.
-fn count_to(steps: &[Step], name: &TenantName) -> usize {
-    steps.iter().filter(|step| step.tenant() == name).count()
 }
 
 /// What a row came to where a step that was refused for the store, or for want of memory, was given
