@@ -58,6 +58,16 @@ LINES = [
     ("a tab before it", b"\t" + STATUS, BEGUN),
     ("a bracket", b"{", BAD),
     ("a number alone", b"1", BAD),
+    ("a number below 0 alone", b"-1", BAD),
+    ("a text alone", b'"x"', BAD),
+    ("a word alone", b"true", BAD),
+    ("null alone", b"null", BAD),
+    ("a list alone", b"[1]", BAD),
+    ("a closing bracket", b"]", BAD),
+    ("a closing brace", b"}", BAD),
+    ("no verb", b'{"tenant":"a","unit":0}', BAD),
+    ("a verb that is no text", b'{"do":0,"tenant":"a","unit":0}', BAD),
+    ("two verbs, the last of a step", b'{"do":"state",' + STATUS[1:], BEGUN),
     ("an empty object", b"{}", BAD),
     ("a text that is a number", post().replace(b'"x"', b"0"), BAD),
     ("a step with a capital", STATUS.replace(b"status", b"Status"), BAD),
@@ -114,6 +124,16 @@ def ends(program):
     return len(ENDS), wrong
 
 
+# One input: five bad lines, and a step without a line end.
+TOGETHER = b"\n{\n\xff\n" + b"[" * (LONGEST + 1) + b'\n{"do":"post","number":1.0}\n' + STATUS
+
+
+def together(program):
+    """Bad lines of each sort behind one another, and then a step."""
+    out = program.run(TOGETHER)
+    return 1, [] if (out[0], out[2]) == (joined([BAD] * 5 + [NO_TENANT]), 0) else [f"{out[0]!r}, status {out[2]}"]
+
+
 def one(program, what, given, want):
     """The line between an open and a status, and as the last one without its line feed."""
     wrong = []
@@ -133,3 +153,4 @@ def checks():
         yield f"line: {what}", lambda program, line=(what, given, want): one(program, *line)
     yield "line: each form in an unusual layout", unusual
     yield "line: as many as ends", ends
+    yield "line: bad ones of each sort in one input", together

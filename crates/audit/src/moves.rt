@@ -7,7 +7,7 @@ ghost use Rattle.audit.specs.Working.{AreInOrder, Makes};
 
 use crate::network::{Made, Network, Worker, add_worker, is_within, take_next, work};
 use handler::Handler;
-use model::{Flaw, Kind, Move, NoMemory, Seat, Source, Text, Unit};
+use model::{Flaw, Kind, MAX_UNITS, Move, NoMemory, Seat, Source, Text, Unit};
 use std::alloc::Global;
 
 /// A unit takes a text from outside, if it is there.
@@ -18,9 +18,7 @@ fn take_text<H: Handler>(handler: &H, net: Network<H::State>, unit: Unit, text: 
     if !is_within(unit, net.workers.len()) {
         return Err(Flaw::NoUnit(unit));
     }
-    let own = text
-        .copy(*net.packets.allocator())
-        .map_err(|_| Flaw::NoMemory)?;
+    let own = text.copy().map_err(|_| Flaw::NoMemory)?;
     work(handler, net, unit, (Source::Outside, own)).map_err(|_| Flaw::NoMemory)
 }
 
@@ -61,8 +59,8 @@ fn join<H: Handler>(handler: &H, net: Network<H::State>, kind: Kind) -> Made<H>
 {
     let mut net = net;
     let units = net.workers.len();
-    if units >= 16 {
-        return Err(Flaw::NoUnit(Unit::new(16)));
+    if units >= MAX_UNITS {
+        return Err(Flaw::NoUnit(Unit::new(MAX_UNITS as u8)));
     }
     let seat = Seat {
         unit: Unit::new(units as u8),

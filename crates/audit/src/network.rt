@@ -96,10 +96,11 @@ pub fn take_next(packets: &mut Vec<Packet>, source: Unit, target: Unit) -> Optio
 
 /// Sends one text.
 fn send(packets: &mut Vec<Packet>, source: Unit, sent: &(Unit, Text)) -> Result<(), NoMemory>
-    ensures { OnOk result (packets.new.items ≡ packets.old.items ++ record { source = source; target = sent.now.0; text = sent.now.1 } ∷ []) }
+    ensures { OnOk result (packets.new.items ≡ packets.old.items
+        ++ record { source = source; target = sent.now.0; text = sent.now.1 } ∷ []) }
 {
     let target = sent.0;
-    let text = sent.1.copy(*packets.allocator())?;
+    let text = sent.1.copy()?;
     packets.push(Packet {
         source,
         target,
@@ -175,7 +176,8 @@ fn turn_at<H: Handler>(
     receipt: &Receipt,
 ) -> Result<Turn<H::State>, NoMemory>
     requires { i < length workers.now.items }
-    ensures { IfOk result (λ turn. (a : WorkerOf H.State) → slice_get workers.now.items i ≡ Some a → turn ≡ H.meaning.handle a.seat a.state receipt.now.0 receipt.now.1) }
+    ensures { IfOk result (λ turn. (a : WorkerOf H.State) → slice_get workers.now.items i ≡ Some a
+        → turn ≡ H.meaning.handle a.seat a.state receipt.now.0 receipt.now.1) }
 {
     let worker = &workers[i];
     let alloc = *workers.allocator();
@@ -207,7 +209,8 @@ fn take_turn<S: Drop>(
     turn: Turn<S>,
 ) -> Result<Vec<(Unit, Text)>, NoMemory>
     requires { i < length workers.old.items }
-    ensures worker { OnOk result ((a : WorkerOf S) → slice_get workers.old.items i ≡ Some a → workers.new.items ≡ slice_set workers.old.items i (after_turn a receipt.0 receipt.1 turn)) }
+    ensures worker { OnOk result ((a : WorkerOf S) → slice_get workers.old.items i ≡ Some a
+        → workers.new.items ≡ slice_set workers.old.items i (after_turn a receipt.0 receipt.1 turn)) }
     ensures sends { IfOk result (λ sends. sends.items ≡ turn.sends) }
 {
     let worker = &mut workers[i];
@@ -226,7 +229,8 @@ pub fn work<H: Handler>(
 ) -> Result<Network<H::State>, NoMemory>
     requires order { AreInOrder net.workers }
     requires within { unit < length net.workers }
-    ensures { IfOk result (λ next. (a : WorkerOf H.State) → slice_get net.workers unit ≡ Some a → next ≡ works_on H.meaning net a receipt.0 receipt.1) }
+    ensures { IfOk result (λ next. (a : WorkerOf H.State) → slice_get net.workers unit ≡ Some a
+        → next ≡ works_on H.meaning net a receipt.0 receipt.1) }
 {
     let Network { workers, packets } = net;
     let mut workers = workers;

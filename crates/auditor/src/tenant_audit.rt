@@ -19,7 +19,7 @@ fn texts_of(alloc: Global, texts: &[Text]) -> Result<Texts, NoMemory>
 {
     let mut copies = Vec::new(alloc);
     for text in texts {
-        copies.push(text.copy(alloc)?)?;
+        copies.push(text.copy()?)?;
     }
     Ok(Texts::new(copies))
 }

@@ -21,7 +21,7 @@ pub(crate) fn logged(alloc: Global, index: u32) -> Result<Record, NoMemory>
     ensures mark { IfOk result (λ r. r.mark.index ≡ index) }
     ensures vector { IfOk result (λ r. length r.vector ≡ 1) }
 {
-    let Some(tenant) = TenantName::new(String::from_str(alloc, "a")?) else {
+    let Some(tenant) = TenantName::new("a") else {
         return Err(NoMemory);
     };
     let mark = Mark {
@@ -62,7 +62,7 @@ pub(crate) fn take(alloc: Global, unit: &mut RecoveryUnit<Sample>) -> Result<usi
         return Ok(0);
     }
     let record = logged(alloc, last + 1)?;
-    let text = record.text.copy(alloc)?;
+    let text = record.text.copy()?;
     match unit.ask(alloc, &Sample, record.source, text)? {
         Some(ask) => {
             let done = ask.work(alloc, &Sample)?;

@@ -94,6 +94,6 @@ impl<'a> Request<'a> {
         let name = self.movement.name();
         let account = self.account;
         let cents = self.cents;
-        Ok(Text::new(format!(in alloc; "{name} {account} {cents}")?))
+        Text::new(format!(in alloc; "{name} {account} {cents}")?)
     }
 }

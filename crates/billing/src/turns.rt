@@ -28,7 +28,7 @@ pub(crate) fn put_out(
     ensures { IfOk result (λ t. t ≡ puts_out accounts.now (string_bytes text)) }
 {
     let mut outputs = Vec::new(alloc);
-    outputs.push(Text::new(text))?;
+    outputs.push(Text::new(text)?)?;
     Ok(Turn {
         state: accounts.copy(alloc)?,
         sends: Vec::new(alloc),

@@ -17,7 +17,7 @@ use Rattle.model.specs.declared.steps.TenantStep.{TenantStep}
 use Rattle.model.specs.declared.steps.TenantStep.TheVariants.{Open}
 use Rattle.shared_log.specs.Logged.{Logged}
 use Rattle.tenant.specs.Outcomes.{done}
-use Rattle.tenant.specs.Stands.{Kept, Stands, StandsAt, Did, IsOpened}
+use Rattle.tenant.specs.Stands.{TenantState, Stands, StandsAt, Did, IsOpened}
 use Rattle.book.specs.History.{DidAt, Holding, IsAnswered, KeepsOthers, LogsAt, StepsAt, named_if_opened, opened_by}
 
 -- what follows from a clause on `Ok`
@@ -53,7 +53,7 @@ module _ {S : Type 0} (M : Meaning S) where
   none_from true units v name answer z e stands = absurd (subst (λ w. StandsAt M name None w []) (sym (ap (λ (o : Outcome). o.world) e)) stands)
   none_from false units v name answer z e stands = sym (ap (λ (o : Outcome). named_if_opened name o.reply) e)
 
-  some_from : (b : Bool) (units : ℕ) (v : World) (name : List ℕ) (answer : Reply) (z : Option World) (k : Kept S)
+  some_from : (b : Bool) (units : ℕ) (v : World) (name : List ℕ) (answer : Reply) (z : Option World) (k : TenantState S)
       → opening b units v ≡ outcome answer z → StandsAt M name (Some k) z [] → named_if_opened name answer ≡ name ∷ []
   some_from true units v name answer z k e stands = sym (ap (λ (o : Outcome). named_if_opened name o.reply) e)
   some_from false units v name answer z k e stands = absurd (subst (λ w. StandsAt M name (Some k) w []) (sym (ap (λ (o : Outcome). o.world) e)) stands)
@@ -64,12 +64,12 @@ module _ {S : Type 0} (M : Meaning S) where
   opened-none kinds quota optimism name answer h = none_from (can_open M kinds quota optimism) _ _ name answer h.0 h.1 (h.2 name [])
 
   -- where one was, it does
-  pub opened-some : (kinds : List (List ℕ)) (quota : Quota) (optimism : ℕ) (name : List ℕ) (answer : Reply) (k : Kept S)
+  pub opened-some : (kinds : List (List ℕ)) (quota : Quota) (optimism : ℕ) (name : List ℕ) (answer : Reply) (k : TenantState S)
       → IsOpened M kinds quota optimism answer (Some k) → named_if_opened name answer ≡ name ∷ []
   opened-some kinds quota optimism name answer k h = some_from (can_open M kinds quota optimism) _ _ name answer h.0 k h.1 (h.2 name [])
 
   -- the reply to an open tenant, and what is kept
-  pub steps_open : (name : List ℕ) (old new : Kept S) (step : TenantStep) (said : Said) (answer : Reply) (before after : Logged)
+  pub steps_open : (name : List ℕ) (old new : TenantState S) (step : TenantStep) (said : Said) (answer : Reply) (before after : Logged)
       → ((w : World) → Stands M name old w before.records → Did M name w new step said answer before after)
       → (w : Option World) → StandsAt M name (Some old) w before.records → StepsAt M name w (Some new) step said answer after.records
   steps_open name old new step said answer before after did None stands = absurd stands
@@ -77,7 +77,7 @@ module _ {S : Type 0} (M : Meaning S) where
       let d = did w stands in (Some d.steps.0, d.steps.1, d.steps.2)
 
   -- what an open tenant logged
-  pub logs_open : (name : List ℕ) (old new : Kept S) (step : TenantStep) (said : Said) (answer : Reply) (before after : Logged)
+  pub logs_open : (name : List ℕ) (old new : TenantState S) (step : TenantStep) (said : Said) (answer : Reply) (before after : Logged)
       → ((w : World) → Stands M name old w before.records → Did M name w new step said answer before after) → before.failures ≤ after.failures
       → (w : Option World) → StandsAt M name (Some old) w before.records → LogsAt M name w step said before after
   logs_open name old new step said answer before after did up None stands = absurd stands
@@ -90,7 +90,7 @@ module _ {S : Type 0} (M : Meaning S) where
   unopened_from name w _ said answer z e = refl
 
   -- a tenant that is open is not opened
-  pub unopened : (name : List ℕ) (old new : Kept S) (step : TenantStep) (said : Said) (answer : Reply) (before after : Logged)
+  pub unopened : (name : List ℕ) (old new : TenantState S) (step : TenantStep) (said : Said) (answer : Reply) (before after : Logged)
       → ((w : World) → Stands M name old w before.records → Did M name w new step said answer before after)
       → (w : Option World) → StandsAt M name (Some old) w before.records → opened_by name step answer ≡ []
   unopened name old new step said answer before after did None stands = absurd stands
@@ -99,7 +99,7 @@ module _ {S : Type 0} (M : Meaning S) where
 
   -- what other tenants stand for stays, also where they are not open
   pub keeps_others : (name : List ℕ) (before after : List (Option Record))
-      → ((k : Kept S) (w : World) (other : List ℕ) → bytes_eq other name ≡ false → Stands M other k w before → Stands M other k w after)
+      → ((k : TenantState S) (w : World) (other : List ℕ) → bytes_eq other name ≡ false → Stands M other k w before → Stands M other k w after)
       → KeepsOthers M name before after
   keeps_others name before after keeps None None other apart stands = tt
   keeps_others name before after keeps None (Some w) other apart stands = absurd stands
@@ -107,9 +107,9 @@ module _ {S : Type 0} (M : Meaning S) where
   keeps_others name before after keeps (Some k) (Some w) other apart stands = keeps k w other apart stands
 
   -- a step of a tenant that is not open was done, and the log stayed
-  pub answered_unopened : (step : Step) (said : Said) (answer : Reply) (at after : List ℕ → Option (Kept S)) (names names_after : List (List ℕ)) (log : Logged)
-      → let before : Holding (Kept S) = record { at = at; names = names; log = log } in
-      let later : Holding (Kept S) = record { at = after; names = names_after; log = log } in
+  pub answered_unopened : (step : Step) (said : Said) (answer : Reply) (at after : List ℕ → Option (TenantState S)) (names names_after : List (List ℕ)) (log : Logged)
+      → let before : Holding (TenantState S) = record { at = at; names = names; log = log } in
+      let later : Holding (TenantState S) = record { at = after; names = names_after; log = log } in
       None ≡ at (addressed step).0
       → DidAt M (addressed step).0 None (addressed step).1 said answer before later
       → ((other : List ℕ) → bytes_eq other (addressed step).0 ≡ false → after other ≡ at other)
@@ -126,14 +126,14 @@ module _ {S : Type 0} (M : Meaning S) where
       only_world (Some w) stands = absurd (subst (λ t. StandsAt M (addressed step).0 t (Some w) log.records) (sym none) stands)
 
   -- what holds of each world that an open tenant stands for holds of the one that it has
-  pub of_open : (name : List ℕ) (k : Kept S) (at : Option (Kept S)) (records : List (Option Record)) (F : Option World → Type 0)
+  pub of_open : (name : List ℕ) (k : TenantState S) (at : Option (TenantState S)) (records : List (Option Record)) (F : Option World → Type 0)
       → Some k ≡ at → ((w : World) → Stands M name k w records → F (Some w))
       → (w : Option World) → StandsAt M name at w records → F w
   of_open name k at records F here f None stands = absurd (subst (λ t. StandsAt M name t None records) (sym here) stands)
   of_open name k at records F here f (Some w) stands = f w (subst (λ t. StandsAt M name t (Some w) records) (sym here) stands)
 
 -- so it is where more is known of that world
-pub of_open_known : {S : Type 0} (M : Meaning S) (name : List ℕ) (k : Kept S) (at : Option (Kept S)) (records : List (Option Record)) (w : Option World) (F : Option World → Type 0)
+pub of_open_known : {S : Type 0} (M : Meaning S) (name : List ℕ) (k : TenantState S) (at : Option (TenantState S)) (records : List (Option Record)) (w : Option World) (F : Option World → Type 0)
     → Some k ≡ at → ((z : World) → Stands M name k z records → w ≡ Some z → F (Some z))
     → StandsAt M name at w records → F w
 of_open_known M name k at records w F here f stands = of_open M name k at records (λ z. w ≡ z → F z) here f w stands refl

@@ -19,7 +19,7 @@ use Rattle.model.specs.declared.steps.TenantStep.{TenantStep}
 use Rattle.model.specs.declared.steps.TenantStep.TheVariants.{Open}
 use Rattle.shared_log.specs.Logged.{Logged}
 use Rattle.tenant.specs.Keeping.{KeepsOn, KeepsPast, OpensPast}
-use Rattle.tenant.specs.Stands.{Did, IsOpened, Kept, Stands, StandsAt}
+use Rattle.tenant.specs.Stands.{Did, IsOpened, TenantState, Stands, StandsAt}
 use Rattle.book.specs.History.{world_of}
 use Rattle.book.specs.Keeping.{KeepsAt, KeepsIn, KeepsOnAt, keeping_after, kept_after}
 
@@ -41,11 +41,11 @@ module _ {S : Type 0} (M : Meaning S) where
   -- ---- what the calls of a tenant say
 
   -- what is left after a step that came out so
-  abbrev Left : Kept S → TenantStep → List Shelf → Outcome → Type 0
+  abbrev Left : TenantState S → TenantStep → List Shelf → Outcome → Type 0
   Left t d shelves o = KeepsIn (Some t) o.world (shelves_in o.world d o.reply shelves)
 
   -- of a tenant that is open
-  pub keeps_open : (name : List ℕ) (old new : Kept S) (d : TenantStep) (said : Said) (answer : Reply) (before after : Logged)
+  pub keeps_open : (name : List ℕ) (old new : TenantState S) (d : TenantStep) (said : Said) (answer : Reply) (before after : Logged)
       → ((w : World) → Stands M name old w before.records → Did M name w new d said answer before after)
       → KeepsOn M name old d said answer new before.records
       → (w : Option World) → StandsAt M name (Some old) w before.records → KeepsOnAt M w (Some old) (record { step = d; said = said }) (Some new)
@@ -55,7 +55,7 @@ module _ {S : Type 0} (M : Meaning S) where
       subst (Left new d shelves) (sym done.steps.1) (keeps w done.steps.0 shelves stands done.steps.1 k)
 
   -- of one that was opened, or not
-  pub keeps_opened : (kinds : List (List ℕ)) (quota : Quota) (optimism : ℕ) (answer : Reply) (t : Option (Kept S)) (said : Said)
+  pub keeps_opened : (kinds : List (List ℕ)) (quota : Quota) (optimism : ℕ) (answer : Reply) (t : Option (TenantState S)) (said : Said)
       → IsOpened M kinds quota optimism answer t → IfSome t (OpensPast answer)
       → KeepsOnAt M None None (record { step = Open kinds quota optimism; said = said }) t
   keeps_opened kinds quota optimism answer None said is past = λ shelves k. tt
@@ -68,7 +68,7 @@ module _ {S : Type 0} (M : Meaning S) where
   -- ---- how much is kept
 
   -- of a unit of a tenant that is open
-  pub kept_open : (name : List ℕ) (history : List Entry) (t : Kept S) (at : Option (Kept S)) (records : List (Option Record)) (unit : ℕ) (found : Option Amount)
+  pub kept_open : (name : List ℕ) (history : List Entry) (t : TenantState S) (at : Option (TenantState S)) (records : List (Option Record)) (unit : ℕ) (found : Option Amount)
       → Some t ≡ at → StandsAt M name at (world_of M name history) records → KeepsAt at (keeping_after M name history)
       → ((w : World) (shelves : List Shelf) → Stands M name t w records → KeepsPast t w shelves → found ≡ kept_in M w shelves unit)
       → found ≡ kept_after M name history unit
@@ -82,7 +82,7 @@ module _ {S : Type 0} (M : Meaning S) where
       go (Some w) s k = f w (keeping_after M name history).shelves s k
 
   -- of one that is not
-  pub kept_none : (name : List ℕ) (history : List Entry) (at : Option (Kept S)) (records : List (Option Record)) (unit : ℕ)
+  pub kept_none : (name : List ℕ) (history : List Entry) (at : Option (TenantState S)) (records : List (Option Record)) (unit : ℕ)
       → None ≡ at → StandsAt M name at (world_of M name history) records → None ≡ kept_after M name history unit
   kept_none name history at records unit here stands =
       go (world_of M name history) (subst (λ k. StandsAt M name k (world_of M name history) records) (sym here) stands)

@@ -17,7 +17,7 @@ use Rattle.model.specs.declared.replies.Entry.{Entry}
 use Rattle.model.specs.declared.replies.Said.{Said}
 use Rattle.model.specs.declared.steps.Step.{Step}
 use Rattle.shared_log.specs.Logged.{Grows}
-use Rattle.tenant.specs.Stands.{Kept, StandsAt}
+use Rattle.tenant.specs.Stands.{TenantState, StandsAt}
 use Rattle.book.specs.Entries.{IsAdded, Ledger}
 use Rattle.book.proofs.Wanting.{never_wanting}
 use Rattle.model.specs.Keeping.{Keeping, keeping, keeping_on}
@@ -47,7 +47,7 @@ own-append t g h =
     ∙ ap (map event_of_pair) (filter-append (λ (p : Step × Said). names t p.0) (pairs g) (pairs h))
     ∙ map-append event_of_pair (filter (λ (p : Step × Said). names t p.0) (pairs g)) (filter (λ (p : Step × Said). names t p.0) (pairs h))
 
-own-push : (t : List ℕ) (h : List Entry) (e : Entry) → own t (pairs (h ++ e ∷ [])) ≡ own t (pairs h) ++ own t (pair_of e ∷ [])
+pub own-push : (t : List ℕ) (h : List Entry) (e : Entry) → own t (pairs (h ++ e ∷ [])) ≡ own t (pairs h) ++ own t (pair_of e ∷ [])
 own-push t h e = own-append t h (e ∷ [])
 
 own-named : (t : List ℕ) (h : List Entry) (e : Entry) → names t e.step ≡ true → own t (pairs (h ++ e ∷ [])) ≡ own t (pairs h) ++ event_of e ∷ []
@@ -148,7 +148,7 @@ module _ {S : Type 0} (M : Meaning S) where
   same_name : (t u : List ℕ) → bytes_eq t u ≡ true → t ≡ u
   same_name t u p = (bytes_eq-Decides t u).0 p
 
-  module _ (before after : Holding (Kept S)) (h : List Entry) (e : Entry)
+  module _ (before after : Holding (TenantState S)) (h : List Entry) (e : Entry)
       (replay : IsReplay M before h) (answered : IsAnswered M e.step e.said e.reply before after) where
     done : DidAt M (name_of e) (world_of M (name_of e) h) (addressed e.step).1 e.said e.reply before after
     done = answered.did (world_of M (name_of e) h) (replay.stands (name_of e))

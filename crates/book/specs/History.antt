@@ -21,7 +21,7 @@ use Rattle.model.specs.declared.steps.Step.{Step}
 use Rattle.model.specs.declared.steps.TenantStep.{TenantStep}
 use Rattle.model.specs.declared.steps.TenantStep.TheVariants.{Open}
 use Rattle.shared_log.specs.Logged.{Grows, IsLeftOf, Logged}
-use Rattle.tenant.specs.Stands.{Kept, StandsAt, released_in}
+use Rattle.tenant.specs.Stands.{TenantState, StandsAt, released_in}
 use Rattle.book.specs.Entries.{CountsDevice, Ledger, IsEntered}
 use Rattle.book.specs.Keeping.{KeepsAt, KeepsOnAt, keeping_after}
 
@@ -94,7 +94,7 @@ abbrev pub holding : {K X : Type 0} → IndexMap (List ℕ) K X → Logged → H
 holding tenants log = record { at = get bytes_eq tenants; names = keys tenants; log = log }
 
 -- the step of a tenant that may be unopened has this reply by the definitions, and what is kept stands for the world after it
-abbrev pub StepsAt : {S : Type 0} → Meaning S → List ℕ → Option World → Option (Kept S) → TenantStep → Said → Reply → List (Option Record) → Type 0
+abbrev pub StepsAt : {S : Type 0} → Meaning S → List ℕ → Option World → Option (TenantState S) → TenantStep → Said → Reply → List (Option Record) → Type 0
 StepsAt M tenant w k step said answer records =
     (z : Option World)
     × (step_alone M w (record { step = step; said = said }) ≡ record { reply = answer; world = z })
@@ -107,7 +107,7 @@ pub record LogsAt {S : Type 0} (M : Meaning S) (tenant : List ℕ) (w : Option W
   pub up : before.failures ≤ after.failures
 
 -- the step of a tenant that may be unopened was done
-pub record DidAt {S : Type 0} (M : Meaning S) (tenant : List ℕ) (w : Option World) (step : TenantStep) (said : Said) (answer : Reply) (before after : Holding (Kept S)) : Type 0 where
+pub record DidAt {S : Type 0} (M : Meaning S) (tenant : List ℕ) (w : Option World) (step : TenantStep) (said : Said) (answer : Reply) (before after : Holding (TenantState S)) : Type 0 where
   pub steps : StepsAt M tenant w (after.at tenant) step said answer after.log.records
   pub keeps : KeepsOnAt M w (before.at tenant) (record { step = step; said = said }) (after.at tenant)
   pub logs : LogsAt M tenant w step said before.log after.log
@@ -116,11 +116,11 @@ pub record DidAt {S : Type 0} (M : Meaning S) (tenant : List ℕ) (w : Option Wo
 -- what any other tenant stands for stays, where the log's records change so
 abbrev pub KeepsOthers : {S : Type 0} → Meaning S → List ℕ → List (Option Record) → List (Option Record) → Type 0
 KeepsOthers {S = S} M tenant before after =
-    (k : Option (Kept S)) (w : Option World) (other : List ℕ)
+    (k : Option (TenantState S)) (w : Option World) (other : List ℕ)
     → bytes_eq other tenant ≡ false → StandsAt M other k w before → StandsAt M other k w after
 
 -- the step was done: whichever world its tenant stood for, this is the reply and what is left, and every other tenant is as it was and stands for what it did
-pub record IsAnswered {S : Type 0} (M : Meaning S) (step : Step) (said : Said) (answer : Reply) (before after : Holding (Kept S)) : Type 0 where
+pub record IsAnswered {S : Type 0} (M : Meaning S) (step : Step) (said : Said) (answer : Reply) (before after : Holding (TenantState S)) : Type 0 where
   pub did : (w : Option World)
       → StandsAt M (addressed step).0 (before.at (addressed step).0) w before.log.records
       → DidAt M (addressed step).0 w (addressed step).1 said answer before after
@@ -137,7 +137,7 @@ pub record IsKept {K : Type 0} (before after : Holding K) : Type 0 where
 -- ---- the whole book
 
 -- the tenants and the log's records are what the history makes of them, and of their past the tenants keep what the rules leave
-pub record IsReplay {S : Type 0} (M : Meaning S) (book : Holding (Kept S)) (history : List Entry) : Type 0 where
+pub record IsReplay {S : Type 0} (M : Meaning S) (book : Holding (TenantState S)) (history : List Entry) : Type 0 where
   pub stands : (tenant : List ℕ) → StandsAt M tenant (book.at tenant) (world_of M tenant history) book.log.records
   pub keeps : (tenant : List ℕ) → KeepsAt (book.at tenant) (keeping_after M tenant history)
   pub order : book.names ≡ opened history

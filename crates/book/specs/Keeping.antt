@@ -8,7 +8,7 @@ use Rattle.model.specs.World.{World}
 use Rattle.model.specs.declared.kept.Kept.{Kept as Amount}
 use Rattle.model.specs.declared.replies.Entry.{Entry}
 use Rattle.tenant.specs.Keeping.{KeepsPast}
-use Rattle.tenant.specs.Kept.{Kept}
+use Rattle.tenant.specs.Kept.{TenantState}
 
 -- a tenant's world after these entries, and the checkpoints that they leave its units
 abbrev pub keeping_after : {S : Type 0} → Meaning S → List ℕ → List Entry → Keeping
@@ -19,16 +19,16 @@ abbrev pub kept_after : {S : Type 0} → Meaning S → List ℕ → List Entry �
 kept_after M tenant history unit = kept_at M (keeping_after M tenant history) unit
 
 -- the tenant, if there is one, keeps of its past what leaves it these checkpoints
-abbrev pub KeepsIn : {S : Type 0} → Option (Kept S) → Option World → List Shelf → Type 0
+abbrev pub KeepsIn : {S : Type 0} → Option (TenantState S) → Option World → List Shelf → Type 0
 KeepsIn None w shelves = Unit {0}
 KeepsIn (Some t) None shelves = ⊥
 KeepsIn (Some t) (Some w) shelves = KeepsPast t w shelves
 
 -- so it is after some events of the tenant
-abbrev pub KeepsAt : {S : Type 0} → Option (Kept S) → Keeping → Type 0
+abbrev pub KeepsAt : {S : Type 0} → Option (TenantState S) → Keeping → Type 0
 KeepsAt t k = KeepsIn t k.world k.shelves
 
 -- a step of this world keeps what the rules leave, whatever the checkpoints before
-abbrev pub KeepsOnAt : {S : Type 0} → Meaning S → Option World → Option (Kept S) → Event → Option (Kept S) → Type 0
+abbrev pub KeepsOnAt : {S : Type 0} → Meaning S → Option World → Option (TenantState S) → Event → Option (TenantState S) → Type 0
 KeepsOnAt M w before e after =
     (shelves : List Shelf) → KeepsIn before w shelves → KeepsAt after (keeping_on M (record { world = w; shelves = shelves }) e)

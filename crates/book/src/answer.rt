@@ -92,16 +92,22 @@ fn open_new<H: Handler>(
 ) -> Result<Answer, NoMemory>
     requires { get bytes_eq tenants.old name.now ≡ None }
     ensures plain { IfOk result IsPlain }
-    ensures opened { IfOk result (λ a. IsOpened H.meaning kinds.now quota optimism a.reply (get bytes_eq tenants.new name.now)) }
-    ensures keeps { IfOk result (λ a. KeepsOnAt H.meaning None None (record { step = TenantStep.Open kinds.now quota optimism; said = a.said }) (get bytes_eq tenants.new name.now)) }
-    ensures names { IfOk result (λ a. keys tenants.new ≡ keys tenants.old ++ opened_by name.now (TenantStep.Open kinds.now quota optimism) a.reply) }
-    ensures others { (t : List ℕ) → bytes_eq t name.now ≡ false → get bytes_eq tenants.new t ≡ get bytes_eq tenants.old t }
+    ensures opened { IfOk result (λ a.
+        IsOpened H.meaning kinds.now quota optimism a.reply (get bytes_eq tenants.new name.now)) }
+    ensures keeps { IfOk result (λ a.
+        KeepsOnAt H.meaning None None (record { step = TenantStep.Open kinds.now quota optimism; said = a.said })
+        (get bytes_eq tenants.new name.now)) }
+    ensures names { IfOk result (λ a.
+        keys tenants.new ≡ keys tenants.old
+        ++ opened_by name.now (TenantStep.Open kinds.now quota optimism) a.reply) }
+    ensures others { (t : List ℕ) → bytes_eq t name.now ≡ false
+        → get bytes_eq tenants.new t ≡ get bytes_eq tenants.old t }
     ensures err { OnErr result (IsUnchanged tenants.old tenants.new) }
 {
     if tenants.reserve(1).is_err() {
         return Err(NoMemory);
     }
-    let own_name = name.copy(alloc)?;
+    let own_name = name.copy();
     let (answer, opened) = Tenant::open(alloc, handler, kinds, quota, optimism)?;
     match opened {
         None => Ok(answer),
@@ -122,10 +128,17 @@ fn answer_open<H: Handler, S: Store>(
     log: &mut SharedLog<S>,
 ) -> Result<Answer, NoMemory>
     ensures kept { IfOk result (λ a. a.kept ≡ a.reply) }
-    ensures steps { IfOk result (λ a. (w : Option World) → StandsAt H.meaning name.now (Some tenant.old) w log.old.records → StepsAt H.meaning name.now w (Some tenant.new) step a.said a.reply log.new.records) }
-    ensures keeps { IfOk result (λ a. (w : Option World) → StandsAt H.meaning name.now (Some tenant.old) w log.old.records → KeepsOnAt H.meaning w (Some tenant.old) (record { step = step; said = a.said }) (Some tenant.new)) }
-    ensures logs { IfOk result (λ a. (w : Option World) → StandsAt H.meaning name.now (Some tenant.old) w log.old.records → LogsAt H.meaning name.now w step a.said log.old log.new) }
-    ensures unopened { IfOk result (λ a. (w : Option World) → StandsAt H.meaning name.now (Some tenant.old) w log.old.records → opened_by name.now step a.reply ≡ []) }
+    ensures steps { IfOk result (λ a. (w : Option World)
+        → StandsAt H.meaning name.now (Some tenant.old) w log.old.records
+        → StepsAt H.meaning name.now w (Some tenant.new) step a.said a.reply log.new.records) }
+    ensures keeps { IfOk result (λ a. (w : Option World)
+        → StandsAt H.meaning name.now (Some tenant.old) w log.old.records
+        → KeepsOnAt H.meaning w (Some tenant.old) (record { step = step; said = a.said }) (Some tenant.new)) }
+    ensures logs { IfOk result (λ a. (w : Option World)
+        → StandsAt H.meaning name.now (Some tenant.old) w log.old.records
+        → LogsAt H.meaning name.now w step a.said log.old log.new) }
+    ensures unopened { IfOk result (λ a. (w : Option World)
+        → StandsAt H.meaning name.now (Some tenant.old) w log.old.records → opened_by name.now step a.reply ≡ []) }
     ensures others_stand { KeepsOthers H.meaning name.now log.old.records log.new.records }
     ensures up { log.old.failures ≤ log.new.failures }
     ensures err { OnErr result (tenant.new ≡ tenant.old) }
@@ -145,8 +158,10 @@ fn answer_unopened<H: Handler>(
 ) -> Result<Answer, NoMemory>
     requires { get bytes_eq tenants.old name.now ≡ None }
     ensures kept { IfOk result (λ a. a.kept ≡ a.reply) }
-    ensures did { IfOk result (λ a. (log : Logged) → DidAt H.meaning name.now None step a.said a.reply (holding tenants.old log) (holding tenants.new log)) }
-    ensures others { (t : List ℕ) → bytes_eq t name.now ≡ false → get bytes_eq tenants.new t ≡ get bytes_eq tenants.old t }
+    ensures did { IfOk result (λ a. (log : Logged)
+        → DidAt H.meaning name.now None step a.said a.reply (holding tenants.old log) (holding tenants.new log)) }
+    ensures others { (t : List ℕ) → bytes_eq t name.now ≡ false
+        → get bytes_eq tenants.new t ≡ get bytes_eq tenants.old t }
     ensures err { OnErr result (IsUnchanged tenants.old tenants.new) }
 {
     match step {
@@ -168,7 +183,8 @@ pub(crate) fn answer<H: Handler, S: Store>(
     step: &Step,
 ) -> Result<Answer, NoMemory>
     ensures kept { IfOk result (λ a. a.kept ≡ a.reply) }
-    ensures answered { IfOk result (λ a. IsAnswered H.meaning step.now a.said a.reply (holding tenants.old log.old) (holding tenants.new log.new)) }
+    ensures answered { IfOk result (λ a.
+        IsAnswered H.meaning step.now a.said a.reply (holding tenants.old log.old) (holding tenants.new log.new)) }
     ensures err { OnErr result (IsKept (holding tenants.old log.old) (holding tenants.new log.new)) }
 {
     let own_step = step.tenant_step(alloc)?;
@@ -186,7 +202,9 @@ pub(crate) fn ask<H: Handler>(
     tenants: &Tenants<H>,
     step: &Step,
 ) -> Result<Option<Ask<H>>, NoMemory>
-    ensures { IfOk result (λ a. (w : Option World) (records : List (Option Record)) → StandsAt H.meaning (addressed step.now).0 (get bytes_eq tenants.now (addressed step.now).0) w records → a ≡ needs_at H.meaning w (addressed step.now).1) }
+    ensures { IfOk result (λ a. (w : Option World) (records : List (Option Record))
+        → StandsAt H.meaning (addressed step.now).0 (get bytes_eq tenants.now (addressed step.now).0) w records
+        → a ≡ needs_at H.meaning w (addressed step.now).1) }
 {
     let Some(tenant) = tenants.get(step.tenant()) else {
         return Ok(None);
@@ -205,12 +223,21 @@ fn answer_open_with<H: Handler, S: Store>(
     worked: Done<H>,
     log: &mut SharedLog<S>,
 ) -> Result<Option<Answer>, NoMemory>
-    ensures fresh { IfOk result (λ o. (w : Option World) → StandsAt H.meaning name.now (Some tenant.old) w log.old.records → WasFresh (needs_at H.meaning w step) worked.input o) }
+    ensures fresh { IfOk result (λ o. (w : Option World)
+        → StandsAt H.meaning name.now (Some tenant.old) w log.old.records
+        → WasFresh (needs_at H.meaning w step) worked.input o) }
     ensures kept { IfOk result (λ o. IfSome o (λ a. a.kept ≡ a.reply)) }
-    ensures steps { IfOk result (λ o. IfSome o (λ a. (w : Option World) → StandsAt H.meaning name.now (Some tenant.old) w log.old.records → StepsAt H.meaning name.now w (Some tenant.new) step a.said a.reply log.new.records)) }
-    ensures keeps { IfOk result (λ o. IfSome o (λ a. (w : Option World) → StandsAt H.meaning name.now (Some tenant.old) w log.old.records → KeepsOnAt H.meaning w (Some tenant.old) (record { step = step; said = a.said }) (Some tenant.new))) }
-    ensures logs { IfOk result (λ o. IfSome o (λ a. (w : Option World) → StandsAt H.meaning name.now (Some tenant.old) w log.old.records → LogsAt H.meaning name.now w step a.said log.old log.new)) }
-    ensures unopened { IfOk result (λ o. IfSome o (λ a. (w : Option World) → StandsAt H.meaning name.now (Some tenant.old) w log.old.records → opened_by name.now step a.reply ≡ [])) }
+    ensures steps { IfOk result (λ o. IfSome o (λ a. (w : Option World)
+        → StandsAt H.meaning name.now (Some tenant.old) w log.old.records
+        → StepsAt H.meaning name.now w (Some tenant.new) step a.said a.reply log.new.records)) }
+    ensures keeps { IfOk result (λ o. IfSome o (λ a. (w : Option World)
+        → StandsAt H.meaning name.now (Some tenant.old) w log.old.records
+        → KeepsOnAt H.meaning w (Some tenant.old) (record { step = step; said = a.said }) (Some tenant.new))) }
+    ensures logs { IfOk result (λ o. IfSome o (λ a. (w : Option World)
+        → StandsAt H.meaning name.now (Some tenant.old) w log.old.records
+        → LogsAt H.meaning name.now w step a.said log.old log.new)) }
+    ensures unopened { IfOk result (λ o. IfSome o (λ a. (w : Option World)
+        → StandsAt H.meaning name.now (Some tenant.old) w log.old.records → opened_by name.now step a.reply ≡ [])) }
     ensures others_stand { KeepsOthers H.meaning name.now log.old.records log.new.records }
     ensures up { log.old.failures ≤ log.new.failures }
     ensures stale { IfOk result (λ o. IfNone o (tenant.new ≡ tenant.old)) }
@@ -231,9 +258,14 @@ pub(crate) fn answer_with<H: Handler, S: Store>(
     step: &Step,
     worked: Done<H>,
 ) -> Result<Option<Answer>, NoMemory>
-    ensures fresh { IfOk result (λ o. (w : Option World) → StandsAt H.meaning (addressed step.now).0 (get bytes_eq tenants.old (addressed step.now).0) w log.old.records → WasFresh (needs_at H.meaning w (addressed step.now).1) worked.input o) }
+    ensures fresh { IfOk result (λ o. (w : Option World)
+        → StandsAt H.meaning (addressed step.now).0
+        (get bytes_eq tenants.old (addressed step.now).0) w log.old.records
+        → WasFresh (needs_at H.meaning w (addressed step.now).1) worked.input o) }
     ensures kept { IfOk result (λ o. IfSome o (λ a. a.kept ≡ a.reply)) }
-    ensures answered { IfOk result (λ o. IfSome o (λ a. IsAnswered H.meaning step.now a.said a.reply (holding tenants.old log.old) (holding tenants.new log.new))) }
+    ensures answered { IfOk result (λ o.
+        IfSome o (λ a.
+        IsAnswered H.meaning step.now a.said a.reply (holding tenants.old log.old) (holding tenants.new log.new))) }
     ensures stale { IfOk result (λ o. IfNone o (IsKept (holding tenants.old log.old) (holding tenants.new log.new))) }
     ensures stale_log { IfOk result (λ o. IfNone o (log.new ≡ log.old)) }
     ensures err { OnErr result (IsKept (holding tenants.old log.old) (holding tenants.new log.new)) }

@@ -183,7 +183,8 @@ impl<H: Handler, S: Store> Book<H, S> {
     /// the tenant gets alone. `NoMemory` comes where there is none for the copies.
     pub fn replies_of(&self, tenant: &TenantName) -> Result<Vec<Reply>, NoMemory>
         ensures replies { IfOk result (λ replies. replies.items ≡ replies_to tenant.now self.now.history) }
-        ensures alone { IfOk result (λ replies. replies.items ≡ (alone H.meaning (own tenant.now (pairs self.now.history))).replies) }
+        ensures alone { IfOk result (λ replies.
+            replies.items ≡ (alone H.meaning (own tenant.now (pairs self.now.history))).replies) }
     {
         replies_in(self.alloc, self.history(), tenant)
     }
@@ -191,7 +192,8 @@ impl<H: Handler, S: Store> Book<H, S> {
     /// The outputs that a unit of the tenant has released so far, if the tenant is open and has the
     /// unit. They follow from the tenant's own entries.
     pub fn released(&self, tenant: &TenantName, unit: Unit) -> Option<&[Text]>
-        ensures { MatchOption result (released_at (world_of H.meaning tenant.now self.now.history) unit ≡ None) (λ texts. released_at (world_of H.meaning tenant.now self.now.history) unit ≡ Some texts.now) }
+        ensures { MatchOption result (released_at (world_of H.meaning tenant.now self.now.history) unit
+            ≡ None) (λ texts. released_at (world_of H.meaning tenant.now self.now.history) unit ≡ Some texts.now) }
     {
         match self.tenants.get(tenant) {
             Some(open) => open.released(unit),
@@ -202,7 +204,8 @@ impl<H: Handler, S: Store> Book<H, S> {
     /// The rows of the tenant's table, which say where its units went back to, in order, if the
     /// tenant is open. They follow from the tenant's own entries.
     pub fn rollbacks(&self, tenant: &TenantName) -> Option<&[Row]>
-        ensures { MatchOption result (table_at (world_of H.meaning tenant.now self.now.history) ≡ None) (λ rows. table_at (world_of H.meaning tenant.now self.now.history) ≡ Some rows.now) }
+        ensures { MatchOption result (table_at (world_of H.meaning tenant.now self.now.history) ≡ None) (λ rows.
+            table_at (world_of H.meaning tenant.now self.now.history) ≡ Some rows.now) }
     {
         match self.tenants.get(tenant) {
             Some(open) => Some(open.rollbacks()),
@@ -253,7 +256,8 @@ impl<H: Handler, S: Store> Book<H, S> {
     /// beginning of each unit's logged receipts, and each unit's outputs in that run begin with what
     /// the unit released. There are no moves for a tenant that is not open.
     pub fn certificate(&self, tenant: &TenantName) -> Result<Vec<Move>, NoMemory>
-        ensures { IfOk result (λ moves. CertifiesAt H.meaning (world_of H.meaning tenant.now self.now.history) moves.items) }
+        ensures { IfOk result (λ moves.
+            CertifiesAt H.meaning (world_of H.meaning tenant.now self.now.history) moves.items) }
     {
         self.certificate_moves(tenant)
     }
@@ -271,7 +275,8 @@ fn reserve_place(history: &mut Vec<Entry>) -> Result<(), NoMemory>
 /// Enters a step with its answer in reserved room, and gives the reply.
 fn enter(history: &mut Vec<Entry>, who: Who, step: Step, answer: Answer) -> Reply
     requires { vec_len history.old + 1 ≤ vec_capacity history.old }
-    ensures entered { history.new.items ≡ history.old.items ++ record { who = who; step = step; said = answer.said; reply = answer.kept } ∷ [] }
+    ensures entered { history.new.items ≡ history.old.items
+        ++ record { who = who; step = step; said = answer.said; reply = answer.kept } ∷ [] }
     ensures reply { result ≡ answer.reply }
 {
     let Answer { said, reply, kept } = answer;
@@ -290,7 +295,7 @@ fn names_of(alloc: Global, names: &[TenantName]) -> Result<Vec<TenantName>, NoMe
 {
     let mut copies = Vec::new(alloc);
     for name in names {
-        copies.push(name.copy(alloc)?)?;
+        copies.push(name.copy())?;
     }
     Ok(copies)
 }

@@ -26,7 +26,7 @@ rises_based base others at b found r = record {
   rising = λ i j x y h e f. r.rising ((at + 1) + i) ((at + 1) + j) x y (omega arith) (get_drop others (at + 1) i x e) (get_drop others (at + 1) j y f);
 }
 
-remove_first : {X : Type 0} (xs : List X) (i : ℕ) (x : X) → slice_get (remove xs 0) i ≡ Some x → slice_get xs (suc i) ≡ Some x
+pub remove_first : {X : Type 0} (xs : List X) (i : ℕ) (x : X) → slice_get (remove xs 0) i ≡ Some x → slice_get xs (suc i) ≡ Some x
 remove_first [] i x e = cc
 remove_first (y ∷ xs) i x e = e
 

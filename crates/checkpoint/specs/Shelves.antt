@@ -2,6 +2,7 @@
 use Rattle.std.specs.Prelude.{◌≡◌, ◌⊎◌, ℕ, ◌+◌, ◌<◌, ◌≤◌, Bool, true, false, cond, ◌&&◌, ◌||◌, ◌==◌, nat_lt, nat_le, List, [], ◌∷◌, ◌++◌, length, drop, Option, Some, None, option_and_then, slice_get}
 use Rattle.std.specs.List.{fold, list_all, list_any, position_or_len, remove, take_while}
 use Rattle.std.specs.Option.{option_map_or}
+use Rattle.model.specs.declared.limits.TheConstants.{MAX_CHECKPOINTS}
 use Rattle.checkpoint.specs.declared.snapshot.Snapshot.{Snapshot}
 
 -- the snapshot that never goes, and the others in the order of putting
@@ -36,9 +37,9 @@ is_at index x = x.index == index
 abbrev pub has_index : {S : Type 0} → Shelved S → ℕ → Bool
 has_index s index = option_map_or (is_at index) s.base false || list_any (is_at index) s.others
 
--- at most 64 others: the one first put goes
+-- as many others as may be kept: then the one first put goes
 abbrev pub with_room : {S : Type 0} → List (Snapshot S) → List (Snapshot S)
-with_room others = cond (nat_lt (length others) 64) others (remove others 0)
+with_room others = cond (nat_lt (length others) MAX_CHECKPOINTS) others (remove others 0)
 
 -- one more snapshot; one at an index that is shelved leaves the shelf as it is
 abbrev pub put_on : {S : Type 0} → Shelved S → Snapshot S → Shelved S

@@ -82,7 +82,8 @@ impl<S: Drop> Shelf<S> {
     /// The snapshot of the greatest index that is not above this one.
     pub fn nearest(&self, index: u32) -> Option<&Snapshot<S>>
         ensures exact { option_copied result ≡ nearest_of self.now index }
-        ensures greatest { MatchOption (option_copied result) (AllAbove self.now index) (λ x. IsNearest self.now index x) }
+        ensures greatest { MatchOption (option_copied result) (AllAbove self.now index) (λ x.
+            IsNearest self.now index x) }
     {
         nearest_among(&self.base, self.others.as_slice(), index)
     }
@@ -209,7 +210,9 @@ fn nearest_among<'a, S>(
 ) -> Option<&'a Snapshot<S>>
     requires { Rises base.now others.now }
     ensures exact { option_copied result ≡ nearest_of (record { base = base.now; others = others.now }) index }
-    ensures greatest { MatchOption (option_copied result) (AllAbove (record { base = base.now; others = others.now }) index) (λ x. IsNearest (record { base = base.now; others = others.now }) index x) }
+    ensures greatest { MatchOption (option_copied result)
+        (AllAbove (record { base = base.now; others = others.now }) index) (λ x.
+        IsNearest (record { base = base.now; others = others.now }) index x) }
 {
     let mut best = match base {
         Some(base) => later_of(index, None, base),

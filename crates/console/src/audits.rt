@@ -55,7 +55,7 @@ fn audit_one<L: Log, W: Write, S: Store>(
     book: &Book<Sample, S>,
     name: String,
 ) -> Option<bool> {
-    let Some(tenant) = TenantName::new(name) else {
+    let Some(tenant) = TenantName::new(name.as_str()) else {
         error!(rt; "a tenant has no name: it is not audited");
         return Some(false);
     };

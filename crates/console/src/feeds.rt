@@ -176,12 +176,13 @@ fn write_feed<W: Write>(
     replies: &[Reply],
 ) -> Result<(), ServeFault> {
     let mut left = replies.iter();
+    let mut text = Vec::new(alloc);
     for line in lines {
         match line {
-            Some(fault) => put_reply(alloc, writer, &fault_reply(*fault))?,
+            Some(fault) => put_reply(alloc, writer, &mut text, &fault_reply(*fault))?,
             None => {
                 if let Some(reply) = left.next() {
-                    put_reply(alloc, writer, reply)?;
+                    put_reply(alloc, writer, &mut text, reply)?;
                 }
             }
         }

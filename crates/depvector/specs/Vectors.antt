@@ -9,8 +9,8 @@ abbrev pub mark_for : List Mark → ℕ → Mark
 mark_for vector unit = slice_index_or vector unit no_mark
 
 -- each of n units at its beginning
-abbrev pub begun : ℕ → List Mark
-begun n = replicate n no_mark
+abbrev pub begun_vector : ℕ → List Mark
+begun_vector n = replicate n no_mark
 
 -- entry by entry the greater mark, as long as the first vector
 abbrev pub joined : List Mark → List Mark → List Mark

@@ -1,7 +1,7 @@
 //! The vector and its calls.
 
 ghost use Rattle.std.specs.Prelude.{◌≡◌, ◌<◌, ◌≤◌, IfOk, OnErr, length, slice_set};
-ghost use Rattle.depvector.specs.Vectors.{begun, joined, mark_for, widened};
+ghost use Rattle.depvector.specs.Vectors.{begun_vector, joined, mark_for, widened};
 
 use crate::marks::{beginning, join_marks};
 use model::{Mark, Marks, NoMemory, Unit};
@@ -38,7 +38,7 @@ impl DepVector {
     /// `NoMemory` where the entries find no memory.
     pub fn new(alloc: Global, n: usize) -> Result<DepVector, NoMemory>
         requires { n ≤ 256 }
-        ensures { IfOk result (λ v. v ≡ begun n) }
+        ensures { IfOk result (λ v. v ≡ begun_vector n) }
     {
         let marks = vec![in alloc; beginning(); n]?;
         Ok(DepVector { marks })

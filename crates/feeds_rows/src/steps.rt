@@ -5,11 +5,8 @@ ghost use Rattle.std.specs.Prelude.{◌<◌, ◌^◌, IfOk, vec_len};
 use model::{Letter, NoMemory, Quota, Step, TenantName, Text, Texts, Unit};
 use std::alloc::Global;
 
-fn name(alloc: Global, text: &str) -> Result<TenantName, NoMemory> {
-    match TenantName::new(String::from_str(alloc, text)?) {
-        Some(name) => Ok(name),
-        None => Err(NoMemory),
-    }
+fn name(text: &str) -> Result<TenantName, NoMemory> {
+    TenantName::new(text).ok_or(NoMemory)
 }
 
 /// The opening of a tenant with units of these kinds.
@@ -19,7 +16,7 @@ pub(crate) fn open(alloc: Global, tenant: &str, kinds: &[&str]) -> Result<Step, 
         names.push(Text::of(alloc, kind)?)?;
     }
     Ok(Step::Open {
-        tenant: name(alloc, tenant)?,
+        tenant: name(tenant)?,
         kinds: Texts::new(names),
         quota: Quota {
             volatile: 1024,
@@ -39,7 +36,7 @@ pub(crate) fn post(
     text: &str,
 ) -> Result<Step, NoMemory> {
     Ok(Step::Post {
-        tenant: name(alloc, tenant)?,
+        tenant: name(tenant)?,
         unit: Unit::new(unit),
         number,
         text: Text::of(alloc, text)?,
@@ -49,7 +46,7 @@ pub(crate) fn post(
 /// The delivery of a letter.
 pub(crate) fn deliver(alloc: Global, tenant: &str, letter: u32) -> Result<Step, NoMemory> {
     Ok(Step::Deliver {
-        tenant: name(alloc, tenant)?,
+        tenant: name(tenant)?,
         letter: Letter::new(letter),
     })
 }
@@ -67,7 +64,7 @@ pub(crate) fn feed(
         steps.push(post(alloc, tenant, 0, number, text)?)?;
     }
     steps.push(Step::Status {
-        tenant: name(alloc, tenant)?,
+        tenant: name(tenant)?,
         unit: Unit::new(0),
     })?;
     Ok(steps)

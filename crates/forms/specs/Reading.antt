@@ -5,7 +5,7 @@ use Rattle.serde_json.specs.Data.{Data, Items, no_items, item, Members}
 use Rattle.serde_json.specs.Events.{members_len}
 use Rattle.serde_json.specs.Read.{read}
 use Rattle.serde_json.specs.Find.{get, as_str, as_number, as_u64, as_array, as_object}
-use Rattle.ident.specs.declared.limits.TheConstants.{MAX_VOLATILE_QUOTA, MAX_HELD_QUOTA, MAX_LETTERS_QUOTA, MAX_OPTIMISM}
+use Rattle.model.specs.declared.limits.TheConstants.{MAX_VOLATILE_QUOTA, MAX_HELD_QUOTA, MAX_LETTERS_QUOTA, MAX_OPTIMISM}
 use Rattle.model.specs.Names.{is_tenant_name}
 use Rattle.model.specs.declared.names.Quota.{Quota}
 use Rattle.model.specs.declared.steps.Step.{Step}

@@ -48,21 +48,21 @@ fn step(alloc: Global, value: &Value) -> Result<Step, LineFault>
     } else if verb == "post" {
         post(alloc, value)
     } else if verb == "deliver" {
-        deliver(alloc, value)
+        deliver(value)
     } else if verb == "flush" {
-        flush(alloc, value)
+        flush(value)
     } else if verb == "checkpoint" {
-        checkpoint(alloc, value)
+        checkpoint(value)
     } else if verb == "kill" {
-        kill(alloc, value)
+        kill(value)
     } else if verb == "restart" {
-        restart(alloc, value)
+        restart(value)
     } else if verb == "notice" {
-        notice(alloc, value)
+        notice(value)
     } else if verb == "release" {
-        release(alloc, value)
+        release(value)
     } else if verb == "status" {
-        status(alloc, value)
+        status(value)
     } else {
         Err(LineFault::Bad)
     }
@@ -72,7 +72,7 @@ fn step(alloc: Global, value: &Value) -> Result<Step, LineFault>
 fn open(alloc: Global, value: &Value) -> Result<Step, LineFault>
     ensures { Gives (λ s. s) result (open_of (view value.now)) }
 {
-    let tenant = name(alloc, value)?;
+    let tenant = name(value)?;
     let kinds = texts(alloc, value, "units")?;
     let quota = quota(value)?;
     let optimism = optimism(value)?;
@@ -139,7 +139,7 @@ fn optimism(value: &Value) -> Result<u32, LineFault>
 fn join(alloc: Global, value: &Value) -> Result<Step, LineFault>
     ensures { Gives (λ s. s) result (join_of (view value.now)) }
 {
-    let tenant = name(alloc, value)?;
+    let tenant = name(value)?;
     let kind = Text::of(alloc, text(value, "kind")?)?;
     if count_is(value, 3) {
         Ok(Step::Join { tenant, kind })
@@ -152,7 +152,7 @@ fn join(alloc: Global, value: &Value) -> Result<Step, LineFault>
 fn post(alloc: Global, value: &Value) -> Result<Step, LineFault>
     ensures { Gives (λ s. s) result (post_of (view value.now)) }
 {
-    let tenant = name(alloc, value)?;
+    let tenant = name(value)?;
     let unit = Unit::new(byte(value, "unit")?);
     let number = word(value, "number")?;
     let text = Text::of(alloc, text(value, "text")?)?;
@@ -169,10 +169,10 @@ fn post(alloc: Global, value: &Value) -> Result<Step, LineFault>
 }
 
 #[tactic(auto, unfolding(crate::specs::Reading::deliver_of))]
-fn deliver(alloc: Global, value: &Value) -> Result<Step, LineFault>
+fn deliver(value: &Value) -> Result<Step, LineFault>
     ensures { Gives (λ s. s) result (deliver_of (view value.now)) }
 {
-    let tenant = name(alloc, value)?;
+    let tenant = name(value)?;
     let letter = Letter::new(word(value, "letter")?);
     if count_is(value, 3) {
         Ok(Step::Deliver { tenant, letter })
@@ -183,10 +183,10 @@ fn deliver(alloc: Global, value: &Value) -> Result<Step, LineFault>
 
 // The tenant and the unit of a step that names these alone.
 #[tactic(auto, unfolding(crate::specs::Reading::place_of))]
-fn place(alloc: Global, value: &Value) -> Result<(TenantName, Unit), LineFault>
+fn place(value: &Value) -> Result<(TenantName, Unit), LineFault>
     ensures { Gives (λ p. p) result (place_of (view value.now)) }
 {
-    let tenant = name(alloc, value)?;
+    let tenant = name(value)?;
     let unit = Unit::new(byte(value, "unit")?);
     if count_is(value, 3) {
         Ok((tenant, unit))
@@ -195,52 +195,52 @@ fn place(alloc: Global, value: &Value) -> Result<(TenantName, Unit), LineFault>
     }
 }
 
-fn flush(alloc: Global, value: &Value) -> Result<Step, LineFault>
+fn flush(value: &Value) -> Result<Step, LineFault>
     ensures { Gives (λ s. s) result (flush_of (view value.now)) }
 {
-    let (tenant, unit) = place(alloc, value)?;
+    let (tenant, unit) = place(value)?;
     Ok(Step::Flush { tenant, unit })
 }
 
-fn checkpoint(alloc: Global, value: &Value) -> Result<Step, LineFault>
+fn checkpoint(value: &Value) -> Result<Step, LineFault>
     ensures { Gives (λ s. s) result (checkpoint_of (view value.now)) }
 {
-    let (tenant, unit) = place(alloc, value)?;
+    let (tenant, unit) = place(value)?;
     Ok(Step::Checkpoint { tenant, unit })
 }
 
-fn kill(alloc: Global, value: &Value) -> Result<Step, LineFault>
+fn kill(value: &Value) -> Result<Step, LineFault>
     ensures { Gives (λ s. s) result (kill_of (view value.now)) }
 {
-    let (tenant, unit) = place(alloc, value)?;
+    let (tenant, unit) = place(value)?;
     Ok(Step::Kill { tenant, unit })
 }
 
-fn restart(alloc: Global, value: &Value) -> Result<Step, LineFault>
+fn restart(value: &Value) -> Result<Step, LineFault>
     ensures { Gives (λ s. s) result (restart_of (view value.now)) }
 {
-    let (tenant, unit) = place(alloc, value)?;
+    let (tenant, unit) = place(value)?;
     Ok(Step::Restart { tenant, unit })
 }
 
-fn notice(alloc: Global, value: &Value) -> Result<Step, LineFault>
+fn notice(value: &Value) -> Result<Step, LineFault>
     ensures { Gives (λ s. s) result (notice_of (view value.now)) }
 {
-    let (tenant, unit) = place(alloc, value)?;
+    let (tenant, unit) = place(value)?;
     Ok(Step::Notice { tenant, unit })
 }
 
-fn release(alloc: Global, value: &Value) -> Result<Step, LineFault>
+fn release(value: &Value) -> Result<Step, LineFault>
     ensures { Gives (λ s. s) result (release_of (view value.now)) }
 {
-    let (tenant, unit) = place(alloc, value)?;
+    let (tenant, unit) = place(value)?;
     Ok(Step::Release { tenant, unit })
 }
 
-fn status(alloc: Global, value: &Value) -> Result<Step, LineFault>
+fn status(value: &Value) -> Result<Step, LineFault>
     ensures { Gives (λ s. s) result (status_of (view value.now)) }
 {
-    let (tenant, unit) = place(alloc, value)?;
+    let (tenant, unit) = place(value)?;
     Ok(Step::Status { tenant, unit })
 }
 
@@ -252,11 +252,10 @@ fn text<'v>(value: &'v Value, key: &str) -> Result<&'v str, LineFault>
     value.get(key).and_then(Value::as_str).ok_or(LineFault::Bad)
 }
 
-fn name(alloc: Global, value: &Value) -> Result<TenantName, LineFault>
+fn name(value: &Value) -> Result<TenantName, LineFault>
     ensures { Gives (λ n. n) result (name_at (view value.now)) }
 {
-    let text = String::from_str(alloc, text(value, "tenant")?)?;
-    TenantName::new(text).ok_or(LineFault::Bad)
+    TenantName::new(text(value, "tenant")?).ok_or(LineFault::Bad)
 }
 
 fn whole(value: &Value, key: &str, greatest: u64) -> Result<u64, LineFault>

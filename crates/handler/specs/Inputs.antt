@@ -12,8 +12,8 @@ pub record Input (S : Type 0) : Type 0 where
   pub text : List ℕ
 
 -- what the input's turn means
-abbrev pub turn_of : {S : Type 0} → Meaning S → Input S → Turn S
-turn_of M i = M.handle i.seat i.state i.source i.text
+abbrev pub turn_upon_input : {S : Type 0} → Meaning S → Input S → Turn S
+turn_upon_input M i = M.handle i.seat i.state i.source i.text
 
 -- an input with a turn
 pub record Worked (S : Type 0) : Type 0 where

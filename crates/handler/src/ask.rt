@@ -1,7 +1,7 @@
 //! A turn that is asked for, and one that was worked.
 
 ghost use Rattle.std.specs.Prelude.{◌≡◌, ◌↔◌, IfOk, IsTrue};
-ghost use Rattle.handler.specs.Inputs.{Worked, turn_of};
+ghost use Rattle.handler.specs.Inputs.{Worked, turn_upon_input};
 
 use crate::handler::Handler;
 use crate::turn::Turn;
@@ -37,13 +37,13 @@ pub struct Done<H: Handler> {
 
 impl<H: Handler> Model for Done<H> {
     ghost use Rattle.std.specs.Prelude.{◌≡◌};
-    ghost use Rattle.handler.specs.Inputs.{Worked, turn_of};
+    ghost use Rattle.handler.specs.Inputs.{Worked, turn_upon_input};
 
     ghost Value = { Worked H.State };
 
     ghost view = { λ d. record { input = d.input; turn = d.turn } };
 
-    ghost invariant = { λ d. d.turn ≡ turn_of H.meaning d.input };
+    ghost invariant = { λ d. d.turn ≡ turn_upon_input H.meaning d.input };
 }
 
 impl<H: Handler> Ask<H> {
@@ -102,14 +102,14 @@ impl<H: Handler> Done<H> {
 
     /// The turn, which is what the input means, to be looked at. It takes no memory.
     pub fn turn(&self) -> &Turn<H::State>
-        ensures { result.now ≡ turn_of H.meaning self.now.input }
+        ensures { result.now ≡ turn_upon_input H.meaning self.now.input }
     {
         &self.turn
     }
 
     /// The turn, which is what the input means.
     pub fn into_turn(self) -> Turn<H::State>
-        ensures { result ≡ turn_of H.meaning self.input }
+        ensures { result ≡ turn_upon_input H.meaning self.input }
     {
         let Done { input, turn } = self;
         turn

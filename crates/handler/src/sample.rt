@@ -213,7 +213,8 @@ fn value(digits: &[u8]) -> Option<u64>
 
 /// The number that a text is, if it is one.
 fn number_told(text: &str) -> Option<u64>
-    ensures { MatchOption result (is_number text.now ≡ false) (λ n. (is_number text.now ≡ true) × (n ≡ value_of text.now)) }
+    ensures { MatchOption result (is_number text.now ≡ false) (λ n. (is_number text.now ≡ true)
+        × (n ≡ value_of text.now)) }
 {
     let digits = text.as_bytes();
     if 1 <= digits.len() && digits.len() <= 20 && are_digits(digits) {

@@ -3,13 +3,13 @@ use Rattle.std.proofs.Common.{◌≡◌, refl, ℕ, ◌+◌, ◌-◌, ◌<◌, �
 use Rattle.std.proofs.lemmas.List.{get_or_append_left, get_or_push}
 use Rattle.std.specs.Prelude.{slice_index}
 use native.Mathlib.Decide.{dec_lt}
-use Rattle.incarnation.specs.Starts.{AllHigh, IsFirstLow, AreLows, IsBelowLast, Keeps, KeepsAll}
+use Rattle.incarnation.specs.Starts.{AllHigh, IsFirstLow, AreLows, IsBelowLast, KeepsLows, KeepsAll}
 
 -- no numbers have no lows
 pub keeps_none : KeepsAll [] [] [] []
 keeps_none = record { by_16 = none 16; by_256 = none 256; by_4096 = none 4096 }
   where
-    none : (size : ℕ) → Keeps [] [] size
+    none : (size : ℕ) → KeepsLows [] [] size
     none size = record { long = refl; are = λ e r h k l. absurd (omega arith) }
 
 -- one stretch after another
@@ -54,10 +54,10 @@ own_last xs x r within last =
     rw (is, get_or_push xs x 0 (length xs) refl) (omega arith)
 
 -- lows of the numbers are lows of more numbers
-pub lows_older : (xs lows : List ℕ) (x size : ℕ) → Keeps xs lows size → AreLows (xs ++ x ∷ []) lows size
+pub lows_older : (xs lows : List ℕ) (x size : ℕ) → KeepsLows xs lows size → AreLows (xs ++ x ∷ []) lows size
 lows_older xs lows x size k e r h le lt = let long = k.long in rw (get_or_append_left xs (x ∷ []) 0 r (omega (arith, long, h, le))) (k.are e r h le lt)
 
-pub keeps_more : (xs lows : List ℕ) (x low size : ℕ) → Keeps xs lows size → IsBelowLast (xs ++ x ∷ []) low size → Keeps (xs ++ x ∷ []) (lows ++ low ∷ []) size
+pub keeps_more : (xs lows : List ℕ) (x low size : ℕ) → KeepsLows xs lows size → IsBelowLast (xs ++ x ∷ []) low size → KeepsLows (xs ++ x ∷ []) (lows ++ low ∷ []) size
 keeps_more xs lows x low size k below = record { long = lengths; are = lows_are }
   where
     long_xs : length (xs ++ x ∷ []) ≡ length xs + 1

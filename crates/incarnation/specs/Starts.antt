@@ -20,12 +20,12 @@ abbrev pub IsBelowLast : List ℕ → ℕ → ℕ → Type 0
 IsBelowLast xs low size = (r : ℕ) → r < length xs → length xs ≤ r + size → low ≤ slice_index xs r
 
 -- one low for each number
-pub record Keeps (xs lows : List ℕ) (size : ℕ) : Type 0 where
+pub record KeepsLows (xs lows : List ℕ) (size : ℕ) : Type 0 where
   pub long : length lows ≡ length xs
   pub are : AreLows xs lows size
 
 -- lows for 16, 256 and 4096
 pub record KeepsAll (xs of_16 of_256 of_4096 : List ℕ) : Type 0 where
-  pub by_16 : Keeps xs of_16 16
-  pub by_256 : Keeps xs of_256 256
-  pub by_4096 : Keeps xs of_4096 4096
+  pub by_16 : KeepsLows xs of_16 16
+  pub by_256 : KeepsLows xs of_256 256
+  pub by_4096 : KeepsLows xs of_4096 4096

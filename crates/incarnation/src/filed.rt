@@ -52,7 +52,8 @@ impl UnitRows {
     /// The incarnation of the last row, 0 where there is none.
     pub fn latest(&self) -> u32
         ensures none { length self.now.rows ≡ 0 → result ≡ 0 }
-        ensures last { (r : Row) → slice_get self.now.rows (length self.now.rows - 1) ≡ Some r → result ≡ r.incarnation }
+        ensures last { (r : Row) → slice_get self.now.rows (length self.now.rows - 1) ≡ Some r
+            → result ≡ r.incarnation }
     {
         if self.rows.is_empty() {
             return 0;
@@ -101,7 +102,8 @@ impl UnitRows {
     /// `NoMemory` where the row finds no memory; the rows stay as they were.
     pub fn append(&mut self, row: Row, place: usize) -> Result<(), NoMemory>
         requires { (i p : ℕ) → slice_get self.old.places i ≡ Some p → p ≤ place }
-        ensures ok { IfOk result (λ _. self.new ≡ record { rows = self.old.rows ++ row ∷ []; places = self.old.places ++ place ∷ [] }) }
+        ensures ok { IfOk result (λ _.
+            self.new ≡ record { rows = self.old.rows ++ row ∷ []; places = self.old.places ++ place ∷ [] }) }
         ensures err { OnErr result (self.new ≡ self.old) }
     {
         self.rows.reserve(1)?;

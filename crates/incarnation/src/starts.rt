@@ -121,7 +121,8 @@ fn first_from(starts: &[u64], from: usize, index: u64) -> usize
 fn low_of(lows: &[u64], own: u64, size: usize, wanted: usize) -> u64
     requires some { 0 < size }
     requires few { size + wanted < 2 ^ 32 }
-    ensures { (xs : List ℕ) → AreLows xs lows.now size → length xs ≡ length lows.now + 1 → IsBelowLast xs own size → IsBelowLast xs result wanted }
+    ensures { (xs : List ℕ) → AreLows xs lows.now size → length xs ≡ length lows.now + 1 → IsBelowLast xs own size
+        → IsBelowLast xs result wanted }
 {
     let mut low = own;
     let mut end = lows.len();

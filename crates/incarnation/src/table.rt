@@ -121,7 +121,8 @@ impl StartTable {
 
     /// What is filed for a unit, if anything.
     fn filed(&self, unit: Unit) -> Option<&UnitRows>
-        ensures filed { MatchOption result (filed_of self.now unit ≡ nothing_filed) (λ f. f.now ≡ filed_of self.now unit) }
+        ensures filed { MatchOption result (filed_of self.now unit ≡ nothing_filed) (λ f.
+            f.now ≡ filed_of self.now unit) }
         ensures ordered { Ordered self.now }
     {
         self.files.get(usize::from(unit.number()))
@@ -148,7 +149,8 @@ impl StartTable {
 fn append_row(rows: &mut Vec<Row>, files: &mut Vec<UnitRows>, row: Row) -> Result<(), NoMemory>
     requires { (u i p : ℕ) → slice_get (filed_at files.old.items u).places i ≡ Some p → p ≤ length rows.old.items }
     ensures rows { IfOk result (λ _. rows.new.items ≡ rows.old.items ++ row ∷ []) }
-    ensures files { IfOk result (λ _. (u : ℕ) → filed_at files.new.items u ≡ with_row row (length rows.old.items) u (filed_at files.old.items u)) }
+    ensures files { IfOk result (λ _. (u : ℕ)
+        → filed_at files.new.items u ≡ with_row row (length rows.old.items) u (filed_at files.old.items u)) }
     ensures no_rows { OnErr result (rows.new.items ≡ rows.old.items) }
     ensures no_files { OnErr result ((u : ℕ) → filed_at files.new.items u ≡ filed_at files.old.items u) }
 {
@@ -162,7 +164,8 @@ fn append_row(rows: &mut Vec<Row>, files: &mut Vec<UnitRows>, row: Row) -> Resul
 /// Files a row that has this place. Where that finds no memory, what is filed stays.
 fn file(files: &mut Vec<UnitRows>, row: Row, place: usize) -> Result<(), NoMemory>
     requires { (u i p : ℕ) → slice_get (filed_at files.old.items u).places i ≡ Some p → p ≤ place }
-    ensures ok { IfOk result (λ _. (u : ℕ) → filed_at files.new.items u ≡ with_row row place u (filed_at files.old.items u)) }
+    ensures ok { IfOk result (λ _. (u : ℕ)
+        → filed_at files.new.items u ≡ with_row row place u (filed_at files.old.items u)) }
     ensures err { OnErr result ((u : ℕ) → filed_at files.new.items u ≡ filed_at files.old.items u) }
 {
     make_files(files, row.unit)?;

@@ -19,6 +19,7 @@ use Rattle.model.specs.declared.steps.Step.{Step}
 use Rattle.book.specs.History.{world_of, IsHonestAt, IsHonestAfter, RecordedAfter}
 use Rattle.journal.specs.GoingOn.{IsPromise}
 use Rattle.journal.proofs.Outcomes.{same_outcome}
+use Rattle.book.proofs.Replays.{own-push}
 
 -- what an entry is to its tenant
 abbrev event_of : Entry → Event
@@ -40,12 +41,6 @@ abbrev reply_of : Entry → Reply
 reply_of e = e.reply
 
 -- ---- one more entry, for a tenant
-
-own-push : (t : List ℕ) (h : List Entry) (e : Entry) → own t (pairs (h ++ e ∷ [])) ≡ own t (pairs h) ++ own t (pair_of e ∷ [])
-own-push t h e =
-    ap (own t) (map-append pair_of h (e ∷ []))
-    ∙ ap (map event_of_pair) (filter-append (λ (p : Step × Said). names t p.0) (pairs h) (pair_of e ∷ []))
-    ∙ map-append event_of_pair (filter (λ (p : Step × Said). names t p.0) (pairs h)) (filter (λ (p : Step × Said). names t p.0) (pair_of e ∷ []))
 
 same_name : (t u : List ℕ) → bytes_eq t u ≡ true → t ≡ u
 same_name t u p = (bytes_eq-Decides t u).0 p

@@ -54,7 +54,8 @@ impl<R, F> Journaled<R, F> {
         R: Drop,
         F: Drop,
         requires { 0 < block }
-        ensures { IfOk result (λ j. j ≡ record { inner = inner; file = file; unkept = []; lines = 0; is_ended = true; is_broken = false }) }
+        ensures { IfOk result (λ j.
+            j ≡ record { inner = inner; file = file; unkept = []; lines = 0; is_ended = true; is_broken = false }) }
     {
         Ok(Journaled {
             inner,
@@ -88,10 +89,17 @@ impl<R: Read, F: Durable> Read for Journaled<R, F> {
     fn read(&mut self, buf: &mut [u8]) -> io::Result<usize>
         ensures bound { ReadsAtMost result buf.new }
         ensures bytes { ReadConsumes (left R.remaining self.old) (left R.remaining self.new) result buf.new }
-        ensures grows { 0 < length buf.old → IfOk result (λ n. Appends (F.contents self.old.file) (F.contents self.new.file) (lasting self.old.is_ended (take n buf.new))) }
-        ensures stands { 0 < length buf.old → IfOk result (λ n. IsStanding (F.contents self.new.file) (F.synced self.new.file) (take n buf.new)) }
+        ensures grows { 0 < length buf.old
+            → IfOk result (λ n.
+            Appends (F.contents self.old.file) (F.contents self.new.file)
+            (lasting self.old.is_ended (take n buf.new))) }
+        ensures stands { 0 < length buf.old
+            → IfOk result (λ n. IsStanding (F.contents self.new.file) (F.synced self.new.file) (take n buf.new)) }
         ensures ended { 0 < length buf.old → IfOk result (λ n. self.new.is_ended ≡ ends_after (take n buf.new)) }
-        ensures lines { 0 < length buf.old → IfOk result (λ n. self.new.lines ≡ min (self.old.lines + line_feeds (lasting self.old.is_ended (take n buf.new))) (2 ^ 64 - 1)) }
+        ensures lines { 0 < length buf.old
+            → IfOk result (λ n.
+            self.new.lines ≡ min (self.old.lines + line_feeds (lasting self.old.is_ended (take n buf.new)))
+            (2 ^ 64 - 1)) }
         ensures broken { self.old.is_broken ≡ true → IsErr result × (self.new ≡ self.old) }
     {
         if self.is_broken {

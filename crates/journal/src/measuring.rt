@@ -44,7 +44,8 @@ pub fn measure<R: BufRead>(reader: &mut R, from: u64) -> io::Result<Extent>
 
 /// Measures what the reader shows, and tells whether it is at its end.
 fn measure_block<R: BufRead>(reader: &mut R, from: u64, measured: &mut Extent) -> io::Result<bool>
-    ensures { IfOk result (λ is_end. MeasuresBlock (R.remaining reader.old) (R.remaining reader.new) from measured.old measured.new is_end) }
+    ensures { IfOk result (λ is_end.
+        MeasuresBlock (R.remaining reader.old) (R.remaining reader.new) from measured.old measured.new is_end) }
 {
     let block = match reader.fill_buf() {
         Ok(block) => block,

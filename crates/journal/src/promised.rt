@@ -39,7 +39,8 @@ impl<W: Write> Write for Promised<W> {
     fn write(&mut self, buf: &[u8]) -> io::Result<usize>
         ensures bound { WritesAtMost result buf.now }
         ensures bytes { WriteAppends (W.contents self.old.inner) (W.contents self.new.inner) result buf.now }
-        ensures refused { tells_memory buf.now ≡ true → IsErr result × (self.new ≡ record { inner = self.old.inner; is_refused = true }) }
+        ensures refused { tells_memory buf.now ≡ true → IsErr result
+            × (self.new ≡ record { inner = self.old.inner; is_refused = true }) }
         ensures passed { tells_memory buf.now ≡ false → self.new.is_refused ≡ self.old.is_refused }
     {
         if buf.ends_with(&MEMORY_END) {

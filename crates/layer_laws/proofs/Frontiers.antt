@@ -20,7 +20,7 @@ use Rattle.layer_laws.specs.Laws.{frontier, is_first_firm, FrontiersTell}
 use Rattle.layer_laws.proofs.Fronts.{same_front, pair_on_path}
 
 -- a node of the path is firm just where it is before the frontier
-frontier_tells : (w : World) → Sound w → (u i x : ℕ) (m : Member) → slice_get w.members u ≡ Some m → slice_get m.path i ≡ Some x → nat_lt i (frontier w m) ≡ is_firm w x
+pub frontier_tells : (w : World) → Sound w → (u i x : ℕ) (m : Member) → slice_get w.members u ≡ Some m → slice_get m.path i ≡ Some x → nat_lt i (frontier w m) ≡ is_firm w x
 frontier_tells w s u i x m found e = same_bools (nat_lt i (frontier w m)) (is_firm w x) there back
   where
     there : nat_lt i (frontier w m) ≡ true → is_firm w x ≡ true

@@ -19,7 +19,7 @@ use Rattle.theory.proofs.Counts.{is_began, units_at, units_above, units_step_le}
 use Rattle.theory.proofs.CertificateRun.{past_unit, began_alone}
 use Rattle.theory.proofs.Certificate.{Invariant, reachable_invariant}
 use Rattle.theory.proofs.VectorJoin.{vectors_join}
-use Rattle.depvector.specs.Vectors.{mark_for, joined, widened, begun}
+use Rattle.depvector.specs.Vectors.{mark_for, joined, widened, begun_vector}
 use Rattle.depvector.proofs.Joins.{length-joined}
 use Rattle.layer_laws.specs.Laws.{IsMade, VectorsAreMade, vector_before, vector_received}
 use Rattle.layer_laws.proofs.Marks.{mark_for-joined}
@@ -29,7 +29,7 @@ pub length-vector_of : (nodes : List Node) (x : ℕ) → length (vector_of nodes
 length-vector_of nodes x = length-map (numbers_from 0 (node_at nodes x).units) (greatest_mark (past_nodes nodes x)) ∙ length-numbers 0 (node_at nodes x).units
 
 length-widened : (vector : List Mark) (n : ℕ) → length vector ≤ n → length (widened vector n) ≡ n
-length-widened vector n h = let a = length-append vector (begun (n - length vector)) in let b = length-replicate (n - length vector) no_mark in omega (arith, a, b)
+length-widened vector n h = let a = length-append vector (begun_vector (n - length vector)) in let b = length-replicate (n - length vector) no_mark in omega (arith, a, b)
 
 module _ {S : Type 0} (M : Meaning S) (w : World) (g : Invariant M w) where
   -- a unit that was not there has no mark in a past

@@ -35,7 +35,7 @@ count_same {X} P p f k (suc n) (x ∷ xs) h same none =
     go false e rest = rw (← e) (let t : 0 + count_marks p (suc k) (map f (numbers_from (suc k) n)) ≡ length (filter P xs) = omega (arith, rest) in t)
 
 -- the stable length of a unit
-stable_length : (members : List Member) (u : ℕ) → slice_index (map (λ m. m.stable) members) u ≡ stable_of (slice_get members u)
+pub stable_length : (members : List Member) (u : ℕ) → slice_index (map (λ m. m.stable) members) u ≡ stable_of (slice_get members u)
 stable_length [] u = refl
 stable_length (m ∷ members) zero = refl
 stable_length (m ∷ members) (suc u) = stable_length members u

@@ -20,8 +20,8 @@ use Rattle.session.specs.Arrivals.{arrival_of}
 use Rattle.session.specs.Counts.{Counts, advanced, no_counts, sent_one, taken_from, sent_to, IsCounted}
 use Rattle.orphan.specs.Tests.{is_orphan_by, unstable_count}
 use Rattle.output_commit.specs.declared.held.Held.{Held}
-use Rattle.output_commit.specs.Holds.{first_is_firm, below as held_below}
-use Rattle.volatile_log.specs.Logs.{below}
+use Rattle.output_commit.specs.Holds.{first_is_firm, held_below}
+use Rattle.volatile_log.specs.Logs.{records_below}
 
 -- ---- dependency vectors
 
@@ -149,7 +149,7 @@ FrontiersTell M = (w : World) → Reachable M w → (u : ℕ) (m : Member) → s
 -- that are not below an index that of the unit that went back to there. A kill leaves none, and tells how many there were.
 pub record LogsFollow {S : Type 0} (M : Meaning S) (w : World) (m : Member) (name : List ℕ) : Type 0 where
   pub logged : (k : ℕ) → drop k (volatile_records M name w m) ≡ volatile_records M name w (flushed m k)
-  pub cut : (i known : ℕ) → below (volatile_records M name w m) i ≡ volatile_records M name w (back_at m (take i m.path) known)
+  pub cut : (i known : ℕ) → records_below (volatile_records M name w m) i ≡ volatile_records M name w (back_at m (take i m.path) known)
   pub cleared : volatile_records M name w (killed m) ≡ []
   pub lost : length (volatile_records M name w m) ≡ length m.path - m.stable
 

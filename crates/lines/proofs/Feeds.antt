@@ -1,7 +1,7 @@
 -- Reading a feed, one line after the other.
 use Rattle.std.proofs.Common.{◌≡◌, ◌≢◌, ◌≤◌, arith, ℕ, List, [], ◌∷◌, ◌++◌, length, cond, Option, None, Result, refl, sym, ap, subst}
 use Rattle.std.proofs.lemmas.Bool.{le-leb}
-use Rattle.ident.specs.declared.limits.TheConstants.{MAX_LINE_BYTES}
+use Rattle.model.specs.declared.limits.TheConstants.{MAX_LINE_BYTES}
 use Rattle.model.specs.declared.steps.Step.{Step}
 use Rattle.forms.specs.Reading.{Gives, step_of_line}
 use Rattle.forms.specs.declared.fault.LineFault.{LineFault}

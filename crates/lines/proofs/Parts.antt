@@ -4,7 +4,7 @@ use Rattle.std.proofs.lemmas.List.Elements.{All-nil, All-head, All-tail, All-app
 use Rattle.std.proofs.lemmas.List.{nil_from_length}
 use Rattle.std.specs.Prelude.{IfSome}
 use Rattle.std.specs.Io.KnownBytes.{Consumes, Keeps, IsAtEnd}
-use Rattle.ident.specs.declared.limits.TheConstants.{MAX_LINE_BYTES}
+use Rattle.model.specs.declared.limits.TheConstants.{MAX_LINE_BYTES}
 use Rattle.lines.specs.Lines.{onto_first, lines_of, IsPart, Holds, LinesRead}
 use Rattle.lines.specs.Parts.{TakesPart, Hears}
 use Rattle.lines.specs.declared.input.Heard.TheVariants.{Line, Long, End}

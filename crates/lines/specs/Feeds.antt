@@ -1,6 +1,6 @@
 -- What reading a feed gives.
 use Rattle.std.specs.Prelude.{◌≡◌, ◌<◌, ℕ, List, [], ◌∷◌, length, Option, IfSome, Result, Err}
-use Rattle.ident.specs.declared.limits.TheConstants.{MAX_LINE_BYTES}
+use Rattle.model.specs.declared.limits.TheConstants.{MAX_LINE_BYTES}
 use Rattle.model.specs.declared.steps.Step.{Step}
 use Rattle.forms.specs.Reading.{Gives, step_of_line}
 use Rattle.forms.specs.declared.fault.LineFault.{LineFault}

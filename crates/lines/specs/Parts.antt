@@ -1,7 +1,7 @@
 -- What one read of a line takes.
 use Rattle.std.specs.Prelude.{◌≡◌, ◌<◌, ◌≤◌, length, ℕ, List, [], ◌∷◌, ◌++◌, Bool, Option}
 use Rattle.std.specs.Io.KnownBytes.{Consumes, Keeps, IsAtEnd}
-use Rattle.ident.specs.declared.limits.TheConstants.{MAX_LINE_BYTES}
+use Rattle.model.specs.declared.limits.TheConstants.{MAX_LINE_BYTES}
 use Rattle.lines.specs.Lines.{IsPart, Holds, LinesRead}
 use Rattle.lines.specs.declared.input.Heard.{Heard}
 use Rattle.lines.specs.declared.input.Heard.TheVariants.{Line, Long, End}

@@ -1,7 +1,7 @@
 -- What serving an input writes, and what the book is then.
 use Rattle.std.specs.Prelude.{◌≡◌, ◌≢◌, ◌<◌, ◌⊎◌, ℕ, List, [], ◌∷◌, ◌++◌, length, map, Bool, true, false, nat_le, if◌then◌else◌, Option, Some, None, IfSome, flat_map}
 use Rattle.std.specs.Io.KnownBytes.{Appends, Keeps, IsAtEnd}
-use Rattle.ident.specs.declared.limits.TheConstants.{MAX_LINE_BYTES}
+use Rattle.model.specs.declared.limits.TheConstants.{MAX_LINE_BYTES}
 use Rattle.model.specs.declared.refusals.Refusal.TheVariants.{BadLine, Memory}
 use Rattle.model.specs.declared.replies.Entry.{Entry}
 use Rattle.model.specs.declared.replies.Reply.{Reply}

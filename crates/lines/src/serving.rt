@@ -1,6 +1,6 @@
 //! Serving.
 
-ghost use Rattle.std.specs.Prelude.{◌≡◌, ◌≢◌, ◌<◌, ◌≤◌, ℕ, List, IfOk, OnOk, OnErr, All, length, vec_capacity, Some};
+ghost use Rattle.std.specs.Prelude.{◌≡◌, ◌≢◌, ◌<◌, ◌≤◌, ℕ, List, [], IfOk, OnOk, OnErr, All, length, vec_capacity, Some};
 ghost use Rattle.std.specs.Io.KnownBytes.{Appends};
 ghost use Rattle.model.specs.Failures.{HasRisen};
 ghost use Rattle.model.specs.declared.replies.Reply.{Reply as ReplyOf};
@@ -21,9 +21,7 @@ use quick_forms::{read_step, write_reply};
 use shared_log::Store;
 use std::alloc::Global;
 use std::io::{BufRead, Write};
-
-// The room that a reply's line begins with: most need no more.
-const SHORT_REPLY_BYTES: usize = 128;
+use std::mem;
 
 /// Answers each line of the input, in order, and tells how many there were.
 ///
@@ -56,6 +54,7 @@ pub fn serve<R: BufRead, W: Write, H: Handler, S: Store>(
     // Each line takes a call at least, so that the count of lines fits.
     let _most = reader.calls_left();
     let mut scratch = Scratch::new(alloc);
+    let mut text = Vec::new(alloc);
     let mut ahead = false;
     let mut count = 0;
     loop {
@@ -66,6 +65,7 @@ pub fn serve<R: BufRead, W: Write, H: Handler, S: Store>(
             book,
             &mut scratch,
             &mut held,
+            &mut text,
             &mut ahead,
         )? {
             return Ok(count);
@@ -82,6 +82,7 @@ fn serve_line<R: BufRead, W: Write, H: Handler, S: Store>(
     book: &mut Book<H, S>,
     scratch: &mut Scratch,
     held: &mut Vec<u8>,
+    text: &mut Vec<u8>,
     ahead: &mut bool,
 ) -> Result<bool, ServeFault>
     requires { MAX_LINE_BYTES ≤ vec_capacity held.old }
@@ -107,32 +108,34 @@ fn serve_line<R: BufRead, W: Write, H: Handler, S: Store>(
             let reply = Reply::Refused {
                 refusal: Refusal::BadLine,
             };
-            put_reply(alloc, writer, &reply)?;
+            put_reply(alloc, writer, text, &reply)?;
             Ok(true)
         }
         Heard::Line => {
             let reply = answer_line(alloc, book, scratch, held.as_slice());
-            put_reply(alloc, writer, &reply)?;
+            put_reply(alloc, writer, text, &reply)?;
             Ok(true)
         }
     }
 }
 
-// The bytes of a reply's line, with its line feed.
-fn line_of(alloc: Global, reply: &Reply) -> Result<Vec<u8>, NoMemory>
+// The bytes of a reply's line, with its line feed, in an empty buffer.
+fn line_of(room: Vec<u8>, reply: &Reply) -> Result<Vec<u8>, NoMemory>
+    requires { room.items ≡ [] }
     ensures { IfOk result (λ bytes. bytes.items ≡ reply_line reply.now) }
 {
-    let room = Vec::with_capacity(alloc, SHORT_REPLY_BYTES)?;
-    let mut bytes = write_reply(alloc, room, reply)?;
+    let mut bytes = write_reply(room, reply)?;
     bytes.push(b'\n')?;
     Ok(bytes)
 }
 
-/// Writes a reply's line, with its line feed. `NoMemory` comes where there is none for the text, and
-/// `Write` only where the writer failed; a beginning of the line may be written then.
+/// Writes a reply's line, with its line feed. Its text is made in a buffer that can be kept for the next; what it
+/// held is gone. `NoMemory` comes where there is none for the text, and `Write` only where the writer failed; a
+/// beginning of the line may be written then.
 pub fn put_reply<W: Write>(
     alloc: Global,
     writer: &mut Counted<W>,
+    text: &mut Vec<u8>,
     reply: &Reply,
 ) -> Result<(), ServeFault>
     ensures ok { OnOk result (Appends (W.contents writer.old.inner) (W.contents writer.new.inner)
@@ -143,10 +146,14 @@ pub fn put_reply<W: Write>(
     ensures read { result ≢ Err ServeFault.Read }
     ensures same { result ≢ Err ServeFault.Write → writer.new.failed ≡ writer.old.failed }
 {
-    let Ok(text) = line_of(alloc, reply) else {
+    let mut room = mem::replace(text, Vec::new(alloc));
+    room.clear();
+    let Ok(line) = line_of(room, reply) else {
         return Err(ServeFault::NoMemory);
     };
-    match writer.put(text.as_slice()) {
+    let put = writer.put(line.as_slice());
+    *text = line;
+    match put {
         Ok(()) => Ok(()),
         Err(_) => Err(ServeFault::Write),
     }

@@ -16,7 +16,8 @@ use Rattle.model.specs.Nodes.{began}
 use Rattle.model.specs.Sample.{sample}
 use Rattle.model.specs.Steps.{first_refusal, at_unit, at_up, restart}
 use Rattle.model.specs.World.{World, Member}
-use Rattle.model.proofs.Rows.{quiet, asks, flush, post, deliver, opening, at, start, replies, certificate_after, outputs_of, relay_and_echo, vector_after}
+use Rattle.model.specs.Records.{quiet}
+use Rattle.model.proofs.Rows.{asks, flush, post, deliver, opening, at, start, replies, certificate_after, outputs_of, relay_and_echo, vector_after}
 
 -- an opening with this degree of optimism
 abbrev opening_at : ℕ → List (List ℕ) → Event

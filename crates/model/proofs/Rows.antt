@@ -24,10 +24,7 @@ use Rattle.model.specs.declared.moves.Flaw.{Flaw}
 use Rattle.model.specs.declared.moves.Flaw.TheVariants.{NothingToReceive, NoUnit as NoUnitThere}
 use Rattle.std.specs.Fmt.{digits}
 use Rattle.model.specs.Steps.{first_refusal, at_unit, at_up}
-
--- what the store says where it is not asked, and where it acknowledges as many appends
-abbrev pub quiet : Said
-quiet = record { appended = 0; end = Whole }
+use Rattle.model.specs.Records.{quiet}
 
 abbrev pub asks : TenantStep → Event
 asks step = record { step = step; said = quiet }

@@ -1,6 +1,7 @@
 -- Runs without failures: units that only take texts from outside and letters from plain queues.
 use Rattle.std.specs.Prelude.{◌≡◌, ℕ, ◌+◌, Bool, cond, ◌&&◌, ◌==◌, nat_lt, nat_le, List, [], ◌∷◌, ◌++◌, length, take, Option, Some, None, Result, Ok, Err, slice_get, slice_set, map}
 use Rattle.std.specs.List.{filter, flat_map}
+use Rattle.model.specs.declared.limits.TheConstants.{MAX_UNITS}
 use mathlib.Core.List.{IsPrefix}
 use Rattle.model.specs.declared.names.Seat.{Seat}
 use Rattle.model.specs.declared.names.Source.{Source}
@@ -90,7 +91,7 @@ moved M net (Takes u text) = takes_text M net u text (slice_get net.workers u)
 moved M net (TakesLetter to source) = takes_letter M net to source (slice_get net.workers to)
 moved M net (Joins kind) =
     let units = length net.workers in
-    cond (nat_le 16 units) (Err (NoUnit 16))
+    cond (nat_le MAX_UNITS units) (Err (NoUnit MAX_UNITS))
     (Ok (record net { workers = net.workers ++ new_worker M (record { unit = units; kind = kind; home = units + 1 }) ∷ [] }))
 
 abbrev pub if_moved : {S : Type 0} → Result (Network S) Flaw → (Network S → Result (Network S) Flaw) → Result (Network S) Flaw

@@ -1,6 +1,7 @@
 -- What is kept of a tenant's past: the checkpoints of its units, and what is behind the greatest that is firm.
 use Rattle.std.specs.Prelude.{ℕ, suc, ◌+◌, ◌-◌, Bool, true, false, cond, not, ◌&&◌, ◌||◌, ◌==◌, nat_lt, List, [], ◌∷◌, ◌++◌, length, take, drop, replicate, Option, Some, None, slice_get, slice_set}
 use Rattle.std.specs.List.{count_by, enumerate_from, filter, fold, list_any, take_while}
+use Rattle.model.specs.declared.limits.TheConstants.{MAX_CHECKPOINTS}
 use Rattle.model.specs.declared.kept.Kept.{Kept}
 use Rattle.model.specs.declared.replies.Reply.{Reply}
 use Rattle.model.specs.declared.replies.Reply.TheVariants.{Opened, Joined, Flushed, Checkpointed, Restarted, Noticed, Stopped}
@@ -24,9 +25,9 @@ pub record Shelf : Type 0 where
 abbrev pub first_shelf : Shelf
 first_shelf = record { base = 0; others = [] }
 
--- at most 64 others: the one first put goes
+-- as many others as may be kept: then the one first put goes
 abbrev pub with_room : List ℕ → List ℕ
-with_room others = cond (nat_lt (length others) 64) others (drop 1 others)
+with_room others = cond (nat_lt (length others) MAX_CHECKPOINTS) others (drop 1 others)
 
 -- one more; one at an index that is shelved, or at the beginning, leaves the shelf as it is
 abbrev pub put : ℕ → Shelf → Shelf

@@ -1,5 +1,6 @@
 -- The record of a node that is logged, and which answers of a store are honest.
 use Rattle.std.specs.Prelude.{◌≡◌, ◌≢◌, ◌≤◌, ◌<◌, ◌↔◌, ◌&&◌, ℕ, Bool, false, not, nat_le, nat_lt, List, [], length, take, drop, map, Option, Some, None, slice_get, unwrap_or, true}
+use Rattle.model.specs.declared.limits.TheConstants.{MAX_INCARNATION}
 use Rattle.model.specs.declared.names.Mark.{Mark}
 use Rattle.model.specs.declared.names.Source.TheVariants.{Outside}
 use Rattle.model.specs.declared.records.Record.{Record}
@@ -12,6 +13,10 @@ use Rattle.model.specs.Lists.{numbers_from}
 use Rattle.model.specs.Nodes.{Node, Cause, began, outside, letter, Message, node_at}
 use Rattle.model.specs.Steps.{path_kept}
 use Rattle.model.specs.World.{World, Member, executed, incarnation_of, source_of, text_of, mark_of, greatest_mark, past_nodes}
+
+-- what the store says where it is not asked
+abbrev pub quiet : Said
+quiet = record { appended = 0; end = Whole }
 
 abbrev pub number_of_letter : Option Message → ℕ
 number_of_letter None = 0
@@ -69,7 +74,7 @@ FlushesUnit M tenant w said grown (Some m) = ((m.up ≡ true) → IsFlushed M te
 
 -- whether the unit has an incarnation left
 abbrev pub has_incarnation_left : World → ℕ → Bool
-has_incarnation_left w u = not (nat_le 65535 (incarnation_of w.table u))
+has_incarnation_left w u = not (nat_le MAX_INCARNATION (incarnation_of w.table u))
 
 -- whether a restart asks the store: of a unit that is there and down, with an incarnation left
 abbrev pub restart_fetches : World → ℕ → Option Member → Bool

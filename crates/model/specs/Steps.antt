@@ -1,6 +1,7 @@
 -- What each step of a tenant answers and leaves.
 use Rattle.std.specs.Prelude.{ℕ, ◌+◌, ◌-◌, Bool, true, false, cond, if◌then◌else◌, not, ◌&&◌, ◌||◌, nat_lt, nat_le, min, List, [], ◌∷◌, ◌++◌, length, take, Option, Some, None, slice_get, slice_set, slice_index, map, is_none}
 use Rattle.std.specs.List.{fold, list_any, take_while}
+use Rattle.model.specs.declared.limits.TheConstants.{MAX_UNITS, MAX_TEXT_BYTES, MAX_TURN_EFFECTS, MAX_VOLATILE_QUOTA, MAX_HELD_QUOTA, MAX_LETTERS_QUOTA, MAX_OPTIMISM, MAX_INCARNATION, MAX_INDEX}
 use Rattle.model.specs.declared.names.Seat.{Seat}
 use Rattle.model.specs.declared.names.Row.{Row}
 use Rattle.model.specs.declared.names.Start.{Start}
@@ -106,7 +107,7 @@ abbrev pub with_receipt : World → ℕ → Member → Cause → World
 with_receipt w u m cause = record (with_member w u (with_place m (length w.nodes))) { nodes = next_node w u m cause ∷ w.nodes }
 
 abbrev pub is_long : List ℕ → Bool
-is_long text = nat_lt 4096 (length text)
+is_long text = nat_lt MAX_TEXT_BYTES (length text)
 
 -- the turn that a receipt would have
 abbrev pub turn_upon_receipt : {S : Type 0} → Meaning S → World → ℕ → Member → Cause → Turn S
@@ -121,13 +122,13 @@ number_tests w m source number =
 -- whether there is room for one more receipt
 abbrev pub room_tests : World → Member → List ℕ → List (Bool × Refusal)
 room_tests w m text =
-    (nat_le 4294967295 (length m.path - 1), Limit)
+    (nat_le MAX_INDEX (length m.path - 1), Limit)
     ∷ (nat_le w.quota.volatile (length m.path - m.stable), OverQuota)
     ∷ (is_long text, TooMuch)
     ∷ []
 
 abbrev pub is_large : {S : Type 0} → Turn S → Bool
-is_large turn = nat_lt 64 (length turn.sends + length turn.outputs) || (list_any (λ s. is_long s.1) turn.sends || list_any is_long turn.outputs)
+is_large turn = nat_lt MAX_TURN_EFFECTS (length turn.sends + length turn.outputs) || (list_any (λ s. is_long s.1) turn.sends || list_any is_long turn.outputs)
 
 -- whether the turn can be taken
 abbrev pub turn_tests : {S : Type 0} → Meaning S → World → Member → Turn S → List (Bool × Refusal)
@@ -232,7 +233,7 @@ is_device NoMemory = false
 
 -- a new incarnation is due, and the store may fail to give the records
 abbrev pub going_back_tests : World → ℕ → Said → List (Bool × Refusal)
-going_back_tests w u said = (nat_le 65535 (incarnation_of w.table u), Limit) ∷ (is_device said.end, Store) ∷ []
+going_back_tests w u said = (nat_le MAX_INCARNATION (incarnation_of w.table u), Limit) ∷ (is_device said.end, Store) ∷ []
 
 abbrev pub restart : World → ℕ → Said → Outcome
 restart w u said = at_unit w u (λ m.
@@ -297,7 +298,7 @@ with_unit home w kind =
 
 abbrev pub join_kind : World → Option ℕ → Outcome
 join_kind w None = refused w BadOpen
-join_kind w (Some kind) = unless w ((nat_le 16 (length w.members), Limit) ∷ []) (record {
+join_kind w (Some kind) = unless w ((nat_le MAX_UNITS (length w.members), Limit) ∷ []) (record {
   reply = Joined (length w.members);
   world = Some (with_unit (length w.members + 1) w kind);
 })
@@ -309,7 +310,7 @@ abbrev pub within : ℕ → ℕ → ℕ → Bool
 within low x high = nat_le low x && nat_le x high
 
 abbrev pub is_quota : Quota → Bool
-is_quota q = within 1 q.volatile 1024 && (within 1 q.held 1024 && within 1 q.letters 1000000)
+is_quota q = within 1 q.volatile MAX_VOLATILE_QUOTA && (within 1 q.held MAX_HELD_QUOTA && within 1 q.letters MAX_LETTERS_QUOTA)
 
 abbrev pub kind_or_0 : Option ℕ → ℕ
 kind_or_0 None = 0
@@ -318,7 +319,7 @@ kind_or_0 (Some kind) = kind
 -- 1 to 16 kinds that the handler knows, and limits in their range
 abbrev pub can_open : {S : Type 0} → Meaning S → List (List ℕ) → Quota → ℕ → Bool
 can_open M names quota optimism =
-    within 1 (length names) 16 && (not (list_any (λ n. is_none (M.kind n)) names) && (is_quota quota && nat_le optimism 16))
+    within 1 (length names) MAX_UNITS && (not (list_any (λ n. is_none (M.kind n)) names) && (is_quota quota && nat_le optimism MAX_OPTIMISM))
 
 -- every unit at its beginning, and nothing known, released or lost
 abbrev pub opened_with : {S : Type 0} → Meaning S → List (List ℕ) → Quota → ℕ → Outcome

@@ -10,6 +10,7 @@
 
 mod fault;
 mod kept;
+mod limits;
 mod moves;
 mod names;
 mod records;
@@ -20,6 +21,11 @@ mod text;
 
 pub use fault::NoMemory;
 pub use kept::Kept;
+pub use limits::{
+    MAX_CHECKPOINTS, MAX_FEEDS, MAX_HELD_QUOTA, MAX_INCARNATION, MAX_INDEX, MAX_LETTERS_QUOTA,
+    MAX_LINE_BYTES, MAX_NAME_BYTES, MAX_OPTIMISM, MAX_TEXT_BYTES, MAX_TURN_EFFECTS, MAX_UNITS,
+    MAX_VOLATILE_QUOTA,
+};
 pub use moves::{Flaw, Move};
 pub use names::{Kind, Letter, Mark, Quota, Row, Seat, Source, Start, Unit};
 pub use records::{Marks, Record};

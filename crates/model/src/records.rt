@@ -64,8 +64,8 @@ impl Record {
     pub fn copy(&self, alloc: Global) -> Result<Record, NoMemory>
         ensures { IfOk result (λ r. r ≡ self.now) }
     {
-        let tenant = self.tenant.copy(alloc)?;
-        let text = self.text.copy(alloc)?;
+        let tenant = self.tenant.copy();
+        let text = self.text.copy()?;
         let vector = self.vector.copy(alloc)?;
         Ok(Record {
             tenant,

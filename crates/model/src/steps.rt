@@ -160,9 +160,7 @@ impl Step {
                 quota: *quota,
                 optimism: *optimism,
             }),
-            Step::Join { kind, .. } => Ok(TenantStep::Join {
-                kind: kind.copy(alloc)?,
-            }),
+            Step::Join { kind, .. } => Ok(TenantStep::Join { kind: kind.copy()? }),
             Step::Post {
                 unit,
                 number,
@@ -171,7 +169,7 @@ impl Step {
             } => Ok(TenantStep::Post {
                 unit: *unit,
                 number: *number,
-                text: text.copy(alloc)?,
+                text: text.copy()?,
             }),
             Step::Deliver { letter, .. } => Ok(TenantStep::Deliver { letter: *letter }),
             Step::Flush { unit, .. } => Ok(TenantStep::Flush { unit: *unit }),
@@ -188,7 +186,7 @@ impl Step {
     pub fn copy(&self, alloc: Global) -> Result<Step, NoMemory>
         ensures { IfOk result (λ s. s ≡ self.now) }
     {
-        let tenant = self.tenant().copy(alloc)?;
+        let tenant = self.tenant().copy();
         match self {
             Step::Open {
                 kinds,
@@ -203,7 +201,7 @@ impl Step {
             }),
             Step::Join { kind, .. } => Ok(Step::Join {
                 tenant,
-                kind: kind.copy(alloc)?,
+                kind: kind.copy()?,
             }),
             Step::Post {
                 unit,
@@ -214,7 +212,7 @@ impl Step {
                 tenant,
                 unit: *unit,
                 number: *number,
-                text: text.copy(alloc)?,
+                text: text.copy()?,
             }),
             Step::Deliver { letter, .. } => Ok(Step::Deliver {
                 tenant,

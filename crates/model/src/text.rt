@@ -1,6 +1,7 @@
 //! Texts and lists that contracts see by their content.
 
 ghost use Rattle.std.specs.Prelude.{◌≡◌, ℕ, List, Some, None, if◌then◌else◌, IfOk, length, string_bytes};
+ghost use Rattle.std.specs.Arc.{arc_str_bytes};
 ghost use Rattle.std.specs.List.{list_all};
 ghost use Rattle.std.specs.Str.{bytes_eq};
 ghost use Rattle.std.proofs.Common.{rules};
@@ -9,44 +10,50 @@ ghost use Rattle.std.specs.Hash as fed;
 ghost use Rattle.model.specs.Names.{is_name_byte, is_tenant_name};
 
 use crate::fault::NoMemory;
+use crate::limits::MAX_NAME_BYTES;
 use crate::names::Letter;
+use arrayvec::ArrayString;
 use std::alloc::Global;
 use std::hash::{Hash, Hasher};
 use std::marker::Model;
+use std::sync::ArcStr;
 
-/// A text, seen as its bytes.
+/// A text, seen as its bytes. Its copies share one place in memory, which goes with the last of them.
 #[derive(Debug, Drop)]
 pub struct Text {
-    string: String,
+    shared: ArcStr,
 }
 
 impl Model for Text {
-    ghost use Rattle.std.specs.Prelude.{List, ℕ, string_bytes};
+    ghost use Rattle.std.specs.Prelude.{List, ℕ};
+    ghost use Rattle.std.specs.Arc.{arc_str_bytes};
 
     ghost Value = { List ℕ };
 
-    ghost view = { λ t. string_bytes t.string };
+    ghost view = { λ t. arc_str_bytes t.shared };
 }
 
 impl Text {
-    pub fn new(string: String) -> Text
-        ensures { result ≡ string_bytes string }
+    /// The string as a text, which takes a few bytes more.
+    pub fn new(string: String) -> Result<Text, NoMemory>
+        ensures { IfOk result (λ t. t ≡ string_bytes string) }
     {
-        Text { string }
+        let shared = ArcStr::from_string(string)?;
+        Ok(Text { shared })
     }
 
     /// A text of its own with these characters.
     pub fn of(alloc: Global, text: &str) -> Result<Text, NoMemory>
         ensures { IfOk result (λ t. t ≡ text.now) }
     {
-        let string = String::from_str(alloc, text)?;
-        Ok(Text { string })
+        let shared = ArcStr::from_str(alloc, text)?;
+        Ok(Text { shared })
     }
 
     pub fn as_str(&self) -> &str
         ensures { result.now ≡ self.now }
     {
-        let text = &self.string;
+        let text = &self.shared;
         text.as_str()
     }
 
@@ -54,22 +61,19 @@ impl Text {
     pub fn len(&self) -> usize
         ensures { result ≡ length self.now }
     {
-        self.string.len()
+        self.shared.len()
     }
 
-    /// An equal text.
-    pub fn copy(&self, alloc: Global) -> Result<Text, NoMemory>
+    /// An equal text, which takes no memory.
+    ///
+    /// # Errors
+    ///
+    /// `NoMemory` where there are 2^63 - 1 of it already.
+    pub fn copy(&self) -> Result<Text, NoMemory>
         ensures { IfOk result (λ t. t ≡ self.now) }
     {
-        Text::of(alloc, self.as_str())
-    }
-
-    /// The characters, which takes no memory.
-    pub fn into_string(self) -> String
-        ensures { string_bytes result ≡ self }
-    {
-        let Text { string } = self;
-        string
+        let shared = self.shared.clone()?;
+        Ok(Text { shared })
     }
 }
 
@@ -79,7 +83,7 @@ impl PartialEq for Text {
     ghost laws = { Prim.search (comparing, rules) };
 
     fn eq(&self, other: &Text) -> bool {
-        self.string.as_str() == other.string.as_str()
+        self.shared.as_str() == other.shared.as_str()
     }
 }
 
@@ -107,7 +111,7 @@ fn copies(alloc: Global, texts: &[Text]) -> Result<Vec<Text>, NoMemory>
 {
     let mut all = Vec::new(alloc);
     for text in texts {
-        all.push(text.copy(alloc)?)?;
+        all.push(text.copy()?)?;
     }
     Ok(all)
 }
@@ -178,21 +182,21 @@ impl Letters {
     }
 }
 
-/// The name of a tenant: 1 to 32 bytes of a to z, 0 to 9 and hyphen.
+/// The name of a tenant: 1 to 32 bytes of a to z, 0 to 9 and hyphen, which lie in the value itself.
 #[derive(Debug, Drop)]
 pub struct TenantName {
-    string: String,
+    string: ArrayString<MAX_NAME_BYTES>,
 }
 
 impl Model for TenantName {
-    ghost use Rattle.std.specs.Prelude.{List, ℕ, IsTrue, string_bytes};
+    ghost use Rattle.std.specs.Prelude.{List, ℕ, IsTrue};
     ghost use Rattle.model.specs.Names.{is_tenant_name};
 
     ghost Value = { List ℕ };
 
-    ghost view = { λ t. string_bytes t.string };
+    ghost view = { λ t. t.string.bytes };
 
-    ghost invariant = { λ t. IsTrue (is_tenant_name (string_bytes t.string)) };
+    ghost invariant = { λ t. IsTrue (is_tenant_name t.string.bytes) };
 }
 
 fn is_name_char(byte: u8) -> bool
@@ -210,18 +214,20 @@ fn are_name_bytes(bytes: &[u8]) -> bool
 fn is_name(text: &str) -> bool
     ensures { result ≡ is_tenant_name text.now }
 {
-    1 <= text.len() && text.len() <= 32 && are_name_bytes(text.as_bytes())
+    1 <= text.len() && text.len() <= MAX_NAME_BYTES && are_name_bytes(text.as_bytes())
 }
 
 impl TenantName {
     /// The text as a name, where it is one.
-    pub fn new(string: String) -> Option<TenantName>
-        ensures { result ≡ (if is_tenant_name (string_bytes string) then Some (string_bytes string) else None) }
+    pub fn new(text: &str) -> Option<TenantName>
+        ensures { result ≡ (if is_tenant_name text.now then Some text.now else None) }
     {
-        if is_name(string.as_str()) {
-            Some(TenantName { string })
-        } else {
-            None
+        if !is_name(text) {
+            return None;
+        }
+        match ArrayString::from(text) {
+            Ok(string) => Some(TenantName { string }),
+            Err(_) => None,
         }
     }
 
@@ -233,11 +239,12 @@ impl TenantName {
     }
 
     /// An equal name.
-    pub fn copy(&self, alloc: Global) -> Result<TenantName, NoMemory>
-        ensures { IfOk result (λ t. t ≡ self.now) }
+    pub fn copy(&self) -> TenantName
+        ensures { result ≡ self.now }
     {
-        let string = String::from_str(alloc, self.string.as_str())?;
-        Ok(TenantName { string })
+        TenantName {
+            string: self.string,
+        }
     }
 }
 

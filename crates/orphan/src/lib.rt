@@ -14,7 +14,8 @@
 //! ```
 //! /// Whether a letter with this vector may be taken by a unit that knows so many rows.
 //! pub fn may_be_taken(vector: &DepVector, table: &StartTable, known: usize) -> bool
-//!     ensures { result ≡ (not (is_blind_by (take known table.now) vector.now) && not (is_orphan_by (take known table.now) vector.now)) }
+//!     ensures { result ≡ (not (is_blind_by (take known table.now) vector.now)
+//!         && not (is_orphan_by (take known table.now) vector.now)) }
 //! {
 //!     !is_blind(vector, table, known) && !is_orphan(vector, table, known)
 //! }

@@ -5,7 +5,7 @@ use Rattle.model.specs.declared.names.Mark.{Mark}
 use Rattle.output_commit.specs.declared.held.Held.{Held}
 
 -- a unit's held outputs in order, and how many more can be held without a growth
-pub record Holding : Type 0 where
+pub record HeldOutputs : Type 0 where
   pub unit : ℕ
   pub outputs : List Held
   pub room : ℕ
@@ -29,12 +29,12 @@ abbrev pub first_is_firm : ℕ → List Held → Bool
 first_is_firm frontier [] = false
 first_is_firm frontier (o ∷ outputs) = nat_lt o.mark.index frontier
 
-abbrev pub front_is_firm : Holding → List ℕ → Bool
+abbrev pub front_is_firm : HeldOutputs → List ℕ → Bool
 front_is_firm h frontiers = first_is_firm (slice_index frontiers h.unit) h.outputs
 
 -- the outputs at the front that are of intervals below the index
-abbrev pub below : List Held → ℕ → List Held
-below outputs index = take_while (λ o. nat_lt o.mark.index index) outputs
+abbrev pub held_below : List Held → ℕ → List Held
+held_below outputs index = take_while (λ o. nat_lt o.mark.index index) outputs
 
 abbrev pub no_line : Line
 no_line = record { texts = []; room = 0 }
@@ -44,8 +44,8 @@ abbrev pub line_of : List Line → ℕ → Line
 line_of lines unit = slice_index_or lines unit no_line
 
 -- what a unit released; nothing where it has no list
-abbrev pub texts_of : List Line → ℕ → List (List ℕ)
-texts_of lines unit = (line_of lines unit).texts
+abbrev pub line_texts : List Line → ℕ → List (List ℕ)
+line_texts lines unit = (line_of lines unit).texts
 
 abbrev pub room_of : List Line → ℕ → ℕ
 room_of lines unit = (line_of lines unit).room

@@ -3,7 +3,7 @@
 ghost use Rattle.std.specs.Prelude.{◌≡◌, ◌+◌, ◌-◌, ◌<◌, ◌≤◌, ◌∷◌, [], ◌++◌, IfOk, MatchOption, OnErr, Some, true, false, length, drop, nat_lt, slice_get, None};
 ghost use Rattle.std.specs.List.{prefix_len};
 ghost use Rattle.std.specs.VecDeque.{deque_capacity, deque_len};
-ghost use Rattle.output_commit.specs.Holds.{below, front_is_firm as is_front_firm, held_of};
+ghost use Rattle.output_commit.specs.Holds.{held_below, front_is_firm as is_front_firm, held_of};
 
 use crate::held::Held;
 use crate::ticket::Ticket;
@@ -23,9 +23,9 @@ pub struct Hold {
 impl Model for Hold {
     ghost use Rattle.std.specs.Prelude.{◌-◌};
     ghost use Rattle.std.specs.VecDeque.{deque_len, deque_capacity};
-    ghost use Rattle.output_commit.specs.Holds.{Holding};
+    ghost use Rattle.output_commit.specs.Holds.{HeldOutputs};
 
-    ghost Value = { Holding };
+    ghost Value = { HeldOutputs };
 
     ghost view = { λ h. record { unit = h.unit; outputs = h.outputs.items; room = deque_capacity h.outputs - deque_len h.outputs } };
 }
@@ -66,7 +66,8 @@ impl Hold {
 
     /// The output at this place, the first at 0. Takes no memory, and a constant time.
     pub fn at(&self, place: usize) -> Option<&Held>
-        ensures { MatchOption result (slice_get self.now.outputs place ≡ None) (λ held. slice_get self.now.outputs place ≡ Some held.now) }
+        ensures { MatchOption result (slice_get self.now.outputs place ≡ None) (λ held.
+            slice_get self.now.outputs place ≡ Some held.now) }
     {
         self.outputs.get(place)
     }
@@ -87,9 +88,11 @@ impl Hold {
     /// The ticket goes to `Outlet::emit`, or back by `put_back`.
     pub fn take_front(&mut self, view: &StableView) -> Option<Ticket>
         requires { self.old.unit < length view.now.frontiers.now }
-        ensures firm { MatchOption result (is_front_firm self.old view.now.frontiers.now ≡ false) (λ t. is_front_firm self.old view.now.frontiers.now ≡ true) }
+        ensures firm { MatchOption result (is_front_firm self.old view.now.frontiers.now ≡ false) (λ t.
+            is_front_firm self.old view.now.frontiers.now ≡ true) }
         ensures none { MatchOption result (self.new ≡ self.old) (λ t. t.unit ≡ self.old.unit) }
-        ensures some { MatchOption result (self.new ≡ self.old) (λ t. (self.old.outputs ≡ t.output ∷ self.new.outputs) × (self.new.unit ≡ self.old.unit) × (0 < self.new.room)) }
+        ensures some { MatchOption result (self.new ≡ self.old) (λ t. (self.old.outputs ≡ t.output ∷ self.new.outputs)
+            × (self.new.unit ≡ self.old.unit) × (0 < self.new.room)) }
     {
         if !self.front_is_firm(view) {
             return None;
@@ -105,7 +108,12 @@ impl Hold {
     pub fn put_back(&mut self, ticket: Ticket)
         requires own { ticket.unit ≡ self.old.unit }
         requires room { 0 < self.old.room }
-        ensures { self.new ≡ record { unit = self.old.unit; outputs = ticket.output ∷ self.old.outputs; room = self.old.room - 1 } }
+        ensures { self.new ≡ record {
+          unit = self.old.unit;
+          outputs = ticket.output
+              ∷ self.old.outputs;
+          room = self.old.room - 1;
+        } }
     {
         self.outputs.push_front_reserved(ticket.into_output());
     }
@@ -114,7 +122,7 @@ impl Hold {
     /// memory. Indices rise along a path, so these are all that are not below it.
     pub fn cut(&mut self, index: u32)
         ensures unit { self.new.unit ≡ self.old.unit }
-        ensures outputs { self.new.outputs ≡ below self.old.outputs index }
+        ensures outputs { self.new.outputs ≡ held_below self.old.outputs index }
     {
         let kept = count_below(&self.outputs, index);
         self.outputs.truncate(kept);

@@ -1,7 +1,7 @@
 //! What left.
 
 ghost use Rattle.std.specs.Prelude.{◌≡◌, ◌+◌, ◌<◌, ◌≤◌, ◌∷◌, [], ◌++◌, IfErr, IfOk, IsOk, OnErr, OnOk, length, max, vec_capacity, vec_len, ◌≢◌, ℕ};
-ghost use Rattle.output_commit.specs.Holds.{room_of, texts_of};
+ghost use Rattle.output_commit.specs.Holds.{room_of, line_texts};
 
 use crate::held::Held;
 use crate::ticket::Ticket;
@@ -89,7 +89,7 @@ impl Outlet {
     /// `NoMemory` where the lists find no memory.
     pub fn new(alloc: Global, n: usize) -> Result<Outlet, NoMemory>
         ensures len { IfOk result (λ o. length o ≡ n) }
-        ensures none { IfOk result (λ o. (u : ℕ) → texts_of o u ≡ []) }
+        ensures none { IfOk result (λ o. (u : ℕ) → line_texts o u ≡ []) }
     {
         let mut outlet = Outlet {
             lines: Vec::new(alloc),
@@ -109,7 +109,7 @@ impl Outlet {
     #[tactic(auto, using(crate::proofs::Lines::line_laws))]
     pub fn released(&self, unit: Unit) -> &[Text]
         requires { unit < length self.now }
-        ensures { result.now ≡ texts_of self.now unit }
+        ensures { result.now ≡ line_texts self.now unit }
     {
         let line = &self.lines[usize::from(unit.number())];
         line.as_slice()
@@ -124,7 +124,7 @@ impl Outlet {
     pub fn reserve(&mut self, unit: Unit, k: usize) -> Result<(), NoMemory>
         requires { unit < length self.old }
         ensures len { length self.new ≡ length self.old }
-        ensures texts { (u : ℕ) → texts_of self.new u ≡ texts_of self.old u }
+        ensures texts { (u : ℕ) → line_texts self.new u ≡ line_texts self.old u }
         ensures room { IfOk result (λ _. k ≤ room_of self.new unit) }
     {
         let line = &mut self.lines[usize::from(unit.number())];
@@ -141,9 +141,10 @@ impl Outlet {
     pub fn emit(&mut self, ticket: Ticket) -> Result<(), Ticket>
         requires { ticket.unit < length self.old }
         ensures len { length self.new ≡ length self.old }
-        ensures ok { OnOk result (texts_of self.new ticket.unit ≡ texts_of self.old ticket.unit ++ ticket.output.text ∷ []) }
-        ensures others { (u : ℕ) → u ≢ ticket.unit → texts_of self.new u ≡ texts_of self.old u }
-        ensures err { OnErr result (texts_of self.new ticket.unit ≡ texts_of self.old ticket.unit) }
+        ensures ok { OnOk result (line_texts self.new ticket.unit ≡ line_texts self.old ticket.unit ++ ticket.output.text
+            ∷ []) }
+        ensures others { (u : ℕ) → u ≢ ticket.unit → line_texts self.new u ≡ line_texts self.old u }
+        ensures err { OnErr result (line_texts self.new ticket.unit ≡ line_texts self.old ticket.unit) }
         ensures back { IfErr result (λ t. t ≡ ticket) }
         ensures succeeds { 0 < room_of self.old ticket.unit → IsOk result }
         ensures room { room_of self.old ticket.unit ≤ room_of self.new ticket.unit + 1 }
@@ -159,7 +160,7 @@ impl Outlet {
     /// `NoMemory` where the lists find no memory; what was released stays.
     pub fn widen(&mut self, n: usize) -> Result<(), NoMemory>
         ensures len { IfOk result (λ _. length self.new ≡ max n (length self.old)) }
-        ensures texts { (u : ℕ) → texts_of self.new u ≡ texts_of self.old u }
+        ensures texts { (u : ℕ) → line_texts self.new u ≡ line_texts self.old u }
         ensures err { OnErr result (length self.new ≡ length self.old) }
     {
         let missing = n.saturating_sub(self.lines.len());
@@ -174,7 +175,7 @@ impl Outlet {
 fn push_empty(lines: &mut Vec<Released>, count: usize)
     requires { vec_len lines.old + count ≤ vec_capacity lines.old }
     ensures len { length lines.new.items ≡ length lines.old.items + count }
-    ensures texts { (u : ℕ) → texts_of lines.new.items u ≡ texts_of lines.old.items u }
+    ensures texts { (u : ℕ) → line_texts lines.new.items u ≡ line_texts lines.old.items u }
 {
     let alloc = *lines.allocator();
     for _ in 0..count {

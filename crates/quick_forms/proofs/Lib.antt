@@ -1,2 +1,3 @@
+mod NoStep
 mod Turns
 mod Lists

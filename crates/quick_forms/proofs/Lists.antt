@@ -8,6 +8,10 @@ use Rattle.serde_json.specs.Written.{outline}
 use Rattle.serde_json.proofs.Texts.{print-outline}
 use Rattle.forms.specs.Writing.{data_text}
 
+-- one piece more
+pub added : (o a b x y : List Token) → x ≡ o ++ a → y ≡ x ++ b → y ≡ o ++ (a ++ b)
+added o a b x y p q = q ∙ ap (λ t. t ++ b) p ∙ simp append_assoc
+
 pub pieces_4 : (o a b d e x y z w : List Token) → x ≡ o ++ a → y ≡ x ++ b → z ≡ y ++ d → w ≡ z ++ e → w ≡ o ++ (a ++ (b ++ (d ++ e)))
 pieces_4 o a b d e x y z w p q r s = s ∙ ap (λ t. t ++ e) (r ∙ ap (λ t. t ++ d) (q ∙ ap (λ t. t ++ b) p)) ∙ simp append_assoc
 

@@ -4,6 +4,8 @@ use Rattle.json.specs.Token.{Token}
 use Rattle.json.specs.Json as json
 use Rattle.serde_json.specs.Data.{Data, number, unsigned, string, object, Members, no_members, member}
 use Rattle.serde_json.specs.Read.{of_json, max_depth}
+use Rattle.forms.specs.Reading.{◌>>=◌, step_of}
+use Rattle.model.specs.declared.steps.Step.{Step}
 use Rattle.quick_forms.specs.declared.steps.Seen.{Seen}
 
 -- the member, where there is a value
@@ -30,6 +32,10 @@ seen_members s =
 -- the value that tokens are
 abbrev pub read_tokens : List Token → Option Data
 read_tokens ts = option_and_then of_json (option_and_then (λ p. json.if_last p.0 p.1) (json.value max_depth ts))
+
+-- the step that tokens are, or none
+abbrev pub step_of_tokens : List Token → Option Step
+step_of_tokens ts = read_tokens ts >>= step_of
 
 -- ---- the value of each quick form
 

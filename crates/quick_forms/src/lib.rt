@@ -1,11 +1,11 @@
-//! The lines that come most, read and written token by token.
+//! The lines that come most, read token by token, and all replies, written so.
 //!
 //! What a line means is said by `forms`, and stays what `serde_json` reads and writes: these functions have the clauses
-//! of `forms`, and take its way where a line or a reply is none of the quick ones.
+//! of `forms`, and take its way where a line is none of the quick ones.
 //!
 //! - `read_step` (`steps`): the step that a line is; quick are `post`, `deliver`, `join` and the steps that name a
 //!   tenant and a unit alone, with whole numbers, and their keys in any order.
-//! - `write_reply` (`replies`): the line that tells a reply; quick are accepted receipts, flushes and refusals.
+//! - `write_reply` (`replies`): the line that tells a reply, put behind what a buffer holds.
 #![tactic(auto)]
 
 mod replies;

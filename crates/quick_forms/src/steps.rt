@@ -1,11 +1,13 @@
 //! The step of a line, token by token.
 
-ghost use Rattle.std.specs.Prelude.{◌≡◌, ◌<◌, ℕ, length, Some, None, IfOk, IfSome, OnOk, slice_index, ◌==◌};
+ghost use Rattle.std.specs.Prelude.{◌≡◌, ◌<◌, ℕ, ◌∷◌, length, Some, None, Err, IfOk, IfSome, MatchBool, OnOk, slice_index, ◌==◌};
 ghost use Rattle.json.specs.Json as grammar;
+ghost use Rattle.json.specs.Token.Token.{begin_object};
 ghost use Rattle.serde_json.specs.Data.{Data, unsigned, number as of_number, string, object as object_data, put, no_members};
 ghost use Rattle.serde_json.specs.Read.{number_of, of_json, of_members, converted};
 ghost use Rattle.forms.specs.Reading.{Gives, step_of, step_of_line};
-ghost use Rattle.quick_forms.specs.Seen.{seen_members, read_tokens, whole_data, post_data, deliver_data, join_data, place_data};
+ghost use Rattle.forms.specs.declared.fault.LineFault as LineFault;
+ghost use Rattle.quick_forms.specs.Seen.{seen_members, read_tokens, step_of_tokens, whole_data, post_data, deliver_data, join_data, place_data};
 
 use fast_float::Numeral;
 use forms::LineFault;
@@ -33,40 +35,63 @@ struct Seen<'a> {
 pub fn read_step(alloc: Global, scratch: &mut Scratch, line: &[u8]) -> Result<Step, LineFault>
     ensures { Gives (λ s. s) result (step_of_line line.now) }
 {
-    if may_be_quick(line) {
-        if let Some(step) = quick(alloc, scratch, line)? {
-            return Ok(step);
-        }
-    }
-    forms::read_step(alloc, line)
-}
-
-// A line that doesn't begin as an object is told to be bad by one look alone.
-fn may_be_quick(line: &[u8]) -> bool {
-    !line.is_empty() && line[0] == b'{'
-}
-
-/// The step of the line where it is one of the quick forms.
-fn quick(alloc: Global, scratch: &mut Scratch, line: &[u8]) -> Result<Option<Step>, NoMemory>
-    ensures { IfOk result (λ o. IfSome o (λ s. step_of_line line.now ≡ Some s)) }
-{
     let Ok(text) = simdutf8::compat::from_utf8(line) else {
-        return Ok(None);
+        return Err(LineFault::Bad);
     };
     let mut reader = Reader::new(text, scratch)?;
-    match object(&mut reader) {
+    match quick(alloc, &mut reader) {
+        Ok(Some(step)) => Ok(step),
+        Ok(None) => forms::read_step(alloc, line),
+        Err(fault) => Err(fault),
+    }
+}
+
+/// The step of the tokens, where they are a quick form. `Bad` where they are no object, or one without a verb.
+fn quick(alloc: Global, reader: &mut Reader<'_>) -> Result<Option<Step>, LineFault>
+    ensures some { IfOk result (λ o. IfSome o (λ s. step_of_tokens reader.old ≡ Some s)) }
+    ensures bad { result ≡ Err LineFault.Bad → step_of_tokens reader.old ≡ None }
+{
+    if begins_object(reader) {
+        step_within(alloc, reader)
+    } else {
+        Err(LineFault::Bad)
+    }
+}
+
+/// The same, behind the brace that begins an object.
+fn step_within(alloc: Global, reader: &mut Reader<'_>) -> Result<Option<Step>, LineFault>
+    ensures some { IfOk result (λ o. IfSome o (λ s. step_of_tokens (begin_object ∷ reader.old) ≡ Some s)) }
+    ensures bad { result ≡ Err LineFault.Bad → step_of_tokens (begin_object ∷ reader.old) ≡ None }
+{
+    match object(reader) {
         Ok(seen) => step(alloc, seen),
         Err(_) => Ok(None),
     }
 }
 
-fn object<'a>(reader: &mut Reader<'a>) -> Result<Seen<'a>, Invalid>
-    ensures { IfOk result (λ s. read_tokens reader.old ≡ Some (object_data (seen_members s))) }
+/// Takes the brace that begins an object. What begins with none is no step.
+fn begins_object(reader: &mut Reader<'_>) -> bool
+    ensures { MatchBool result (reader.old ≡ begin_object ∷ reader.new) (step_of_tokens reader.old ≡ None) }
 {
     match reader.next() {
-        Some(Token::BeginObject) => {}
-        _ => return Err(Invalid),
+        Some(Token::BeginObject) => true,
+        Some(Token::BeginArray) => false,
+        Some(Token::EndArray) => false,
+        Some(Token::EndObject) => false,
+        Some(Token::Key(_)) => false,
+        Some(Token::String(_)) => false,
+        Some(Token::Number(_)) => false,
+        Some(Token::Bool(_)) => false,
+        Some(Token::Null) => false,
+        Some(Token::Bad) => false,
+        None => false,
     }
+}
+
+/// The members of an object that is all that is left, behind its brace.
+fn object<'a>(reader: &mut Reader<'a>) -> Result<Seen<'a>, Invalid>
+    ensures { IfOk result (λ s. read_tokens (begin_object ∷ reader.old) ≡ Some (object_data (seen_members s))) }
+{
     let seen = members(reader)?;
     match reader.next() {
         None => Ok(seen),
@@ -190,8 +215,10 @@ fn with_number<'a>(seen: Seen<'a>, key: &str, n: u64) -> Result<Seen<'a>, Invali
     }
 }
 
-fn step(alloc: Global, seen: Seen<'_>) -> Result<Option<Step>, NoMemory>
-    ensures { IfOk result (λ o. IfSome o (λ s. step_of (object_data (seen_members seen.entry)) ≡ Some s)) }
+/// The step of these members, where they are of a quick form. `Bad` where the verb is missing.
+fn step(alloc: Global, seen: Seen<'_>) -> Result<Option<Step>, LineFault>
+    ensures some { IfOk result (λ o. IfSome o (λ s. step_of (object_data (seen_members seen.entry)) ≡ Some s)) }
+    ensures bad { result ≡ Err LineFault.Bad → step_of (object_data (seen_members seen.entry)) ≡ None }
 {
     let Seen {
         verb,
@@ -203,17 +230,18 @@ fn step(alloc: Global, seen: Seen<'_>) -> Result<Option<Step>, NoMemory>
         unit,
     } = seen;
     match (verb, kind, letter, number, tenant, text, unit) {
+        (None, ..) => Err(LineFault::Bad),
         (Some(verb), None, None, Some(number), Some(tenant), Some(text), Some(unit)) => {
-            post(alloc, verb, number, tenant, text, unit)
+            Ok(post(alloc, verb, number, tenant, text, unit)?)
         }
         (Some(verb), None, Some(letter), None, Some(tenant), None, None) => {
-            deliver(alloc, verb, letter, tenant)
+            Ok(deliver(verb, letter, tenant))
         }
         (Some(verb), Some(kind), None, None, Some(tenant), None, None) => {
-            join(alloc, verb, kind, tenant)
+            Ok(join(alloc, verb, kind, tenant)?)
         }
         (Some(verb), None, None, None, Some(tenant), None, Some(unit)) => {
-            place(alloc, verb, tenant, unit)
+            Ok(place(verb, tenant, unit))
         }
         _ => Ok(None),
     }
@@ -234,7 +262,7 @@ fn post(
     if verb != "post" || number > 4_294_967_295 || unit > 255 {
         return Ok(None);
     }
-    let Some(tenant) = TenantName::new(String::from_str(alloc, tenant)?) else {
+    let Some(tenant) = TenantName::new(tenant) else {
         return Ok(None);
     };
     let text = Text::of(alloc, text)?;
@@ -247,20 +275,17 @@ fn post(
 }
 
 #[tactic(auto, unfolding(forms::specs::Reading::step_of, forms::specs::Reading::deliver_of))]
-fn deliver(alloc: Global, verb: &str, letter: u64, tenant: &str) -> Result<Option<Step>, NoMemory>
-    ensures { IfOk result (λ o. IfSome o
-        (λ s. step_of (deliver_data verb.now letter tenant.now) ≡ Some s)) }
+fn deliver(verb: &str, letter: u64, tenant: &str) -> Option<Step>
+    ensures { IfSome result (λ s. step_of (deliver_data verb.now letter tenant.now) ≡ Some s) }
 {
     if verb != "deliver" || letter > 4_294_967_295 {
-        return Ok(None);
+        return None;
     }
-    let Some(tenant) = TenantName::new(String::from_str(alloc, tenant)?) else {
-        return Ok(None);
-    };
-    Ok(Some(Step::Deliver {
+    let tenant = TenantName::new(tenant)?;
+    Some(Step::Deliver {
         tenant,
         letter: Letter::new(letter as u32),
-    }))
+    })
 }
 
 #[tactic(auto, unfolding(forms::specs::Reading::step_of, forms::specs::Reading::join_of))]
@@ -271,7 +296,7 @@ fn join(alloc: Global, verb: &str, kind: &str, tenant: &str) -> Result<Option<St
     if verb != "join" {
         return Ok(None);
     }
-    let Some(tenant) = TenantName::new(String::from_str(alloc, tenant)?) else {
+    let Some(tenant) = TenantName::new(tenant) else {
         return Ok(None);
     };
     let kind = Text::of(alloc, kind)?;
@@ -279,32 +304,29 @@ fn join(alloc: Global, verb: &str, kind: &str, tenant: &str) -> Result<Option<St
 }
 
 #[tactic(auto, unfolding(forms::specs::Reading::step_of, forms::specs::Reading::place_of))]
-fn place(alloc: Global, verb: &str, tenant: &str, unit: u64) -> Result<Option<Step>, NoMemory>
-    ensures { IfOk result (λ o. IfSome o
-        (λ s. step_of (place_data verb.now tenant.now unit) ≡ Some s)) }
+fn place(verb: &str, tenant: &str, unit: u64) -> Option<Step>
+    ensures { IfSome result (λ s. step_of (place_data verb.now tenant.now unit) ≡ Some s) }
 {
     if unit > 255 {
-        return Ok(None);
+        return None;
     }
-    let Some(tenant) = TenantName::new(String::from_str(alloc, tenant)?) else {
-        return Ok(None);
-    };
+    let tenant = TenantName::new(tenant)?;
     let unit = Unit::new(unit as u8);
     if verb == "flush" {
-        Ok(Some(Step::Flush { tenant, unit }))
+        Some(Step::Flush { tenant, unit })
     } else if verb == "release" {
-        Ok(Some(Step::Release { tenant, unit }))
+        Some(Step::Release { tenant, unit })
     } else if verb == "status" {
-        Ok(Some(Step::Status { tenant, unit }))
+        Some(Step::Status { tenant, unit })
     } else if verb == "checkpoint" {
-        Ok(Some(Step::Checkpoint { tenant, unit }))
+        Some(Step::Checkpoint { tenant, unit })
     } else if verb == "notice" {
-        Ok(Some(Step::Notice { tenant, unit }))
+        Some(Step::Notice { tenant, unit })
     } else if verb == "kill" {
-        Ok(Some(Step::Kill { tenant, unit }))
+        Some(Step::Kill { tenant, unit })
     } else if verb == "restart" {
-        Ok(Some(Step::Restart { tenant, unit }))
+        Some(Step::Restart { tenant, unit })
     } else {
-        Ok(None)
+        None
     }
 }

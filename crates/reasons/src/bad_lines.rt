@@ -8,7 +8,7 @@ use std::alloc::Global;
 /// The first thing that is wrong with a line.
 pub(crate) fn fault_of(alloc: Global, line: &[u8]) -> Result<String, NoMemory> {
     if line.len() > MAX_LINE_BYTES {
-        return Ok("it has more than 65536 bytes".to_string(alloc)?);
+        return Ok(format!(in alloc; "it has more than {MAX_LINE_BYTES} bytes")?);
     }
     match Value::from_slice(alloc, line) {
         Ok(value) => fault_of_value(alloc, &value),
@@ -85,7 +85,7 @@ fn wanted_fault(alloc: Global, key: Key) -> Result<String, NoMemory> {
 /// Whether a key's value is what it must be.
 fn is_wanted(alloc: Global, wanted: keys::Value, value: &Value) -> Result<bool, NoMemory> {
     Ok(match wanted {
-        keys::Value::Name => is_name(alloc, value)?,
+        keys::Value::Name => is_name(value),
         keys::Value::Text => value.is_string(),
         keys::Value::Whole(most) => is_whole(value, most),
         keys::Value::Texts => are_texts(value),
@@ -93,11 +93,10 @@ fn is_wanted(alloc: Global, wanted: keys::Value, value: &Value) -> Result<bool, 
     })
 }
 
-fn is_name(alloc: Global, value: &Value) -> Result<bool, NoMemory> {
-    Ok(match value.as_str() {
-        Some(name) => TenantName::new(String::from_str(alloc, name)?).is_some(),
-        None => false,
-    })
+fn is_name(value: &Value) -> bool {
+    value
+        .as_str()
+        .is_some_and(|name| TenantName::new(name).is_some())
 }
 
 fn is_whole(value: &Value, most: u64) -> bool {

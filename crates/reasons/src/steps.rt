@@ -3,7 +3,10 @@
 use crate::bad_lines::fault_of;
 use forms::{LineFault, read_step};
 use handler::Handler;
-use ident::{NoMemory, Text, Texts, Unit};
+use ident::{
+    MAX_INCARNATION, MAX_INDEX, MAX_LETTERS_QUOTA, MAX_OPTIMISM, MAX_TEXT_BYTES, MAX_TURN_EFFECTS,
+    MAX_UNITS, MAX_VOLATILE_QUOTA, NoMemory, Text, Texts, Unit,
+};
 use model::Step;
 use std::alloc::Global;
 
@@ -100,7 +103,7 @@ fn why<H: Handler>(
         "no-unit" | "down" | "up" | "unlogged" => why_of_unit(alloc, step, refusal),
         "repeat" | "gap" => why_of_number(alloc, step, refusal),
         "too-much" => why_too_much(alloc, step),
-        "limit" => Ok(limit(step).to_string(alloc)?),
+        "limit" => limit(alloc, step),
         other => Ok(plain(other).to_string(alloc)?),
     }
 }
@@ -118,8 +121,8 @@ fn why_bad_open<H: Handler>(alloc: Global, handler: &H, step: &Step) -> Result<S
     Ok(match unknown_kind(handler, step) {
         Some(kind) => format!(in alloc; "there is no kind {:?}", kind.as_str())?,
         None => {
-            "1 to 16 units are wanted, quotas of 1 to 1024 (letters: to 1000000), and optimism of 0 to 16".to_string(
-                alloc,
+            format!(in alloc;
+                "1 to {MAX_UNITS} units are wanted, quotas of 1 to {MAX_VOLATILE_QUOTA} (letters: to {MAX_LETTERS_QUOTA}), and optimism of 0 to {MAX_OPTIMISM}"
             )?
         }
     })
@@ -181,24 +184,25 @@ fn why_of_number(alloc: Global, step: &Step, refusal: &str) -> Result<String, No
 fn why_too_much(alloc: Global, step: &Step) -> Result<String, NoMemory> {
     if let Step::Post { text, .. } = step {
         let length = text.as_str().len();
-        if length > ident::MAX_TEXT_BYTES {
-            return Ok(format!(in alloc; "the text has {length} bytes: 4096 at most")?);
+        if length > MAX_TEXT_BYTES {
+            return Ok(format!(in alloc; "the text has {length} bytes: {MAX_TEXT_BYTES} at most")?);
         }
     }
-    Ok(
-        "what the unit makes of the text is too much: 64 sends and outputs at most, each of 4096 bytes at most".to_string(
-            alloc,
-        )?,
-    )
+    Ok(format!(in alloc;
+        "what the unit makes of the text is too much: {MAX_TURN_EFFECTS} sends and outputs at most, each of {MAX_TEXT_BYTES} bytes at most"
+    )?)
 }
 
-fn limit(step: &Step) -> &'static str {
-    match step {
-        Step::Join { .. } => "the tenant has 16 units, and no room for one more",
-        Step::Post { .. } | Step::Deliver { .. } =>
-            "the unit's path has its last index, 4294967295",
-        _ => "the unit has its last incarnation, 65535",
-    }
+fn limit(alloc: Global, step: &Step) -> Result<String, NoMemory> {
+    Ok(match step {
+        Step::Join { .. } => {
+            format!(in alloc; "the tenant has {MAX_UNITS} units, and no room for one more")?
+        }
+        Step::Post { .. } | Step::Deliver { .. } => {
+            format!(in alloc; "the unit's path has its last index, {MAX_INDEX}")?
+        }
+        _ => format!(in alloc; "the unit has its last incarnation, {MAX_INCARNATION}")?,
+    })
 }
 
 /// What is said of a refusal whatever the step.

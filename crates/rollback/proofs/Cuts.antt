@@ -5,12 +5,12 @@ use Rattle.std.specs.List.{take_while, prefix_len}
 use Rattle.std.proofs.lemmas.Option.{same_Some, slice_get_within}
 use Rattle.std.proofs.lemmas.List.{length-take-le, take_all, drop_all}
 use Rattle.std.proofs.lemmas.List.Sums.{take_while-cons}
-use Rattle.theory.proofs.ListLaws.{bool_cases, get_take, lt_true, true_lt}
+use Rattle.theory.proofs.ListLaws.{bool_cases, get_take, lt_true, true_lt, take_while_passes}
 use Rattle.model.specs.declared.records.Record.{Record}
 use Rattle.checkpoint.specs.declared.snapshot.Snapshot.{Snapshot}
 use Rattle.checkpoint.specs.Shelves.{Shelved, IsShelved, cut_at}
 use Rattle.checkpoint.proofs.Rising.{rises_take}
-use Rattle.volatile_log.specs.Logs.{below}
+use Rattle.volatile_log.specs.Logs.{records_below}
 use Rattle.compact.specs.Compact.{Interval, Progress}
 use Rattle.compact.specs.Steps.{from_outside}
 use Rattle.rollback.specs.Units.{Recovering, IsKept, IsTarget, Marked, cut_behind, places}
@@ -27,28 +27,17 @@ not_below : (m n from : ℕ) → nat_lt m n ≡ false → m ≡ from + 0 → n -
 not_below m n from e at = grind (arith, e, at)
 
 -- of records in order those below an index are the first so many
-pub below_is : (v : List Record) (from n : ℕ) → Marked from v → below v n ≡ take (n - from) v
+pub below_is : (v : List Record) (from n : ℕ) → Marked from v → records_below v n ≡ take (n - from) v
 below_is [] from n marked = sym (take_none (n - from))
 below_is (r ∷ v) from n marked = elim (bool_cases (nat_lt r.mark.index n)) [
   | inl e ↦ let less : r.mark.index < n = lt_true r.mark.index n e in let at : r.mark.index ≡ from + 0 = marked 0 r refl in
-      let rest : below v n ≡ take (n - suc from) v = below_is v (suc from) n (λ i x f. let h = marked (suc i) x f in omega (arith, h)) in
+      let rest : records_below v n ≡ take (n - suc from) v = below_is v (suc from) n (λ i x f. let h = marked (suc i) x f in omega (arith, h)) in
       let count : n - from ≡ suc (n - suc from) = omega (arith, less, at) in
       rw (e, count) (ap (λ k. take k (r ∷ v)) (one (prefix_len (λ x. nat_lt x.mark.index n) v)) ∙ ap (λ xs. r ∷ xs) rest)
   | inr e ↦ let at : r.mark.index ≡ from + 0 = marked 0 r refl in
       let none : n - from ≡ 0 = not_below r.mark.index n from e at in
       rw (e, none) refl
 ]
-
--- an element of a front passes
-front_passes : {X : Type 0} (p : X → Bool) (xs : List X) (i : ℕ) (x : X) → slice_get (take_while p xs) i ≡ Some x → p x ≡ true
-front_passes p [] i x e = cc
-front_passes {X} p (z ∷ xs) i x e = go (p z) refl (λ j f. front_passes p xs j x f) i e
-  where
-    go : (b : Bool) → p z ≡ b → ((j : ℕ) → slice_get (take_while p xs) j ≡ Some x → p x ≡ true) → (i : ℕ) → slice_get (take (cond b (1 + prefix_len p xs) 0) (z ∷ xs)) i ≡ Some x → p x ≡ true
-    go true t rest zero f = subst (λ y. p y ≡ true) (same_Some z x (subst (λ k. slice_get (take k (z ∷ xs)) 0 ≡ Some x) (one (prefix_len p xs)) f)) t
-    go true t rest (suc j) f = rest j (subst (λ k. slice_get (take k (z ∷ xs)) (suc j) ≡ Some x) (one (prefix_len p xs)) f)
-    go false t rest zero f = cc
-    go false t rest (suc j) f = cc
 
 -- the base is at its index
 base_at : {P : Type 0} (base : Option (Snapshot P)) (x : Snapshot P) (n : ℕ) → base ≡ Some x → option_map (λ (s : Snapshot P). s.index) base ≡ Some n → x.index ≡ n
@@ -57,7 +46,7 @@ base_at (Some y) x n e f = ap (λ (s : Snapshot _). s.index) (sym (same_Some y x
 
 -- with its path cut behind the target
 pub kept_cut : {S : Type 0} (u : Recovering S) (target outside : ℕ) (intervals : List Interval) (volatile : List Record) (shelf : Shelved (Progress S)) → IsKept u → IsTarget u target
-    → outside ≡ u.outside - from_outside (drop (target + 1 - u.base) u.intervals) → intervals ≡ take (target + 1 - u.base) u.intervals → volatile ≡ below u.volatile (target + 1) → shelf ≡ cut_at u.shelf (target + 1)
+    → outside ≡ u.outside - from_outside (drop (target + 1 - u.base) u.intervals) → intervals ≡ take (target + 1 - u.base) u.intervals → volatile ≡ records_below u.volatile (target + 1) → shelf ≡ cut_at u.shelf (target + 1)
     → IsKept (record u { outside = outside; shelf = shelf; intervals = intervals; volatile = volatile })
 kept_cut {S} u target outside intervals volatile shelf k t d e f g = rw g (record {
   base = k.base;
@@ -104,7 +93,7 @@ kept_cut {S} u target outside intervals volatile shelf k t d e f g = rw g (recor
 
     top : (x : Snapshot (Progress S)) → IsShelved (cut_at u.shelf n) x → x.index ≤ (u.base + length intervals) - length volatile - 1
     top x (inl h) = goes x.index (let at = base_at u.shelf.base x u.base h k.base in omega (arith, at, past)) (k.top x (inl h))
-    top x (inr t) = goes x.index (lt_true x.index n (front_passes (λ y. nat_lt y.index n) u.shelf.others t.0 x t.1)) (k.top x (inr (t.0, (get_take u.shelf.others _ t.0 x t.1).0)))
+    top x (inr t) = goes x.index (lt_true x.index n (take_while_passes (λ y. nat_lt y.index n) u.shelf.others t.0 x t.1)) (k.top x (inr (t.0, (get_take u.shelf.others _ t.0 x t.1).0)))
 
     marks : Marked ((u.base + length intervals) - length volatile) volatile
     marks i r there = let t = get_take u.volatile (n - st) i r (subst (λ (v : List Record). slice_get v i ≡ Some r) is there) in at i r.mark.index t.1 (k.marks i r t.0)
@@ -115,7 +104,7 @@ kept_cut {S} u target outside intervals volatile shelf k t d e f g = rw g (recor
 -- ---- a target that is the last
 
 -- what all pass is all
-all_pass : {X : Type 0} (p : X → Bool) (xs : List X) → ((i : ℕ) (x : X) → slice_get xs i ≡ Some x → p x ≡ true) → take_while p xs ≡ xs
+pub all_pass : {X : Type 0} (p : X → Bool) (xs : List X) → ((i : ℕ) (x : X) → slice_get xs i ≡ Some x → p x ≡ true) → take_while p xs ≡ xs
 all_pass p [] h = refl
 all_pass p (x ∷ xs) h = rw (take_while-cons p x xs, h 0 x refl) (ap (λ ys. x ∷ ys) (all_pass p xs (λ i y e. h (suc i) y e)))
 
@@ -152,5 +141,5 @@ cut_nothing {S} u target k last = λ j. record {
     here : (i m : ℕ) → i < length u.volatile → m ≡ ((u.base + length u.intervals) - length u.volatile) + i → m < target + 1
     here i m h is = let s = k.stable in let t : target + 1 ≡ u.base + length u.intervals = last in omega (arith, h, is, s, t)
 
-    volatile : u.volatile ≡ below u.volatile (target + 1)
+    volatile : u.volatile ≡ records_below u.volatile (target + 1)
     volatile = sym (all_pass (λ r. nat_lt r.mark.index (target + 1)) u.volatile (λ i r e. true_lt r.mark.index (target + 1) (here i r.mark.index (slice_get_within u.volatile i r e) (k.marks i r e))))

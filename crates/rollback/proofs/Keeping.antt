@@ -8,7 +8,7 @@ use Rattle.std.proofs.lemmas.Option.{slice_get_within}
 use Rattle.theory.proofs.ListLaws.{get_append, get_drop}
 use Rattle.checkpoint.specs.declared.snapshot.Snapshot.{Snapshot}
 use Rattle.checkpoint.specs.Shelves.{Shelved, IsTop, Rises, has_index, put_on, with_room}
-use Rattle.checkpoint.proofs.Rising.{rises_put}
+use Rattle.checkpoint.proofs.Rising.{rises_put, remove_first}
 use Rattle.model.specs.declared.records.Record.{Record}
 use Rattle.compact.specs.Compact.{Interval, Progress}
 use Rattle.compact.specs.Steps.{from_outside}
@@ -74,16 +74,12 @@ kept_took u progress outside intervals volatile i r k room mark is was more =
 
 -- ---- one more snapshot
 
-removed_there : {X : Type 0} (xs : List X) (i : ℕ) (x : X) → slice_get (remove xs 0) i ≡ Some x → slice_get xs (suc i) ≡ Some x
-removed_there [] i x e = cc
-removed_there (y ∷ xs) i x e = e
-
 room_there : {P : Type 0} (others : List (Snapshot P)) (i : ℕ) (x : Snapshot P) → slice_get (with_room others) i ≡ Some x → (j : ℕ) × (slice_get others j ≡ Some x)
 room_there {P} others i x e = go (nat_lt (length others) 64) e
   where
     go : (b : Bool) → slice_get (cond b others (remove others 0)) i ≡ Some x → (j : ℕ) × (slice_get others j ≡ Some x)
     go true f = (i, f)
-    go false f = (suc i, removed_there others i x f)
+    go false f = (suc i, remove_first others i x f)
 
 -- what is put at the top is the top
 put_top : {P : Type 0} (s : Shelved P) (x : Snapshot P) → IsTop s x.index → IsTop (put_on s x) x.index

@@ -1,5 +1,6 @@
 -- What a recovery unit keeps, and what its calls make of it.
 use Rattle.std.specs.Prelude.{◌≡◌, ℕ, ◌+◌, ◌-◌, ◌<◌, ◌≤◌, ◌^◌, List, [], ◌∷◌, ◌++◌, length, take, drop, Option, Some, None, option_map, slice_get, true, cond, ◌==◌, ◌⊎◌}
+use Rattle.model.specs.declared.limits.TheConstants.{MAX_CHECKPOINTS}
 use Rattle.model.specs.declared.names.Row.{Row}
 use Rattle.model.specs.declared.names.Seat.{Seat}
 use Rattle.model.specs.declared.names.Source.{Source}
@@ -9,9 +10,9 @@ use Rattle.model.specs.Nodes.{sends_within}
 use Rattle.handler.specs.Inputs.{Input}
 use Rattle.checkpoint.specs.declared.snapshot.Snapshot.{Snapshot}
 use Rattle.checkpoint.specs.Shelves.{Shelved, IsShelved, IsTop, Rises, put_on, cut_at, based_at, nearest_of}
-use Rattle.depvector.specs.Vectors.{begun}
+use Rattle.depvector.specs.Vectors.{begun_vector}
 use Rattle.session.specs.Counts.{Counts, HasRoom, advanced}
-use Rattle.volatile_log.specs.Logs.{below}
+use Rattle.volatile_log.specs.Logs.{records_below}
 use Rattle.orphan.specs.Tests.{is_orphan_by}
 use Rattle.layer_laws.specs.Laws.{sent_all}
 use Rattle.compact.specs.Compact.{Interval, Progress, fitted}
@@ -103,7 +104,7 @@ begun_unit M width seat = record {
   base = 0;
   outside = 0;
   shelf = record { base = Some (record { index = 0; state = first_progress M width seat }); others = [] };
-  intervals = record { vector = begun width; letter = None } ∷ [];
+  intervals = record { vector = begun_vector width; letter = None } ∷ [];
   volatile = [];
 }
 
@@ -128,10 +129,10 @@ shelf_with shelf index (Some p) = put_on shelf (record { index = index; state = 
 abbrev pub checkpointed : {S : Type 0} → Recovering S → Recovering S
 checkpointed u = record u { shelf = shelf_with u.shelf (places u - 1) u.progress }
 
--- The base is the same, and what was shelved still is, but for the first of 64 others.
+-- The base is the same, and what was shelved still is, but for the first of as many others as may be kept.
 pub record KeepsShelved {P : Type 0} (old new : Shelved P) : Type 0 where
   pub base : new.base ≡ old.base
-  pub others : (x : Snapshot P) → IsShelved old x → IsShelved new x ⊎ ((64 ≤ length old.others) × (slice_get old.others 0 ≡ Some x))
+  pub others : (x : Snapshot P) → IsShelved old x → IsShelved new x ⊎ ((MAX_CHECKPOINTS ≤ length old.others) × (slice_get old.others 0 ≡ Some x))
 
 -- with an entry for each of n units in what it took and sent
 abbrev pub widened_to : {S : Type 0} → Recovering S → ℕ → Recovering S
@@ -160,12 +161,12 @@ cut_behind u target = record u {
   outside = u.outside - from_outside (drop (target + 1 - u.base) u.intervals);
   shelf = cut_at u.shelf (target + 1);
   intervals = take (target + 1 - u.base) u.intervals;
-  volatile = below u.volatile (target + 1);
+  volatile = records_below u.volatile (target + 1);
 }
 
 -- The records from a snapshot up to the target: those that were fetched, and then those that are still volatile.
 abbrev pub records_to : {S : Type 0} → Recovering S → ℕ → List Record → List Record
-records_to u target fetched = fetched ++ below u.volatile (target + 1)
+records_to u target fetched = fetched ++ records_below u.volatile (target + 1)
 
 -- with its path cut, and the progress that the records give from the nearest snapshot on
 abbrev pub restored : {S : Type 0} → Meaning S → Recovering S → ℕ → ℕ → List Record → Recovering S

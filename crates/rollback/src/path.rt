@@ -2,7 +2,7 @@
 
 ghost use Rattle.std.specs.Prelude.{◌≡◌, ◌+◌, ◌<◌, ◌≤◌, ◌^◌, ◌∷◌, [], ◌++◌, ◌-◌, IfOk, OnErr, None, length, drop, cond, slice_index_or};
 ghost use Rattle.std.specs.List.{position_or_len};
-ghost use Rattle.depvector.specs.Vectors.{begun};
+ghost use Rattle.depvector.specs.Vectors.{begun_vector};
 ghost use Rattle.orphan.specs.Tests.{is_orphan_by};
 ghost use Rattle.compact.specs.Steps.{from_outside, no_letter};
 ghost use Rattle.rollback.specs.Units.{unknown, OrphansAreTail};
@@ -19,7 +19,7 @@ use volatile_log::VolatileLog;
 /// The path of a unit at its beginning.
 pub(crate) fn begun_path(alloc: Global, width: usize) -> Result<VecDeque<Interval>, NoMemory>
     requires { width ≤ 256 }
-    ensures { IfOk result (λ path. path.items ≡ record { vector = begun width; letter = None } ∷ []) }
+    ensures { IfOk result (λ path. path.items ≡ record { vector = begun_vector width; letter = None } ∷ []) }
 {
     let vector = DepVector::new(alloc, width)?;
     let mut path = VecDeque::new(alloc);
@@ -37,7 +37,8 @@ pub(crate) fn append(
     logged: Record,
 ) -> Result<(), NoMemory>
     requires { length logged.vector ≤ 256 }
-    ensures intervals { IfOk result (λ _. intervals.new.items ≡ intervals.old.items ++ record { vector = logged.vector; letter = logged.letter } ∷ []) }
+    ensures intervals { IfOk result (λ _.
+        intervals.new.items ≡ intervals.old.items ++ record { vector = logged.vector; letter = logged.letter } ∷ []) }
     ensures volatile { IfOk result (λ _. volatile.new.records ≡ volatile.old.records ++ logged ∷ []) }
     ensures no_intervals { OnErr result (intervals.new.items ≡ intervals.old.items) }
     ensures no_volatile { OnErr result (volatile.new.records ≡ volatile.old.records) }
@@ -96,7 +97,8 @@ pub(crate) fn count_to(places: u64, volatile: usize, target: u32) -> usize
 /// How many intervals stand before the first orphan, where orphans are a tail.
 pub(crate) fn count_before_orphan(intervals: &VecDeque<Interval>, table: &StartTable) -> usize
     ensures within { result ≤ length intervals.now.items }
-    ensures position { OrphansAreTail table.now intervals.now.items → result ≡ position_or_len (λ x. is_orphan_by table.now x.vector) intervals.now.items }
+    ensures position { OrphansAreTail table.now intervals.now.items
+        → result ≡ position_or_len (λ x. is_orphan_by table.now x.vector) intervals.now.items }
 {
     let mut low = 0;
     let mut high = intervals.len();

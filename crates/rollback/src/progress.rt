@@ -65,7 +65,7 @@ pub(crate) fn has_room(sessions: &Sessions, source: Source, sends: usize, width:
 }
 
 /// Goes on by one receipt and its turn, of whose sends those within the width count. Takes no memory.
-#[tactic(auto, using(crate::proofs::Sends::room_after_receipt, crate::proofs::Sends::long_after_receipt))]
+#[tactic(auto, using(crate::proofs::Sends::room_after_receipt, compact::proofs::Received::length_advanced))]
 pub(crate) fn advance<S: Drop>(
     progress: &mut Progress<S>,
     source: Source,
@@ -163,7 +163,8 @@ pub(crate) fn widened_sessions<S>(
 
 /// Puts these sessions in the place of the progress's own. Takes no memory.
 pub(crate) fn fit<S: Drop>(progress: &mut Option<Progress<S>>, sessions: Option<Sessions>)
-    ensures { (n : ℕ) → sessions ≡ option_map (λ p. widened p.sessions n) progress.old → progress.new ≡ option_map (fitted n) progress.old }
+    ensures { (n : ℕ) → sessions ≡ option_map (λ p. widened p.sessions n) progress.old
+        → progress.new ≡ option_map (fitted n) progress.old }
 {
     match progress {
         Some(progress) => match sessions {

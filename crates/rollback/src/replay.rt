@@ -67,7 +67,8 @@ fn replay_volatile<H: Handler>(
     count: usize,
 ) -> Result<(), NoMemory>
     requires { count ≤ length volatile.now.records }
-    ensures { IfOk result (λ _. progress.new ≡ replayed H.meaning seat.now progress.old (take count volatile.now.records)) }
+    ensures { IfOk result (λ _.
+        progress.new ≡ replayed H.meaning seat.now progress.old (take count volatile.now.records)) }
 {
     for place in 0..count {
         replay_one(alloc, handler, seat, progress, volatile.at(place))?;
@@ -88,7 +89,8 @@ fn replay<H: Handler>(
     count: usize,
 ) -> Result<Progress<H::State>, NoMemory>
     requires { count ≤ length volatile.now.records }
-    ensures { IfOk result (λ p. p ≡ replayed H.meaning seat.now (fitted width from.now) (records.now ++ take count volatile.now.records)) }
+    ensures { IfOk result (λ p.
+        p ≡ replayed H.meaning seat.now (fitted width from.now) (records.now ++ take count volatile.now.records)) }
 {
     let mut progress = progress::copy(alloc, handler, from)?;
     progress.sessions.widen(width)?;
@@ -109,7 +111,10 @@ pub(crate) fn rebuild<H: Handler>(
     count: usize,
 ) -> Result<Option<Progress<H::State>>, NoMemory>
     requires { count ≤ length volatile.now.records }
-    ensures { IfOk result (λ p. p ≡ option_map (λ s. replayed H.meaning seat.now (fitted width s.state) (records.now ++ take count volatile.now.records)) (option_copied nearest.entry)) }
+    ensures { IfOk result (λ p.
+        p ≡ option_map (λ s.
+        replayed H.meaning seat.now (fitted width s.state) (records.now ++ take count volatile.now.records))
+        (option_copied nearest.entry)) }
 {
     match nearest {
         Some(nearest) => {

@@ -5,7 +5,7 @@ ghost use Rattle.std.specs.List.{position};
 ghost use Rattle.std.specs.Option.{is_some, option_copied};
 ghost use Rattle.model.specs.declared.records.Record.{Record as RecordOf};
 ghost use Rattle.checkpoint.specs.Shelves.{has_index, nearest_of};
-ghost use Rattle.handler.specs.Inputs.{turn_of};
+ghost use Rattle.handler.specs.Inputs.{turn_upon_input};
 ghost use Rattle.orphan.specs.Tests.{is_orphan_by};
 ghost use Rattle.session.specs.Counts.{widened};
 ghost use Rattle.compact.specs.Compact.{Progress as ProgressOf};
@@ -212,8 +212,9 @@ impl<H: Handler> RecoveryUnit<H> {
         requires mark { logged.mark.index ≡ places self.old }
         requires asked { asking self.old logged.source logged.text ≡ Some done.input }
         ensures ok { IfOk result (λ _. self.new ≡ took H.meaning self.old logged) }
-        ensures effects { IfOk result (λ e. e ≡ effects_of (turn_of H.meaning done.input)) }
-        ensures outside { IfOk result (λ _. (before : ℕ) → CountsOutside before self.old → CountsOutside before self.new) }
+        ensures effects { IfOk result (λ e. e ≡ effects_of (turn_upon_input H.meaning done.input)) }
+        ensures outside { IfOk result (λ _. (before : ℕ) → CountsOutside before self.old
+            → CountsOutside before self.new) }
         ensures err { OnErr result (self.new ≡ self.old) }
     {
         let source = logged.source;
@@ -232,7 +233,8 @@ impl<H: Handler> RecoveryUnit<H> {
 
     /// Whether the unit is up and can count the receipt of a record and so many sends.
     fn has_room(&self, logged: &Record, sends: usize) -> bool
-        ensures { IsTrue result → (p : ProgressOf H.State) → self.now.progress ≡ Some p → Fits p.sessions logged.now.source (length logged.now.vector) sends }
+        ensures { IsTrue result → (p : ProgressOf H.State) → self.now.progress ≡ Some p
+            → Fits p.sessions logged.now.source (length logged.now.vector) sends }
     {
         let width = logged.vector.as_slice().len();
         progress::has_room_in(&self.progress, logged.source, sends, width)
@@ -287,7 +289,8 @@ impl<H: Handler> RecoveryUnit<H> {
 
     /// Adds the entries that `widened_sessions` made. Takes no memory.
     pub fn fit(&mut self, sessions: Option<Sessions>)
-        ensures { (n : ℕ) → sessions ≡ option_map (λ p. widened p.sessions n) self.old.progress → self.new ≡ widened_to self.old n }
+        ensures { (n : ℕ) → sessions ≡ option_map (λ p. widened p.sessions n) self.old.progress
+            → self.new ≡ widened_to self.old n }
     {
         progress::fit(&mut self.progress, sessions);
     }
@@ -301,8 +304,13 @@ impl<H: Handler> RecoveryUnit<H> {
     pub fn checkpoint(&mut self, alloc: Global, handler: &H) -> Result<(), NoMemory>
         requires { length self.old.volatile ≡ 0 }
         ensures ok { IfOk result (λ _. self.new ≡ checkpointed self.old) }
-        ensures nearest { IfOk result (λ _. IsTrue (is_some self.old.progress) → option_map (λ s. s.index) (nearest_of self.new.shelf (places self.old - 1)) ≡ Some (places self.old - 1)) }
-        ensures state { IfOk result (λ _. (p : ProgressOf H.State) → self.old.progress ≡ Some p → has_index self.old.shelf (places self.old - 1) ≡ false → nearest_of self.new.shelf (places self.old - 1) ≡ Some (record { index = places self.old - 1; state = p })) }
+        ensures nearest { IfOk result (λ _. IsTrue (is_some self.old.progress)
+            → option_map (λ s. s.index) (nearest_of self.new.shelf (places self.old - 1))
+            ≡ Some (places self.old - 1)) }
+        ensures state { IfOk result (λ _. (p : ProgressOf H.State) → self.old.progress ≡ Some p
+            → has_index self.old.shelf (places self.old - 1) ≡ false
+            → nearest_of self.new.shelf (places self.old - 1)
+            ≡ Some (record { index = places self.old - 1; state = p })) }
         ensures kept { IfOk result (λ _. KeepsShelved self.old.shelf self.new.shelf) }
         ensures err { OnErr result (self.new ≡ self.old) }
     {
@@ -316,7 +324,9 @@ impl<H: Handler> RecoveryUnit<H> {
     /// intervals that are kept.
     pub fn first_orphan(&self, table: &StartTable) -> Option<u32>
         ensures kept { IfSome result (λ first. IsTarget self.now first) }
-        ensures first { OrphansAreTail table.now self.now.intervals → result ≡ option_map (λ i. self.now.base + i) (position (λ x. is_orphan_by table.now x.vector) self.now.intervals) }
+        ensures first { OrphansAreTail table.now self.now.intervals
+            → result ≡ option_map (λ i.
+            self.now.base + i) (position (λ x. is_orphan_by table.now x.vector) self.now.intervals) }
     {
         let place = path::count_before_orphan(&self.intervals, table);
         if place < self.intervals.len() {
@@ -355,8 +365,12 @@ impl<H: Handler> RecoveryUnit<H> {
         ensures ok { IfOk result (λ _. self.new ≡ restored H.meaning self.old target width records.now) }
         ensures up { IfOk result (λ _. IsTrue (is_some self.new.progress)) }
         ensures last { IfOk result (λ _. places self.new ≡ target + 1) }
-        ensures fold { IfOk result (λ _. (p : ProgressOf H.State) (before : List RecordOf) → BeginsBy H.meaning self.old target width p before → self.new.progress ≡ Some (replayed H.meaning self.old.seat p (before ++ records_to self.old target records.now))) }
-        ensures outside { IfOk result (λ _. (before : ℕ) → CountsOutside before self.old → CountsOutside before self.new) }
+        ensures fold { IfOk result (λ _. (p : ProgressOf H.State) (before : List RecordOf)
+            → BeginsBy H.meaning self.old target width p before
+            → self.new.progress
+            ≡ Some (replayed H.meaning self.old.seat p (before ++ records_to self.old target records.now))) }
+        ensures outside { IfOk result (λ _. (before : ℕ) → CountsOutside before self.old
+            → CountsOutside before self.new) }
         ensures err { OnErr result (self.new ≡ self.old) }
     {
         let progress = self.rebuilt(alloc, handler, target, width, records)?;
@@ -391,7 +405,9 @@ impl<H: Handler> RecoveryUnit<H> {
         requires { IsTarget self.now target }
         ensures progress { IfOk result (λ p. p ≡ (restored H.meaning self.now target width records.now).progress) }
         ensures up { IfOk result (λ p. IsTrue (is_some p)) }
-        ensures fold { IfOk result (λ p. (from : ProgressOf H.State) (before : List RecordOf) → BeginsBy H.meaning self.now target width from before → p ≡ Some (replayed H.meaning self.now.seat from (before ++ records_to self.now target records.now))) }
+        ensures fold { IfOk result (λ p. (from : ProgressOf H.State) (before : List RecordOf)
+            → BeginsBy H.meaning self.now target width from before
+            → p ≡ Some (replayed H.meaning self.now.seat from (before ++ records_to self.now target records.now))) }
     {
         let count = path::count_to(self.places(), self.volatile.len(), target);
         let nearest = self.shelf.nearest(target);
@@ -423,7 +439,9 @@ impl<H: Handler> RecoveryUnit<H> {
     pub fn forget(&mut self, base: u32)
         requires { IsTrue (has_index self.old.shelf base) }
         ensures unit { self.new ≡ forgotten self.old base }
-        ensures outside { (before : ℕ) → CountsOutside before self.old → CountsOutside (before + from_outside (take (base - self.old.base) (drop 1 self.old.intervals))) self.new }
+        ensures outside { (before : ℕ) → CountsOutside before self.old
+            → CountsOutside
+            (before + from_outside (take (base - self.old.base) (drop 1 self.old.intervals))) self.new }
     {
         if base != self.base {
             self.shelf.move_base(base);

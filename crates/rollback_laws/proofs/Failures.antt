@@ -5,14 +5,13 @@ use Rattle.std.specs.List.{take_while}
 use Rattle.std.proofs.lemmas.List.{length-take-le}
 use Rattle.theory.proofs.ListLaws.{true_lt}
 use Rattle.model.specs.Handler.{Meaning}
-use Rattle.volatile_log.specs.Logs.{below}
+use Rattle.volatile_log.specs.Logs.{records_below}
 use Rattle.compact.specs.Compact.{Snapshot, Unit}
 use Rattle.compact.specs.Steps.{flushed_unit, from_outside, killed_unit}
 use Rattle.rollback.specs.Units.{Recovering, IsKept, killed, marked_stable}
-use Rattle.rollback.proofs.Cuts.{below_is}
+use Rattle.rollback.proofs.Cuts.{below_is, all_pass}
 use Rattle.rollback_laws.specs.Seen.{IsSeen, shelved_as}
 use Rattle.rollback_laws.specs.Laws.{FlushesAreSeen, FrontiersAreSeen, KillsAreSeen}
-use Rattle.rollback_laws.proofs.Lists.{all_pass}
 use Rattle.rollback_laws.proofs.Places.{base_is, shelf_low, some_stable, stable_is}
 
 module _ {S : Type 0} (r : Recovering S) (x : Unit S) (k : IsKept r) (s : IsSeen r x) where
@@ -34,11 +33,11 @@ module _ {S : Type 0} (r : Recovering S) (x : Unit S) (k : IsKept r) (s : IsSeen
   killed_shelf = s.shelf ∙ ap (map shelved_as) (sym (all_pass (λ (t : Snapshot S). nat_lt t.index x.stable) x.shelf (λ i t e. true_lt t.index x.stable (shelf_low r x k s i t e))))
 
   -- no volatile record stays
-  killed_volatile : below x.volatile x.stable ≡ []
+  killed_volatile : records_below x.volatile x.stable ≡ []
   killed_volatile =
       let st = (r.base + length r.intervals) - length r.volatile in
       let none : st - st ≡ 0 = omega arith in
-      (λ i. below (s.volatile i) (s.stable i)) ∙ below_is r.volatile st st k.marks ∙ ap (λ n. take n r.volatile) none
+      (λ i. records_below (s.volatile i) (s.stable i)) ∙ below_is r.volatile st st k.marks ∙ ap (λ n. take n r.volatile) none
 
   kill_seen : IsSeen (killed r) (killed_unit x)
   kill_seen = record {

@@ -6,11 +6,6 @@ use Rattle.std.specs.Option.{is_some}
 use Rattle.std.proofs.lemmas.List.Sums.{take_while-cons}
 use Rattle.std.proofs.lemmas.Option.{same_Some}
 
--- what all pass is all
-pub all_pass : {X : Type 0} (p : X → Bool) (xs : List X) → ((i : ℕ) (x : X) → slice_get xs i ≡ Some x → p x ≡ true) → take_while p xs ≡ xs
-all_pass p [] h = refl
-all_pass p (x ∷ xs) h = rw (take_while-cons p x xs, h 0 x refl) (ap (λ ys. x ∷ ys) (all_pass p xs (λ i y e. h (suc i) y e)))
-
 -- a front of two lists
 pub take_append : {X : Type 0} (n : ℕ) (xs ys : List X) → take n (xs ++ ys) ≡ take n xs ++ take (n - length xs) ys
 take_append zero xs ys = let e : 0 - length xs ≡ 0 = omega arith in ap (λ k. take k ys) (sym e)

@@ -4,7 +4,7 @@ use Rattle.std.specs.Prelude.{Some, slice_get, slice_index_or}
 use Rattle.std.proofs.lemmas.Option.{get_or_from_slice_get}
 use Rattle.theory.proofs.ListLaws.{at_map}
 use Rattle.model.specs.Handler.{Meaning}
-use Rattle.handler.specs.Inputs.{Input, turn_of}
+use Rattle.handler.specs.Inputs.{Input, turn_upon_input}
 use Rattle.compact.specs.Compact.{Compact, Interval, Progress, Unit}
 use Rattle.compact.specs.Laws.{replayed_one}
 use Rattle.compact.specs.Steps.{Receipt, last_vector, next_record, next_vector, no_letter, receiving_unit}
@@ -60,4 +60,4 @@ module _ {S : Type 0} (M : Meaning S) where
   turns_are_seen r x s q input e =
       let f : Progress S → Input S = λ p. record { seat = r.seat; state = p.state; source = q.source; text = q.text } in
       let is : f x.now ≡ input = mapped f r.progress x.now s.now input e in
-      ap (turn_of M) (sym is) ∙ ap (λ seat. M.handle seat x.now.state q.source q.text) (sym s.seat)
+      ap (turn_upon_input M) (sym is) ∙ ap (λ seat. M.handle seat x.now.state q.source q.text) (sym s.seat)

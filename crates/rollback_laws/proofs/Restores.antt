@@ -11,7 +11,7 @@ use Rattle.model.specs.Handler.{Meaning}
 use Rattle.checkpoint.specs.declared.snapshot.Snapshot.{Snapshot as Shelf}
 use Rattle.checkpoint.specs.Shelves.{nearest_of}
 use Rattle.checkpoint.proofs.Nearest.{nearest_none, nearest_some}
-use Rattle.volatile_log.specs.Logs.{below}
+use Rattle.volatile_log.specs.Logs.{records_below}
 use Rattle.layer_laws.proofs.Fronts.{same_front}
 use Rattle.compact.specs.Compact.{Compact, Progress, Snapshot, Unit, fitted}
 use Rattle.compact.specs.Laws.{replayed}
@@ -59,18 +59,18 @@ module _ {S : Type 0} (r : Recovering S) (x : Unit S) (k : IsKept r) (s : IsSeen
     cut_intervals : take (n - x.base.index) x.intervals ≡ take (target + 1 - r.base) r.intervals
     cut_intervals = λ i. take (place i) (s.intervals i)
 
-    cut_volatile : below x.volatile n ≡ below r.volatile (target + 1)
-    cut_volatile = λ i. below (s.volatile i) (sym last i)
+    cut_volatile : records_below x.volatile n ≡ records_below r.volatile (target + 1)
+    cut_volatile = λ i. records_below (s.volatile i) (sym last i)
 
     cut_shelf : take_while (λ (y : Shelf (Progress S)). nat_lt y.index (target + 1)) r.shelf.others ≡ map shelved_as (take_while (λ (b : Snapshot S). nat_lt b.index n) x.shelf)
     cut_shelf =
         (λ i. take_while (λ (y : Shelf (Progress S)). nat_lt y.index (last i)) (s.shelf i))
         ∙ same_front (λ (b : Snapshot S). nat_lt b.index n) (λ (y : Shelf (Progress S)). nat_lt y.index n) shelved_as x.shelf (λ i b e. refl)
 
-    volatile_is : below r.volatile (target + 1) ≡ take (target + 1 - x.stable) r.volatile
+    volatile_is : records_below r.volatile (target + 1) ≡ take (target + 1 - x.stable) r.volatile
     volatile_is = below_is r.volatile ((r.base + length r.intervals) - length r.volatile) (target + 1) k.marks ∙ ap (λ st. take (target + 1 - st) r.volatile) (sym (stable_is r x k s))
 
-    cut_stable : min x.stable n ≡ (r.base + length (take (target + 1 - r.base) r.intervals)) - length (below r.volatile (target + 1))
+    cut_stable : min x.stable n ≡ (r.base + length (take (target + 1 - r.base) r.intervals)) - length (records_below r.volatile (target + 1))
     cut_stable =
         let a = length-take (target + 1 - r.base) r.intervals in
         let b = ap length volatile_is ∙ length-take (target + 1 - x.stable) r.volatile in
@@ -78,7 +78,7 @@ module _ {S : Type 0} (r : Recovering S) (x : Unit S) (k : IsKept r) (s : IsSeen
         let e = some_stable r x k s in
         let f : r.base ≤ target = t.base in
         let g : target < r.base + length r.intervals = t.path in
-        counted (length (take (target + 1 - r.base) r.intervals)) (length (below r.volatile (target + 1))) a b d e f g
+        counted (length (take (target + 1 - r.base) r.intervals)) (length (records_below r.volatile (target + 1))) a b d e f g
       where
         counted : (l v : ℕ) → l ≡ min (target + 1 - r.base) (length r.intervals) → v ≡ min (target + 1 - x.stable) (length r.volatile) → x.stable ≡ (r.base + length r.intervals) - length r.volatile
             → length r.volatile < length r.intervals → r.base ≤ target → target < r.base + length r.intervals → min x.stable n ≡ (r.base + l) - v
@@ -110,7 +110,7 @@ module _ {S : Type 0} (r : Recovering S) (x : Unit S) (k : IsKept r) (s : IsSeen
       ]
 
       -- and the others are volatile
-      back_is : map (λ q. Some q) (below r.volatile (target + 1)) ≡ take (n - 1 - b.index - length logged) (map (λ q. Some q) x.volatile)
+      back_is : map (λ q. Some q) (records_below r.volatile (target + 1)) ≡ take (n - 1 - b.index - length logged) (map (λ q. Some q) x.volatile)
       back_is =
           let l = logged_long in
           let e = low r x k s b there in
@@ -122,7 +122,7 @@ module _ {S : Type 0} (r : Recovering S) (x : Unit S) (k : IsKept r) (s : IsSeen
           let d = live_long in
           let e = low r x k s b there in
           let f = high r x k s b there in
-          map-append (λ q. Some q) fetched (below r.volatile (target + 1))
+          map-append (λ q. Some q) fetched (records_below r.volatile (target + 1))
           ∙ (λ i. (read ∙ front_is) i ++ back_is i)
           ∙ sym (take_append (n - 1 - b.index) logged (map (λ q. Some q) x.volatile))
           ∙ ap (take (n - 1 - b.index)) (sym (drop-append-le (b.index - x.base.index) (map (slice_get log) x.live) (map (λ q. Some q) x.volatile) (omega (arith, d, e, f))))

@@ -6,12 +6,12 @@ use Rattle.model.specs.declared.names.Seat.{Seat}
 use Rattle.model.specs.declared.records.Record.{Record}
 use Rattle.model.specs.Handler.{Meaning}
 use Rattle.model.specs.World.{World}
-use Rattle.handler.specs.Inputs.{Input, turn_of}
+use Rattle.handler.specs.Inputs.{Input, turn_upon_input}
 use Rattle.checkpoint.specs.Shelves.{has_index}
 use Rattle.orphan.specs.Tests.{is_orphan_by}
 use Rattle.compact.specs.Compact.{Compact, Interval, Progress, Snapshot, Unit}
 use Rattle.compact.specs.Steps.{Receipt, first_unit, fitted_unit, flushed_unit, going_on, kept_places, killed_unit, last_vector, next_record, places as all_of, receiving_unit, shelved_unit, turn_of_receipt}
-use Rattle.compact.specs.StepLaws.{Stands}
+use Rattle.compact.specs.StepLaws.{StandsCompact}
 use Rattle.compact.specs.Forgetting.{rebased}
 use Rattle.rollback.specs.Units.{Recovering, IsKept, IsTarget, asking, begun_unit, checkpointed, forgotten, killed, marked_stable, places, took, widened_to}
 use Rattle.rollback_laws.specs.Seen.{BeginsAt, HasPlaces, IsRead, IsReady, IsRestored, IsSeen}
@@ -57,7 +57,7 @@ LastVectorsAreSeen {S} M = (r : Recovering S) (x : Unit S) → IsKept r → IsSe
 
 -- a turn that is asked for upon a receipt is the receipt's
 abbrev pub TurnsAreSeen : {S : Type 0} → Meaning S → Type 0
-TurnsAreSeen {S} M = (r : Recovering S) (x : Unit S) → IsSeen r x → (q : Receipt) (input : Input S) → asking r q.source q.text ≡ Some input → turn_of M input ≡ turn_of_receipt M x q
+TurnsAreSeen {S} M = (r : Recovering S) (x : Unit S) → IsSeen r x → (q : Receipt) (input : Input S) → asking r q.source q.text ≡ Some input → turn_upon_input M input ≡ turn_of_receipt M x q
 
 -- ---- checkpoint
 
@@ -70,7 +70,7 @@ CheckpointsAreSeen {S} M = (r : Recovering S) (x : Unit S) → IsKept r → IsSe
 
 -- Where the compact state stands for a world, what the laws below ask for holds.
 abbrev pub UnitsAreReady : {S : Type 0} → Meaning S → Type 0
-UnitsAreReady {S} M = (name : List ℕ) (k : Compact S) (w : World) (log : List Record) → Stands M name k w log
+UnitsAreReady {S} M = (name : List ℕ) (k : Compact S) (w : World) (log : List Record) → StandsCompact M name k w log
     → (u : ℕ) (x : Unit S) → slice_get k.units u ≡ Some x → (r : Recovering S) → IsKept r → IsSeen r x → IsReady r k x
 
 -- ---- orphans

@@ -34,7 +34,7 @@ impl Case {
 
 /// The outcomes that these lines ask for.
 pub(crate) fn audited(alloc: Global, lines: &str) -> anyhow::Result<String> {
-    let name = name_of(alloc, "a")?;
+    let name = name_of("a")?;
     let mut case = Case::new(alloc);
     let mut text = String::new(alloc);
     for line in lines.lines() {

@@ -119,8 +119,8 @@ pub(crate) fn serve_all<R: BufRead>(
 }
 
 /// The name of a tenant.
-pub(crate) fn name_of(alloc: Global, text: &str) -> anyhow::Result<TenantName> {
-    match TenantName::new(String::from_str(alloc, text)?) {
+pub(crate) fn name_of(text: &str) -> anyhow::Result<TenantName> {
+    match TenantName::new(text) {
         Some(name) => Ok(name),
         None => bail!("no name"),
     }

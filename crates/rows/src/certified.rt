@@ -12,7 +12,7 @@ const MOST_UNITS: u8 = 16;
 
 /// What a new book shows of tenant `a` before and after these lines.
 pub(crate) fn certified(alloc: Global, lines: &str) -> anyhow::Result<String> {
-    let name = name_of(alloc, "a")?;
+    let name = name_of("a")?;
     let mut text = String::new(alloc);
     let mut book = new_book(alloc);
     add_lists(alloc, &book, &name, &mut text)?;
@@ -68,7 +68,7 @@ fn released(alloc: Global, book: &Books, name: &TenantName) -> anyhow::Result<Ve
 fn copies(alloc: Global, outputs: &[Text]) -> anyhow::Result<Texts> {
     let mut texts = Vec::new(alloc);
     for output in outputs {
-        texts.push(output.copy(alloc)?)?;
+        texts.push(output.copy()?)?;
     }
     Ok(Texts::new(texts))
 }

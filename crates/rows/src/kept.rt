@@ -20,7 +20,7 @@ pub(crate) fn push_kept<S: Store>(
 ) -> anyhow::Result<()> {
     let (name, number) = words.split_once(' ').context("a unit is wanted")?;
     let number = number.parse::<u8>().context("a number is wanted")?;
-    let line = match calls::kept(book, &name_of(alloc, name)?, number) {
+    let line = match calls::kept(book, &name_of(name)?, number) {
         Some(kept) => format!(in alloc;
             "kept {} {} {}\n",
             kept.records, kept.shelved, kept.letters

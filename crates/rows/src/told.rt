@@ -20,7 +20,7 @@ pub(crate) fn told(alloc: Global, lines: &str) -> anyhow::Result<String> {
     for name in calls::tenants(&book)?.iter() {
         add_tenant(alloc, &book, name, &mut text)?;
     }
-    add_tenant(alloc, &book, &name_of(alloc, "nobody")?, &mut text)?;
+    add_tenant(alloc, &book, &name_of("nobody")?, &mut text)?;
     for entry in calls::history(&book) {
         add_entry(alloc, entry, &mut text)?;
     }

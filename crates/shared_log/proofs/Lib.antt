@@ -1,4 +1,4 @@
 pub mod LeftLaws
 mod Lists
-mod PlacesLaws
+pub mod PlacesLaws
 pub mod Tables

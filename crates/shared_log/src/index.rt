@@ -161,7 +161,7 @@ fn enter(alloc: Global, index: &mut Index, tenant: &TenantName) -> Result<(), No
     requires { get bytes_eq index.old tenant.now ≡ None }
     ensures lists { SameLists index.old index.new }
 {
-    let name = tenant.copy(alloc)?;
+    let name = tenant.copy();
     match index.insert(name, Units::new(alloc)) {
         Ok(_) => Ok(()),
         Err(_) => Err(NoMemory),

@@ -65,7 +65,8 @@ impl<S: Store> SharedLog<S> {
         ensures err { OnErr result (self.new.records ≡ self.old.records) }
         ensures device { result ≡ Err StoreFault.Device → HasRisen self.old.failures self.new.failures }
         ensures up { self.old.failures ≤ self.new.failures }
-        ensures own { OnOk result (places_of logged.now.tenant logged.now.unit self.new ≡ places_of logged.now.tenant logged.now.unit self.old ++ length self.old.records ∷ []) }
+        ensures own { OnOk result (places_of logged.now.tenant logged.now.unit self.new
+            ≡ places_of logged.now.tenant logged.now.unit self.old ++ length self.old.records ∷ []) }
         ensures others { OthersKept logged.now.tenant logged.now.unit self.old self.new }
         ensures kept { OnErr result (AllKept self.old self.new) }
         ensures grows { OnOk result (Grows self.old.records (logged.now ∷ []) self.new.records) }
@@ -122,7 +123,8 @@ impl<S: Store> SharedLog<S> {
     pub fn forget(&mut self, tenant: &TenantName, unit: Unit, count: usize)
         ensures own { places_of tenant.now unit self.new ≡ drop count (places_of tenant.now unit self.old) }
         ensures others { OthersKept tenant.now unit self.old self.new }
-        ensures records { self.new.records ≡ emptied (take count (places_of tenant.now unit self.old)) self.old.records }
+        ensures records { self.new.records
+            ≡ emptied (take count (places_of tenant.now unit self.old)) self.old.records }
         ensures grows { Grows self.old.records [] self.new.records }
         ensures contents { KeepsContents self.old.records self.new.records }
         ensures failures { self.new.failures ≡ self.old.failures }
@@ -144,7 +146,8 @@ fn append_to<S: Store>(
     ensures ok { OnOk result (S.log store.new ≡ S.log store.old ++ Some logged.now ∷ []) }
     ensures err { OnErr result (S.log store.new ≡ S.log store.old) }
     ensures count { count.new ≡ length (S.log store.new) }
-    ensures own { OnOk result (listed index.new logged.now.tenant logged.now.unit ≡ listed index.old logged.now.tenant logged.now.unit ++ count.old ∷ []) }
+    ensures own { OnOk result (listed index.new logged.now.tenant logged.now.unit
+        ≡ listed index.old logged.now.tenant logged.now.unit ++ count.old ∷ []) }
     ensures others { OtherLists logged.now.tenant logged.now.unit index.old index.new }
     ensures same { OnErr result (SameLists index.old index.new) }
     ensures device { result ≡ Err StoreFault.Device → HasRisen (S.failures store.old) (S.failures store.new) }

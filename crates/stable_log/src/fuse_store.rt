@@ -47,7 +47,14 @@ fn is_in(numbers: &[u64], number: u64) -> bool
 impl FuseStore {
     /// A store with no records that fails the appends and the fetches of these numbers.
     pub fn new(alloc: Global, bad_appends: Vec<u64>, bad_fetches: Vec<u64>) -> FuseStore
-        ensures { result ≡ record { records = []; bad_appends = bad_appends.items; bad_fetches = bad_fetches.items; appends = 0; fetches = 0; failures = 0 } }
+        ensures { result ≡ record {
+          records = [];
+          bad_appends = bad_appends.items;
+          bad_fetches = bad_fetches.items;
+          appends = 0;
+          fetches = 0;
+          failures = 0;
+        } }
     {
         FuseStore {
             inner: MemoryStore::new(alloc),

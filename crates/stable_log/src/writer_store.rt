@@ -111,8 +111,10 @@ impl<W: Write + Drop> Store for WriterStore<W> {
         ensures err { OnErr result (self.new.records ≡ self.old.records) }
         ensures device { result ≡ Err StoreFault.Device → HasRisen self.old.failures self.new.failures }
         ensures up { self.old.failures ≤ self.new.failures }
-        ensures line { OnOk result (Appends (W.contents self.old.writer) (W.contents self.new.writer) (log_line logged.now)) }
-        ensures beginning { result ≡ Err StoreFault.Device → AppendsBeginning (W.contents self.old.writer) (W.contents self.new.writer) (log_line logged.now) }
+        ensures line { OnOk result (Appends (W.contents self.old.writer) (W.contents self.new.writer)
+            (log_line logged.now)) }
+        ensures beginning { result ≡ Err StoreFault.Device
+            → AppendsBeginning (W.contents self.old.writer) (W.contents self.new.writer) (log_line logged.now) }
         ensures memory { result ≡ Err StoreFault.NoMemory → self.new ≡ self.old }
         ensures quiet { self.old.is_closed ≡ true → self.new.writer ≡ self.old.writer }
         ensures refused { self.old.is_closed ≡ true → result ≡ Err StoreFault.Device }

@@ -6,7 +6,7 @@ ghost use Rattle.std.specs.Option.{option_map_or};
 ghost use Rattle.checkpoint.specs.Shelves.{nearest_of};
 ghost use Rattle.depvector.specs.Vectors.{joined};
 ghost use Rattle.orphan.specs.Tests.{is_blind_by, is_orphan_by};
-ghost use Rattle.output_commit.specs.Holds.{texts_of};
+ghost use Rattle.output_commit.specs.Holds.{line_texts};
 ghost use Rattle.session.specs.Counts.{advanced};
 
 use checkpoint::Shelf;
@@ -96,7 +96,8 @@ pub fn begin_next(table: &mut StartTable, unit: Unit, start: u64) -> Result<bool
 
 /// Whether a letter with this vector may be taken by a unit that knows so many rows.
 pub fn may_be_taken(vector: &DepVector, table: &StartTable, known: usize) -> bool
-    ensures { result ≡ (not (is_blind_by (take known table.now) vector.now) && not (is_orphan_by (take known table.now) vector.now)) }
+    ensures { result ≡ (not (is_blind_by (take known table.now) vector.now)
+        && not (is_orphan_by (take known table.now) vector.now)) }
 {
     !is_blind(vector, table, known) && !is_orphan(vector, table, known)
 }

@@ -30,7 +30,7 @@ fn outputs_of<H: Handler>(
         let turn = handler.handle(alloc, at, &state, Source::Outside, text)?;
         state = handler.copy(alloc, &turn.state)?;
         for output in turn.outputs() {
-            all.push(output.copy(alloc)?)?;
+            all.push(output.copy()?)?;
         }
     }
     Ok(all)

@@ -4,7 +4,7 @@ use std::alloc::Global;
 use std::test::Fail;
 
 fn name(alloc: Global, text: &str) -> Result<TenantName, NoMemory> {
-    TenantName::new(String::from_str(alloc, text)?).ok_or(NoMemory)
+    TenantName::new(text).ok_or(NoMemory)
 }
 
 /// The n-th record of a tenant's unit.

@@ -27,7 +27,7 @@ fn receipt(
     letter: Option<Letter>,
     other: Mark,
 ) -> Result<Record, Fail> {
-    let tenant = TenantName::new(String::from_str(alloc, "a")?).ok_or("not a name")?;
+    let tenant = TenantName::new("a").ok_or("not a name")?;
     Ok(Record {
         tenant,
         unit: Unit::new(unit),

@@ -4,7 +4,7 @@ use std::test::Fail;
 use volatile_log::{Record, VolatileLog};
 
 fn logged(alloc: Global, index: u32) -> Result<Record, NoMemory> {
-    let Some(tenant) = TenantName::new(String::from_str(alloc, "a")?) else {
+    let Some(tenant) = TenantName::new("a") else {
         return Err(NoMemory);
     };
     let mark = Mark {

@@ -19,7 +19,7 @@ use Rattle.compact.specs.Compact.{IsUnit, Progress, Unit, progress_after}
 use Rattle.compact.specs.Steps.{or_next}
 use Rattle.rollback.specs.Units.{Recovering, asking, places}
 use Rattle.unit_steps.proofs.Both.{refusal_of_both}
-use Rattle.tenant.specs.Kept.{IsAsking, Kept, Member}
+use Rattle.tenant.specs.Kept.{IsAsking, TenantState, Member}
 use Rattle.tenant.specs.Needs.{input_upon}
 use Rattle.tenant.specs.Outcomes.{done}
 use Rattle.tenant.specs.Represents.{Leaves, StandsFor}
@@ -35,7 +35,7 @@ pub asked_up : {S : Type 0} (r : Recovering S) (source : Source) (text : List �
 asked_up r source text input e = mapped_from (λ p. record { seat = r.seat; state = p.state; source = source; text = text }) r.progress input e
 
 -- what is asked for passed the tests before the turn
-pub asking_at : {S : Type 0} (t : Kept S) (u : ℕ) (m n : Member S) (refusal : Member S → Option Refusal) (source : Source) (text : List ℕ) → slice_get t.members u ≡ Some m → slice_get t.members u ≡ Some n → refusal m ≡ None → places m.recovering < 2 ^ 32
+pub asking_at : {S : Type 0} (t : TenantState S) (u : ℕ) (m n : Member S) (refusal : Member S → Option Refusal) (source : Source) (text : List ℕ) → slice_get t.members u ≡ Some m → slice_get t.members u ≡ Some n → refusal m ≡ None → places m.recovering < 2 ^ 32
     → (r : Result (Input S) Refusal) → IfOk r (λ input. asking m.recovering source text ≡ Some input) → IfOk r (λ input. IsAsking (refusal n) n.recovering source text input)
 asking_at {S} t u m n refusal source text at there passes room (Ok input) a =
     let same : m ≡ n = same_Some m n (sym at ∙ there) in
@@ -48,7 +48,7 @@ pub record Shown {S : Type 0} (M : Meaning S) (name : List ℕ) (w : World) (log
   pub at : slice_get w.members u ≡ Some member
   pub is : IsUnit M name w log member x
 
-module _ {S : Type 0} (M : Meaning S) (name : List ℕ) (live : ℕ → List ℕ) (t : Kept S) (w : World) (log : List Record) (s : StandsFor M name live t w log) (u : ℕ) where
+module _ {S : Type 0} (M : Meaning S) (name : List ℕ) (live : ℕ → List ℕ) (t : TenantState S) (w : World) (log : List Record) (s : StandsFor M name live t w log) (u : ℕ) where
   pub shown : (m : Member S) (x : Keeps t live s.0 u m) → Shown M name w log u x.unit
   shown m x =
       let within = slice_get_within s.0.units u x.unit x.at in
@@ -81,7 +81,7 @@ module _ {S : Type 0} (M : Meaning S) (name : List ℕ) (live : ℕ → List ℕ
 -- ---- refusals in the world
 
 -- after one all stays
-pub refused_stays : {S : Type 0} (M : Meaning S) (name : List ℕ) (live : ℕ → List ℕ) (t : Kept S) (w : World) (log : List Record) → StandsFor M name live t w log → (outcome : Outcome) (r : Refusal) (reply : Reply) → outcome ≡ done (Refused r) w → reply ≡ Refused r
+pub refused_stays : {S : Type 0} (M : Meaning S) (name : List ℕ) (live : ℕ → List ℕ) (t : TenantState S) (w : World) (log : List Record) → StandsFor M name live t w log → (outcome : Outcome) (r : Refusal) (reply : Reply) → outcome ≡ done (Refused r) w → reply ≡ Refused r
     → Leaves M name live outcome reply t log
 refused_stays M name live t w log s outcome r reply e told = (w, e ∙ ap (λ r. done r w) (sym told), s)
 

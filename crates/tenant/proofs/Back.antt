@@ -21,7 +21,7 @@ use Rattle.model.specs.Alone.{Reachable, step_open}
 use Rattle.model.specs.Alone.Reachable.{stepped}
 use Rattle.model.specs.Failures.{HasRisen}
 use Rattle.model.specs.Handler.{Meaning}
-use Rattle.model.specs.Records.{IsHonest}
+use Rattle.model.specs.Records.{IsHonest, quiet}
 use Rattle.model.specs.Steps.{Outcome, first_refusal, is_device, notice, restart, start_of}
 use Rattle.model.specs.World.{World, incarnation_of}
 use Rattle.model.proofs.Places.{get_below}
@@ -31,7 +31,7 @@ use Rattle.shared_log.proofs.LeftLaws.{same_grows}
 use Rattle.orphan.specs.Tests.{is_orphan_by}
 use Rattle.compact.specs.Compact.{Compact, Interval, Progress, Snapshot, Unit}
 use Rattle.compact.specs.Steps.{Done, at_unit_of, back_state, back_unit, first_progress, kept_places, knowing_unit, notice_of, or_refused, places as all_of, rebuilt, restart_of, row_to, tests_of_back, with_unit_at}
-use Rattle.compact.specs.StepLaws.{IsRebuilt, Stands as StandsCompact}
+use Rattle.compact.specs.StepLaws.{IsRebuilt, StandsCompact}
 use Rattle.compact.proofs.Recovery.{bases_serve, notices_follow, restarts_follow, snapshots_serve}
 use Rattle.rollback.specs.Units.{IsKept, IsTarget, OrphansAreTail, Recovering, cut_behind, places, restored, stable_places}
 use Rattle.rollback.proofs.Cuts.{kept_cut}
@@ -41,8 +41,8 @@ use Rattle.rollback_laws.proofs.Places.{places_are_seen}
 use Rattle.rollback_laws.proofs.Restores.{restores_are_seen}
 use Rattle.rollback_laws.proofs.Standing.{units_are_ready}
 use Rattle.tenant.specs.declared.answer.Answer.{Answer}
-use Rattle.tenant.specs.Kept.{Kept, Member, gone_back, kept_before, kept_length, live_count, outputs_to, restart_refusal, returned, returned_member, up_refusal}
-use Rattle.tenant.specs.Outcomes.{failing, quiet}
+use Rattle.tenant.specs.Kept.{TenantState, Member, gone_back, kept_before, kept_length, live_count, outputs_to, restart_refusal, returned, returned_member, up_refusal}
+use Rattle.tenant.specs.Outcomes.{failing}
 use Rattle.tenant.specs.Returns.{Failed, Returns, Went}
 use Rattle.tenant.specs.Stands.{Did, IsStanding, live_in}
 use Rattle.tenant.specs.Represents.{AreLast, IsCompact, IsMember, Leaves}
@@ -51,8 +51,8 @@ use Rattle.tenant.proofs.Fetching.{whole_fetched}
 use Rattle.tenant.proofs.Follow.{Keeps, is_up, keeps, leaves, no_unit, none_kept, not_up, with_one}
 use Rattle.tenant.proofs.Killing.{hold_cut, whole_hold}
 use Rattle.tenant.proofs.Lasts.{last_taken}
-use Rattle.tenant.proofs.Places.{places_are}
 use Rattle.tenant.proofs.Standing.{closed}
+use Rattle.shared_log.proofs.PlacesLaws.{places_are}
 
 -- ---- the first refusal
 
@@ -104,7 +104,7 @@ not_above a b e = grind (arith, nat_tests)
 pub above : (a b : ℕ) → nat_le a b ≡ false → b < a
 above a b e = grind (arith, nat_tests)
 
-module _ {S : Type 0} (M : Meaning S) (name : List ℕ) (t : Kept S) (w : World) (before : Logged) (s : IsStanding M name t w before.records) (u : ℕ) where
+module _ {S : Type 0} (M : Meaning S) (name : List ℕ) (t : TenantState S) (w : World) (before : Logged) (s : IsStanding M name t w before.records) (u : ℕ) where
   abbrev whole : List Record
   whole = s.whole
 
@@ -121,7 +121,7 @@ module _ {S : Type 0} (M : Meaning S) (name : List ℕ) (t : Kept S) (w : World)
   st = s.stands.2
 
   -- what is left where the log took nothing
-  closes : (step : TenantStep) (said : Said) (reply : Reply) (v : Kept S) (after : Logged) → Leaves M name (live_in name after.records) (step_open M w step said) reply v whole → Grows before.records [] after.records
+  closes : (step : TenantStep) (said : Said) (reply : Reply) (v : TenantState S) (after : Logged) → Leaves M name (live_in name after.records) (step_open M w step said) reply v whole → Grows before.records [] after.records
       → IsHonest M name w step said [] → (said.end ≡ Device → HasRisen before.failures after.failures) → Did M name w v step said reply before after
   closes step said reply v after l grows honest device = record {
     steps = (l.0, l.1, closed (record { whole = whole; left = subst (λ (ws : List Record). IsLeftOf after.records ws) (append-nil whole) (grows whole s.left); stands = l.2 }));
@@ -231,7 +231,7 @@ module _ {S : Type 0} (M : Meaning S) (name : List ℕ) (t : Kept S) (w : World)
           less : (n l q p : ℕ) → q ≡ n → l ≡ p → q < p → n < l
           less n l q p a b h = omega (arith, a, b, h)
 
-      module _ (v : Kept S) (after : Logged) (a : Answer) (given : Reply) (wt : Went M name t u m target given a v before after) where
+      module _ (v : TenantState S) (after : Logged) (a : Answer) (given : Reply) (wt : Went M name t u m target given a v before after) where
         abbrev fetched : List Record
         fetched = wt.replayed.0
 
@@ -327,7 +327,7 @@ module _ {S : Type 0} (M : Meaning S) (name : List ℕ) (t : Kept S) (w : World)
             limit : (n p : ℕ) → n ≡ p → p ≤ 2 ^ 32 → n ≤ 4294967296
             limit n p e h = omega (arith, e, h)
 
-        abbrev v2 : Kept S
+        abbrev v2 : TenantState S
         v2 = gone_back t u m target (incarnation_of t.table u + 1) wt.progress
 
         one : IsMember v2 (live_in name after.records) u q after_unit
@@ -403,7 +403,7 @@ module _ {S : Type 0} (M : Meaning S) (name : List ℕ) (t : Kept S) (w : World)
         to_answer step reply e d =
             subst (λ (z : Said). Did M name w v step z a.reply before after) (sym wt.said)
             (subst (λ (z : Reply). Did M name w v step quiet z before after) (e ∙ sym wt.reply)
-            (subst (λ (z : Kept S). Did M name w z step quiet reply before after) (sym wt.back) d))
+            (subst (λ (z : TenantState S). Did M name w z step quiet reply before after) (sym wt.back) d))
 
         pub restart_done : x.unit.up ≡ false → nat_le 65535 (incarnation_of t.table u) ≡ false → Restarted (record { incarnation = incarnation_of t.table u + 1; index = target + 1 }) ≡ given → Did M name w v (Restart u) a.said a.reply before after
         restart_done down room reply =
@@ -426,14 +426,14 @@ module _ {S : Type 0} (M : Meaning S) (name : List ℕ) (t : Kept S) (w : World)
             v2 is_after)
             wt.grows (quiet_asked _) not_device)
 
-      failed : (step : TenantStep) (v : Kept S) (after : Logged) (a : Answer) → Failed t a v before after → Did M name w t step failing (Refused Store) before after → Did M name w v step a.said a.reply before after
+      failed : (step : TenantStep) (v : TenantState S) (after : Logged) (a : Answer) → Failed t a v before after → Did M name w t step failing (Refused Store) before after → Did M name w v step a.said a.reply before after
       failed step v after a fl d =
           subst (λ (z : Said). Did M name w v step z a.reply before after) (sym fl.said)
           (subst (λ (z : Reply). Did M name w v step failing z before after) (sym fl.reply)
-          (subst (λ (z : Kept S). Did M name w z step failing (Refused Store) before after) (sym fl.same) d))
+          (subst (λ (z : TenantState S). Did M name w z step failing (Refused Store) before after) (sym fl.same) d))
 
       -- whether it went, or the device failed
-      pub restart_returns : restart_refusal t.table u (Some m) ≡ None → (start : Start) → start ≡ record { incarnation = incarnation_of t.table u + 1; index = target + 1 } → (v : Kept S) (after : Logged) (a : Answer)
+      pub restart_returns : restart_refusal t.table u (Some m) ≡ None → (start : Start) → start ≡ record { incarnation = incarnation_of t.table u + 1; index = target + 1 } → (v : TenantState S) (after : Logged) (a : Answer)
           → Returns M name t u m target (Restarted start) a v before after → Did M name w v (Restart u) a.said a.reply before after
       restart_returns none start e v after a (inl wt) =
           let f = passes (is_some r.progress) (nat_le 65535 (incarnation_of t.table u)) none in
@@ -443,7 +443,7 @@ module _ {S : Type 0} (M : Meaning S) (name : List ℕ) (t : Kept S) (w : World)
           failed (Restart u) v after a fl (restart_refused failing Store after fl.records (λ d. fl.device) (λ is. failing_asked _ (restart_asked w u failing is))
           (later_first x.unit.up Up _ (x.is.seen.up ∙ f.0) ∙ later_first (nat_le 65535 (incarnation_of k.table u)) Limit _ (ap (λ rows. nat_le 65535 (incarnation_of rows u)) is.table ∙ f.1) ∙ failing_first))
 
-      pub notice_returns : is_some r.progress ≡ true → target + 1 < places r → nat_le 65535 (incarnation_of t.table u) ≡ false → (start : Start) → start ≡ record { incarnation = incarnation_of t.table u + 1; index = target + 1 } → (v : Kept S) (after : Logged) (a : Answer)
+      pub notice_returns : is_some r.progress ≡ true → target + 1 < places r → nat_le 65535 (incarnation_of t.table u) ≡ false → (start : Start) → start ≡ record { incarnation = incarnation_of t.table u + 1; index = target + 1 } → (v : TenantState S) (after : Logged) (a : Answer)
           → Returns M name t u m target (Noticed (Some start)) a v before after → Did M name w v (Notice u) a.said a.reply before after
       notice_returns up cut room start e v after a (inl wt) = notice_done v after a (Noticed (Some start)) wt up cut room (ap (λ z. Noticed (Some z)) (sym e))
       notice_returns up cut room start e v after a (inr fl) =

@@ -21,7 +21,7 @@ use Rattle.compact.specs.Steps.{first_unit, opened_of, with_first}
 use Rattle.compact.proofs.Opens.{opens_follow}
 use Rattle.rollback.specs.Units.{IsKept, begun_unit}
 use Rattle.rollback_laws.proofs.Joins.{beginnings_are_seen}
-use Rattle.tenant.specs.Kept.{Kept, Member, begun_member, opened_kept, with_begun}
+use Rattle.tenant.specs.Kept.{TenantState, Member, begun_member, opened_kept, with_begun}
 use Rattle.tenant.specs.Represents.{IsCompact, IsMember, Leaves}
 use Rattle.tenant.proofs.Lasts.{last_none}
 use Rattle.tenant.proofs.Follow.{leaves}
@@ -128,7 +128,7 @@ module _ {S : Type 0} (M : Meaning S) (kinds : List (List ℕ)) (quota : Quota) 
   abbrev width : ℕ
   width = length kinds
 
-  abbrev t : Kept S
+  abbrev t : TenantState S
   t = opened_kept M kinds quota optimism
 
   abbrev k : Compact S
@@ -175,10 +175,10 @@ module _ {S : Type 0} (M : Meaning S) (kinds : List (List ℕ)) (quota : Quota) 
   open_refused can = ap (λ b. cond b (opened_with M kinds quota optimism) (record { reply = Refused BadOpen; world = None })) can
 
   -- the same, by what the calls give
-  pub open_is : (names : List (List ℕ)) → names ≡ kinds → (b : Bool) → b ≡ can_open M names quota optimism → b ≡ true → (v : Kept S) → v ≡ opened_kept M names quota optimism
+  pub open_is : (names : List (List ℕ)) → names ≡ kinds → (b : Bool) → b ≡ can_open M names quota optimism → b ≡ true → (v : TenantState S) → v ≡ opened_kept M names quota optimism
       → (name : List ℕ) (live : ℕ → List ℕ) (log : List Record) → Leaves M name live (open_new M kinds quota optimism) (Opened (length names)) v log
   open_is names same b is e v made name live log =
       let can : can_open M kinds quota optimism ≡ true = ap (λ ns. can_open M ns quota optimism) (sym same) ∙ sym is ∙ e in
       let tenant : v ≡ t = made ∙ ap (λ ns. opened_kept M ns quota optimism) same in
       subst (λ (n : ℕ). Leaves M name live (open_new M kinds quota optimism) (Opened n) v log) (ap length (sym same))
-      (subst (λ (q : Kept S). Leaves M name live (open_new M kinds quota optimism) (Opened (length kinds)) q log) (sym tenant) (open_done can name live log))
+      (subst (λ (q : TenantState S). Leaves M name live (open_new M kinds quota optimism) (Opened (length kinds)) q log) (sym tenant) (open_done can name live log))

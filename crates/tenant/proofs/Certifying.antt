@@ -11,12 +11,12 @@ use Rattle.certificate.specs.Laws.{IsKeptOf}
 use Rattle.certificate.specs.Moves.{route_of, routes_of}
 use Rattle.compact.specs.Compact.{Letter}
 use Rattle.compact.proofs.Words.{maps_same}
-use Rattle.tenant.specs.Kept.{Kept}
+use Rattle.tenant.specs.Kept.{TenantState}
 use Rattle.tenant.specs.Reads.{routes_by}
 use Rattle.tenant.specs.Represents.{StandsFor}
 use Rattle.tenant.proofs.Reading.{stands_at, table_same}
 
-module _ {S : Type 0} (M : Meaning S) (name : List ℕ) (live : ℕ → List ℕ) (t : Kept S) (w : World) (log : List Record) (s : StandsFor M name live t w log) where
+module _ {S : Type 0} (M : Meaning S) (name : List ℕ) (live : ℕ → List ℕ) (t : TenantState S) (w : World) (log : List Record) (s : StandsFor M name live t w log) where
   frontiers_same : t.frontiers ≡ frontiers w
   frontiers_same = sym (map-id t.frontiers) ∙ maps_same (λ (f : ℕ). f) (frontier w) t.frontiers w.members (s.1.fronts ∙ s.2.represents.width) (λ u f m a b.
       let x = stands_at M name live t w log s u m b in

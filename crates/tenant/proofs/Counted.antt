@@ -17,7 +17,7 @@ use Rattle.model.proofs.Places.{get_below}
 use Rattle.theory.proofs.ListLaws.{at_map, bool_cases, eq_true}
 use Rattle.compact.specs.Compact.{IsLetter, Letter}
 use Rattle.tenant.specs.Keeping.{IsKeeping, KeepsPast, amount_of, is_whole_to, kept_by, shelf_of, shelves_of}
-use Rattle.tenant.specs.Kept.{Kept, Member as MemberOf}
+use Rattle.tenant.specs.Kept.{TenantState, Member as MemberOf}
 use Rattle.tenant.specs.Stands.{Stands, live_in}
 use Rattle.tenant.proofs.Lasting.{past_opened}
 use Rattle.tenant.proofs.Reading.{stands_at}
@@ -40,7 +40,7 @@ count_same {X} {Y} p q n (x ∷ xs) (y ∷ ys) h f =
     ∙ (λ i. cond (first i) 1 0 + rest i)
     ∙ sym (sum_by-cons (λ (b : ℕ × Y). cond (q b) 1 0) (n, y) (enumerate_from (n + 1) ys))
 
-module _ {S : Type 0} (M : Meaning S) (name : List ℕ) (t : Kept S) (w : World) (records : List (Option Record)) (shelves : List Shelf) (s : Stands M name t w records) (k : KeepsPast t w shelves) where
+module _ {S : Type 0} (M : Meaning S) (name : List ℕ) (t : TenantState S) (w : World) (records : List (Option Record)) (shelves : List Shelf) (s : Stands M name t w records) (k : KeepsPast t w shelves) where
   keeping : IsKeeping t w shelves
   keeping = past_opened k
 

@@ -20,7 +20,7 @@ use Rattle.model.specs.Alone.{Reachable}
 use Rattle.model.specs.Alone.Reachable.{stepped}
 use Rattle.model.proofs.Places.{at_unit_found, get_below}
 use Rattle.theory.proofs.Sending.{letters_made}
-use Rattle.handler.specs.Inputs.{Input, turn_of}
+use Rattle.handler.specs.Inputs.{Input, turn_upon_input}
 use Rattle.layer_laws.specs.Laws.{stable_lengths}
 use Rattle.layer_laws.proofs.Unstable.{unstable_are_counted}
 use Rattle.compact.specs.Compact.{Compact, Content, IsContent, IsLetter, Letter, Progress, Unit}
@@ -32,7 +32,7 @@ use Rattle.unit_steps.specs.Laws.{known_to}
 use Rattle.unit_steps.specs.Receipts.{IsWithin, arrival_refusal, letter_refused, past_tests}
 use Rattle.unit_steps.proofs.Seen.{letters_are_refused}
 use Rattle.tenant.specs.declared.receipts.Plan.{Plan}
-use Rattle.tenant.specs.Kept.{IsAsking, Kept, Member, known_of, letter_refusal_of, next_letters_of, next_record_of, next_reply_of, received_kept, turn_refusal_of}
+use Rattle.tenant.specs.Kept.{IsAsking, TenantState, Member, known_of, letter_refusal_of, next_letters_of, next_record_of, next_reply_of, received_kept, turn_refusal_of}
 use Rattle.tenant.specs.Needs.{IsAsked, deliver_needs, deliver_to_needs, input_unless, input_upon, letter_needs}
 use Rattle.tenant.specs.Plans.{IsPlanned}
 use Rattle.tenant.specs.Represents.{IsCompact, Leaves, StandsFor}
@@ -61,7 +61,7 @@ record IsSent {S : Type 0} (M : Meaning S) (w : World) (l : ℕ) (c : Letter) : 
   pub at : slice_get (executed M w).letters l ≡ Some message
   pub is : IsLetter w l message c
 
-module _ {S : Type 0} (M : Meaning S) (name : List ℕ) (live : ℕ → List ℕ) (t : Kept S) (w : World) (log : List Record) (s : StandsFor M name live t w log) (l : ℕ) where
+module _ {S : Type 0} (M : Meaning S) (name : List ℕ) (live : ℕ → List ℕ) (t : TenantState S) (w : World) (log : List Record) (s : StandsFor M name live t w log) (l : ℕ) where
   abbrev k : Compact S
   k = s.0
 
@@ -186,7 +186,7 @@ module _ {S : Type 0} (M : Meaning S) (name : List ℕ) (live : ℕ → List ℕ
           abbrev q : Receipt
           q = delivered l c content
 
-          turned : (o : Option Refusal) → turn_refusal_of t m (turn_of M input) ≡ o → deliver_of M name k l ≡ or_refused k (accepted_of M name k c.receiver q x.unit) o
+          turned : (o : Option Refusal) → turn_refusal_of t m (turn_upon_input M input) ≡ o → deliver_of M name k l ≡ or_refused k (accepted_of M name k c.receiver q x.unit) o
           turned o e =
               let after = turn_refusal_is M name live t w log s c.receiver m x q input is.asked ∙ e in
               let pass : letter_refusal k x.unit c (Some content) ≡ None = ap (letter_refusal k x.unit c) (sym whole) ∙ refusal_of ∙ is.passes in
@@ -195,11 +195,11 @@ module _ {S : Type 0} (M : Meaning S) (name : List ℕ) (live : ℕ → List ℕ
               ∙ ap (λ (o : Option Content). deliver_content M name k l c o x.unit) whole
               ∙ (λ i. or_refused k (accepted_of M name k c.receiver q x.unit) (or_next (pass i) (after i)))
 
-          pub letter_refused_then : (r : Refusal) → turn_refusal_of t m (turn_of M input) ≡ Some r → Leaves M name live (deliver M w l) (Refused r) t log
+          pub letter_refused_then : (r : Refusal) → turn_refusal_of t m (turn_upon_input M input) ≡ Some r → Leaves M name live (deliver M w l) (Refused r) t log
           letter_refused_then r e = leaves M name live log (deliver M w l) reach _ (record { reply = Refused r; state = k }) (deliveries_follow M name k w log s.2 l) (turned (Some r) e) t s.1
 
-          letter_done : turn_refusal_of t m (turn_of M input) ≡ None → (p : Progress S) → m.recovering.progress ≡ Some p → (reply : Reply) → reply ≡ next_reply_of t c.receiver m (turn_of M input)
-              → (v : Kept S) → v ≡ received_kept M t c.receiver m (next_record_of name t c.receiver m q) (turn_of M input).outputs (next_letters_of t c.receiver m q (turn_of M input) p.sessions)
+          letter_done : turn_refusal_of t m (turn_upon_input M input) ≡ None → (p : Progress S) → m.recovering.progress ≡ Some p → (reply : Reply) → reply ≡ next_reply_of t c.receiver m (turn_upon_input M input)
+              → (v : TenantState S) → v ≡ received_kept M t c.receiver m (next_record_of name t c.receiver m q) (turn_upon_input M input).outputs (next_letters_of t c.receiver m q (turn_upon_input M input) p.sessions)
               → Leaves M name live (deliver M w l) reply v log
           letter_done none p up reply answer v new =
               let told = reply_is M name live t w log s c.receiver m x q input is.asked in
@@ -207,11 +207,11 @@ module _ {S : Type 0} (M : Meaning S) (name : List ℕ) (live : ℕ → List ℕ
               let given : Done S = record { reply = reply; state = receiving_state M name k c.receiver q x.unit } in
               leaves M name live log (deliver M w l) reach _ given (deliveries_follow M name k w log s.2 l)
               (turned None none ∙ (λ i. record { reply = (told ∙ sym answer) i; state = receiving_state M name k c.receiver q x.unit }))
-              v (subst (λ (v : Kept S). IsCompact v live (receiving_state M name k c.receiver q x.unit)) (sym new) kept)
+              v (subst (λ (v : TenantState S). IsCompact v live (receiving_state M name k c.receiver q x.unit)) (sym new) kept)
 
           -- so it is of what was planned
-          pub letter_planned : (turn : Turn S) → turn ≡ turn_of M input → (plan : Plan) → IsPlanned name t c.receiver m q turn (Ok plan) → (reply : Reply) → reply ≡ plan.answer.reply
-              → (v : Kept S) → v ≡ received_kept M t c.receiver m plan.logged plan.outputs.items plan.made.items → Leaves M name live (deliver M w l) reply v log
+          pub letter_planned : (turn : Turn S) → turn ≡ turn_upon_input M input → (plan : Plan) → IsPlanned name t c.receiver m q turn (Ok plan) → (reply : Reply) → reply ≡ plan.answer.reply
+              → (v : TenantState S) → v ≡ received_kept M t c.receiver m plan.logged plan.outputs.items plan.made.items → Leaves M name live (deliver M w l) reply v log
           letter_planned turn e plan planned reply told v new =
               let p = asked_up m.recovering (FromUnit c.source) content.text input is.asked in
               let made = planned.1 p.0 p.1 in

@@ -21,14 +21,14 @@ use Rattle.theory.proofs.ListLaws.{any_at, any_none, at_map, bool_cases, eq_true
 use Rattle.layer_laws.specs.Laws.{frontier}
 use Rattle.compact.specs.Compact.{Compact, Interval, IsUnit, Letter, Unit, interval_of}
 use Rattle.compact.specs.Forgetting.{emptied}
-use Rattle.compact.specs.StepLaws.{Stands as StandsCompact}
+use Rattle.compact.specs.StepLaws.{StandsCompact}
 use Rattle.checkpoint.specs.declared.snapshot.Snapshot.{Snapshot as SnapshotOf}
 use Rattle.checkpoint.specs.Shelves.{is_at}
 use Rattle.rollback.specs.Units.{Recovering, based_on, forgotten}
 use Rattle.rollback_laws.proofs.Places.{places_are_seen}
 use Rattle.tenant.specs.Bases.{emptied_all, emptied_at, emptied_by, moved_kept, next_base, passed}
 use Rattle.tenant.specs.Keeping.{IsKeeping, KeepsPast, based_one, shelf_of, shelves_of}
-use Rattle.tenant.specs.Kept.{Kept, Member as MemberOf}
+use Rattle.tenant.specs.Kept.{TenantState, Member as MemberOf}
 use Rattle.tenant.specs.Represents.{IsCompact}
 use Rattle.tenant.specs.Stands.{IsStanding, Stands, live_in}
 use Rattle.tenant.proofs.Follow.{Keeps, keeps}
@@ -128,7 +128,7 @@ take_more (x ∷ path) (suc a) n = (let e : suc a + n ≡ suc (a + n) = omega ar
 
 -- ---- one unit's base moves
 
-module _ {S : Type 0} (M : Meaning S) (name : List ℕ) (t : Kept S) (w : World) (records : List (Option Record)) (s : IsStanding M name t w records) (u : ℕ) (m : MemberOf S) (found : slice_get t.members u ≡ Some m)
+module _ {S : Type 0} (M : Meaning S) (name : List ℕ) (t : TenantState S) (w : World) (records : List (Option Record)) (s : IsStanding M name t w records) (u : ℕ) (m : MemberOf S) (found : slice_get t.members u ≡ Some m)
     (f : ℕ) (front : slice_get t.frontiers u ≡ Some f) (shelves : List Shelf) (kept : IsKeeping t w shelves) where
   abbrev k : Compact S
   k = s.stands.0
@@ -210,7 +210,7 @@ module _ {S : Type 0} (M : Meaning S) (name : List ℕ) (t : Kept S) (w : World)
           absurd (other (letter_is.receiver ∙ b.receiver ∙ o.own (suc r.base + i) y on))
     ])
 
-    abbrev v : Kept S
+    abbrev v : TenantState S
     v = moved_kept t u m (Some base)
 
     abbrev moved_shelves : List Shelf
@@ -281,10 +281,10 @@ module _ {S : Type 0} (M : Meaning S) (name : List ℕ) (t : Kept S) (w : World)
   moved_to None e = absurd (next_there r x.is.kept f low e)
   moved_to (Some base) e = moved_keeping base e
 
-  pub moved_keeps : (v : Kept S) → v ≡ moved_kept t u m (next_base r f) → IsKeeping v w (changed (based (firm_length w q)) u shelves)
+  pub moved_keeps : (v : TenantState S) → v ≡ moved_kept t u m (next_base r f) → IsKeeping v w (changed (based (firm_length w q)) u shelves)
   moved_keeps v same =
       subst (λ (ss : List Shelf). IsKeeping v w ss) ((λ j. slice_set shelves u (based (front_is j) (shelf_of r))) ∙ ap (changed_if (based (firm_length w q)) u shelves) (sym shelved))
-      (subst (λ (z : Kept S). IsKeeping z w (slice_set shelves u (based f (shelf_of r)))) (sym same) (moved_to (next_base r f) refl))
+      (subst (λ (z : TenantState S). IsKeeping z w (slice_set shelves u (based f (shelf_of r)))) (sym same) (moved_to (next_base r f) refl))
 
 -- ---- all units, one after another
 
@@ -314,9 +314,9 @@ based_more w (suc u) (m ∷ members) (s ∷ shelves) =
     go None first rest = refl
     go (Some q) first rest = shifted (based (firm_length w q)) u first rest
 
-module _ {S : Type 0} (M : Meaning S) (name : List ℕ) (t : Kept S) (w : World) (records : List (Option Record)) (s : Stands M name t w records) (u : ℕ) (shelves : List Shelf) (kept : KeepsPast t w shelves) where
+module _ {S : Type 0} (M : Meaning S) (name : List ℕ) (t : TenantState S) (w : World) (records : List (Option Record)) (s : Stands M name t w records) (u : ℕ) (shelves : List Shelf) (kept : KeepsPast t w shelves) where
   -- the unit at this place forgot
-  pub one_keeps : (m : MemberOf S) (f : ℕ) → slice_get t.members u ≡ Some m → slice_get t.frontiers u ≡ Some f → (v : Kept S) → v ≡ moved_kept t u m (next_base m.recovering f) → KeepsPast v w (based_one w u (slice_get w.members u) shelves)
+  pub one_keeps : (m : MemberOf S) (f : ℕ) → slice_get t.members u ≡ Some m → slice_get t.frontiers u ≡ Some f → (v : TenantState S) → v ≡ moved_kept t u m (next_base m.recovering f) → KeepsPast v w (based_one w u (slice_get w.members u) shelves)
   one_keeps m f found front v same =
       let k = moved_keeps M name t w records (opened s) u m found f front shelves (past_opened kept) v same in
       let q = world_unit M name t w records (opened s) u m found f front shelves (past_opened kept) in

@@ -16,7 +16,7 @@ use Rattle.model.specs.Alone.Reachable.{stepped}
 use Rattle.model.specs.Failures.{HasRisen}
 use Rattle.model.specs.Handler.{Meaning}
 use Rattle.model.specs.Lists.{numbers_from}
-use Rattle.model.specs.Records.{FlushesUnit, record_of, volatile_records}
+use Rattle.model.specs.Records.{FlushesUnit, record_of, volatile_records, quiet}
 use Rattle.model.specs.Steps.{flush, flush_reply}
 use Rattle.model.specs.World.{World, Member as MemberOf}
 use Rattle.model.proofs.Places.{get_below}
@@ -26,7 +26,7 @@ use Rattle.shared_log.specs.Logged.{Logged, places_from}
 use Rattle.shared_log.proofs.LeftLaws.{appended_grows, same_grows}
 use Rattle.compact.specs.Compact.{Compact, Unit}
 use Rattle.compact.specs.Steps.{at_up_of, flush_of, flushed_unit, going_on, lengths_of, refronted, places as all_of, with_unit_at}
-use Rattle.compact.specs.StepLaws.{Stands as StandsCompact}
+use Rattle.compact.specs.StepLaws.{StandsCompact}
 use Rattle.compact.proofs.Flushes.{flushes_follow}
 use Rattle.rollback.specs.Units.{IsKept, Recovering, marked_stable, stable_places}
 use Rattle.rollback.proofs.Keeping.{kept_marked}
@@ -36,8 +36,7 @@ use Rattle.rollback_laws.proofs.Places.{places_are_seen}
 use Rattle.rollback_laws.proofs.Standing.{units_are_ready}
 use Rattle.unit_steps.specs.Receipts.{IsFrontier, frontier_of}
 use Rattle.unit_steps.proofs.Seen.{frontiers_go_on}
-use Rattle.tenant.specs.Kept.{IsFlushed, Kept, Member, flushed_member, up_refusal}
-use Rattle.tenant.specs.Outcomes.{quiet}
+use Rattle.tenant.specs.Kept.{IsFlushed, TenantState, Member, flushed_member, up_refusal}
 use Rattle.tenant.specs.Stands.{Did, IsStanding, live_in}
 use Rattle.tenant.specs.Represents.{AreLast, IsCompact, IsMember}
 use Rattle.tenant.proofs.Follow.{Keeps, is_up, keeps, leaves, not_up}
@@ -53,7 +52,7 @@ same_list [] (y ∷ ys) e h = absurd (cc e)
 same_list (x ∷ xs) [] e h = absurd (cc e)
 same_list (x ∷ xs) (y ∷ ys) e h = let rest = same_list xs ys (omega (arith, e)) (λ j a b p q. h (suc j) a b p q) in λ i. h 0 x y refl refl i ∷ rest i
 
-module _ {S : Type 0} (M : Meaning S) (name : List ℕ) (t : Kept S) (w : World) (before : Logged) (s : IsStanding M name t w before.records) (u : ℕ) where
+module _ {S : Type 0} (M : Meaning S) (name : List ℕ) (t : TenantState S) (w : World) (before : Logged) (s : IsStanding M name t w before.records) (u : ℕ) where
   abbrev whole : List Record
   whole = s.whole
 
@@ -106,7 +105,7 @@ module _ {S : Type 0} (M : Meaning S) (name : List ℕ) (t : Kept S) (w : World)
 
   -- ---- one that is up
 
-  module _ (m : Member S) (found : slice_get t.members u ≡ Some m) (up : is_some m.recovering.progress ≡ true) (after : Logged) (v : Kept S) (said : Said)
+  module _ (m : Member S) (found : slice_get t.members u ≡ Some m) (up : is_some m.recovering.progress ≡ true) (after : Logged) (v : TenantState S) (said : Said)
       (logged : after.records ≡ before.records ++ map Some (take said.appended m.recovering.volatile)) (few : said.appended ≤ length m.recovering.volatile)
       (ended : (said.end ≡ Whole) ↔ (said.appended ≡ length m.recovering.volatile)) (some : said.end ≡ NoMemory → 0 < said.appended) (f : IsFlushed t u said.appended m v) where
     abbrev r : Recovering S

@@ -17,13 +17,13 @@ use Rattle.model.proofs.Places.{get_below}
 use Rattle.theory.proofs.ListLaws.{get_set, set_get_other}
 use Rattle.compact.specs.Compact.{Compact, Represents, Unit}
 use Rattle.compact.specs.Steps.{Done, at_unit_of, at_up_of, or_refused, with_unit_at}
-use Rattle.compact.specs.StepLaws.{Answers, Stands}
-use Rattle.tenant.specs.Kept.{Kept, Member, up_refusal}
+use Rattle.compact.specs.StepLaws.{Answers, StandsCompact}
+use Rattle.tenant.specs.Kept.{TenantState, Member, up_refusal}
 use Rattle.tenant.specs.Represents.{IsCompact, IsMember, Leaves}
 
 -- What the compact state answers, a tenant does, and it keeps a compact state that stands for the same world as the one left.
 pub leaves_on : {S : Type 0} (M : Meaning S) (name : List ℕ) (live : ℕ → List ℕ) (log : List Record) (outcome : Outcome) → ((z : World) → outcome.world ≡ Some z → Reachable M z) → (done given : Done S)
-    → Answers M name outcome done log → done ≡ given → (k : Compact S) → ((z : World) → Stands M name given.state z log → Represents M name k z log) → (t : Kept S) → IsCompact t live k → Leaves M name live outcome given.reply t log
+    → Answers M name outcome done log → done ≡ given → (k : Compact S) → ((z : World) → StandsCompact M name given.state z log → Represents M name k z log) → (t : TenantState S) → IsCompact t live k → Leaves M name live outcome given.reply t log
 leaves_on {S} M name live log outcome reach done given a same k goes t is =
     let z = a.after.0 in
     let there : outcome.world ≡ Some z = a.after.1 in
@@ -33,18 +33,18 @@ leaves_on {S} M name live log outcome reach done given a same k goes t is =
 
 -- or the very one
 pub leaves : {S : Type 0} (M : Meaning S) (name : List ℕ) (live : ℕ → List ℕ) (log : List Record) (outcome : Outcome) → ((z : World) → outcome.world ≡ Some z → Reachable M z) → (done given : Done S)
-    → Answers M name outcome done log → done ≡ given → (t : Kept S) → IsCompact t live given.state → Leaves M name live outcome given.reply t log
+    → Answers M name outcome done log → done ≡ given → (t : TenantState S) → IsCompact t live given.state → Leaves M name live outcome given.reply t log
 leaves M name live log outcome reach done given a same t is = leaves_on M name live log outcome reach done given a same given.state (λ z stands. stands.represents) t is
 
 -- ---- one unit
 
 -- the unit of the compact state that a member keeps
-pub record Keeps {S : Type 0} (t : Kept S) (live : ℕ → List ℕ) (k : Compact S) (u : ℕ) (m : Member S) : Type 0 where
+pub record Keeps {S : Type 0} (t : TenantState S) (live : ℕ → List ℕ) (k : Compact S) (u : ℕ) (m : Member S) : Type 0 where
   pub unit : Unit S
   pub at : slice_get k.units u ≡ Some unit
   pub is : IsMember t live u m unit
 
-module _ {S : Type 0} (t : Kept S) (live : ℕ → List ℕ) (k : Compact S) (is : IsCompact t live k) (u : ℕ) where
+module _ {S : Type 0} (t : TenantState S) (live : ℕ → List ℕ) (k : Compact S) (is : IsCompact t live k) (u : ℕ) where
   pub keeps : (m : Member S) → slice_get t.members u ≡ Some m → Keeps t live k u m
   keeps m e =
       let within = slice_get_within t.members u m e in

@@ -7,7 +7,7 @@ use Rattle.model.proofs.Places.{get_below}
 use Rattle.theory.proofs.ListLaws.{set_get_other, set_get_same}
 use Rattle.unit_steps.specs.Receipts.{IsFrontier, frontier_of}
 use Rattle.rollback.specs.Units.{stable_places}
-use Rattle.tenant.specs.Kept.{GoOn, IsFlushed, Kept, Member, flushed_member}
+use Rattle.tenant.specs.Kept.{GoOn, IsFlushed, TenantState, Member, flushed_member}
 
 module _ {S : Type 0} (table : List Row) (lengths : List ℕ) (members : List (Member S)) (old : List ℕ) where
   -- those before this place have gone on
@@ -39,7 +39,7 @@ module _ {S : Type 0} (table : List Row) (lengths : List ℕ) (members : List (M
     before_one rest u above = set_get_other fs i u front (λ e. omega (arith, above, e)) ∙ rest u (omega (arith, above))
 
 -- what a tenant is once a unit's intervals are stable and the frontiers have gone on
-module _ {S : Type 0} (v : Kept S) (u count at : ℕ) (same : at ≡ u) (m : Member S) (found : slice_get v.members u ≡ Some m) (members : List (Member S)) (lengths fronts : List ℕ)
+module _ {S : Type 0} (v : TenantState S) (u count at : ℕ) (same : at ≡ u) (m : Member S) (found : slice_get v.members u ≡ Some m) (members : List (Member S)) (lengths fronts : List ℕ)
     (moved : (m : Member S) → slice_get v.members at ≡ Some m → members ≡ slice_set v.members at (flushed_member m count))
     (longer : (m : Member S) → slice_get v.members at ≡ Some m → lengths ≡ slice_set v.stable_lengths at (stable_places (flushed_member m count).recovering))
     (long : length fronts ≡ length v.frontiers) where

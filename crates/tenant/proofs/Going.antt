@@ -9,7 +9,7 @@ use Rattle.model.specs.World.{incarnation_of}
 use Rattle.shared_log.specs.Logged.{Grows, Logged, OthersKept, places_of}
 use Rattle.compact.specs.Compact.{Progress}
 use Rattle.tenant.specs.declared.answer.Answer.{Answer}
-use Rattle.tenant.specs.Kept.{IsReplayed, Kept, Member, gone_back, live_count}
+use Rattle.tenant.specs.Kept.{IsReplayed, TenantState, Member, gone_back, live_count}
 use Rattle.tenant.specs.Outcomes.{IsPlain}
 use Rattle.tenant.specs.Returns.{Went}
 use Rattle.tenant.proofs.Places.{places_same}
@@ -21,7 +21,7 @@ module _ (name : List ℕ) (u : ℕ) (before mid after : Logged) (same : mid.rec
   pub others_on : OthersKept name u mid after → OthersKept name u before after
   others_on o n x other = o n x other ∙ places_same before mid same n x
 
-  module _ {S : Type 0} (M : Meaning S) (t : Kept S) (m q : Member S) (target : ℕ) (there : slice_get t.members u ≡ Some q) (found : slice_get t.members u ≡ Some m) (given : Reply) (a : Answer) (v : Kept S) (keep skipped : ℕ) (progress : Option (Progress S)) where
+  module _ {S : Type 0} (M : Meaning S) (t : TenantState S) (m q : Member S) (target : ℕ) (there : slice_get t.members u ≡ Some q) (found : slice_get t.members u ≡ Some m) (given : Reply) (a : Answer) (v : TenantState S) (keep skipped : ℕ) (progress : Option (Progress S)) where
     alike : q ≡ m
     alike = same_Some q m (sym there ∙ found)
 

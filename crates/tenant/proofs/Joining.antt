@@ -24,7 +24,7 @@ use Rattle.compact.specs.Steps.{first_unit, fitted_unit, join_kind_of, joined_st
 use Rattle.compact.proofs.Joins.{joins_follow}
 use Rattle.rollback.specs.Units.{IsKept, Recovering, widened_to}
 use Rattle.rollback_laws.proofs.Joins.{beginnings_are_seen, joins_are_seen}
-use Rattle.tenant.specs.Kept.{Kept, Member, begun_member, fitted_from, fitted_member, joined_kept, released_of}
+use Rattle.tenant.specs.Kept.{TenantState, Member, begun_member, fitted_from, fitted_member, joined_kept, released_of}
 use Rattle.tenant.specs.Represents.{IsCompact, IsMember, Leaves, StandsFor}
 use Rattle.tenant.proofs.Lasts.{last_none}
 use Rattle.tenant.proofs.Beginning.{kept_begun}
@@ -54,19 +54,19 @@ fitted_one {S} n members mid after at last sessions within made so_far fit =
     ∙ fit_one n members at m.0 last m.1
 
 -- one unit more, by what the calls give
-pub entered : {S : Type 0} (M : Meaning S) (t u : Kept S) (lines : List Line) (kind count unit home rows : ℕ) (first : Member S) (members : List (Member S)) (stables fronts : List ℕ) (released : List (List (List ℕ)))
+pub entered : {S : Type 0} (M : Meaning S) (t u : TenantState S) (lines : List Line) (kind count unit home rows : ℕ) (first : Member S) (members : List (Member S)) (stables fronts : List ℕ) (released : List (List (List ℕ)))
     → u ≡ t → u.released ≡ released_of lines → length t.released ≡ length t.members → count ≡ length t.members → unit ≡ count → home ≡ count + 1 → rows ≡ length u.table
     → first ≡ begun_member M (count + 1) (record { unit = unit; kind = kind; home = home }) rows
     → members ≡ fitted_from (count + 1) u.members 0 ++ first ∷ [] → stables ≡ u.stable_lengths ++ 1 ∷ [] → fronts ≡ u.frontiers ++ 1 ∷ [] → (length lines + 1 ≡ count + 1 → released ≡ released_of lines ++ [] ∷ [])
     → record u { members = members; stable_lengths = stables; frontiers = fronts; released = released } ≡ joined_kept M t kind
 entered {S} M t u lines kind count unit home rows first members stables fronts released same out long counted own wide known begun a b c d =
     let line : length lines + 1 ≡ count + 1 =
-    (let e : length lines ≡ length t.released = sym (length-map lines (λ l. l.texts)) ∙ ap length (sym out) ∙ ap (λ (v : Kept S). length v.released) same in omega (arith, e, long, counted)) in
-    let n : count ≡ length u.members = counted ∙ ap (λ (v : Kept S). length v.members) (sym same) in
+    (let e : length lines ≡ length t.released = sym (length-map lines (λ l. l.texts)) ∙ ap length (sym out) ∙ ap (λ (v : TenantState S). length v.released) same in omega (arith, e, long, counted)) in
+    let n : count ≡ length u.members = counted ∙ ap (λ (v : TenantState S). length v.members) (sym same) in
     let last : first ≡ begun_member M (length u.members + 1) (record { unit = length u.members; kind = kind; home = length u.members + 1 }) (length u.table) =
     begun ∙ (λ i. begun_member M (n i + 1) (record { unit = (own ∙ n) i; kind = kind; home = (wide ∙ ap (λ k. k + 1) n) i }) (known i)) in
     (λ i. record u { members = (a ∙ (λ j. fitted_from (n j + 1) u.members 0 ++ last j ∷ [])) i; stable_lengths = b i; frontiers = c i; released = (d line ∙ ap (λ xs. xs ++ [] ∷ []) (sym out)) i })
-    ∙ ap (λ (v : Kept S). joined_kept M v kind) same
+    ∙ ap (λ (v : TenantState S). joined_kept M v kind) same
 
 -- ---- what is kept
 
@@ -76,7 +76,7 @@ not_le a b h = grind (arith, nat_tests)
 kept_fitted : {S : Type 0} (r : Recovering S) (n : ℕ) → IsKept r → IsKept (widened_to r n)
 kept_fitted r n i = record { base = i.base; stable = i.stable; few = i.few; top = i.top; rises = i.rises; marks = i.marks; outside = i.outside }
 
-module _ {S : Type 0} (M : Meaning S) (name : List ℕ) (live : ℕ → List ℕ) (t : Kept S) (w : World) (log : List Record) (s : StandsFor M name live t w log) (n : List ℕ) where
+module _ {S : Type 0} (M : Meaning S) (name : List ℕ) (live : ℕ → List ℕ) (t : TenantState S) (w : World) (log : List Record) (s : StandsFor M name live t w log) (n : List ℕ) where
   abbrev k : Compact S
   k = s.0
 
@@ -102,7 +102,7 @@ module _ {S : Type 0} (M : Meaning S) (name : List ℕ) (live : ℕ → List ℕ
     abbrev width : ℕ
     width = length t.members + 1
 
-    abbrev after : Kept S
+    abbrev after : TenantState S
     after = joined_kept M t kind
 
     abbrev seat : Seat
@@ -197,11 +197,11 @@ module _ {S : Type 0} (M : Meaning S) (name : List ℕ) (live : ℕ → List ℕ
           letters = i.letters;
         }
 
-    pub join_done : length t.members < 16 → (unit : ℕ) → unit ≡ length t.members → (v : Kept S) → (length t.released ≡ length t.members → v ≡ joined_kept M t kind) → Leaves M name live (join M w n) (Joined unit) v log
+    pub join_done : length t.members < 16 → (unit : ℕ) → unit ≡ length t.members → (v : TenantState S) → (length t.released ≡ length t.members → v ≡ joined_kept M t kind) → Leaves M name live (join M w n) (Joined unit) v log
     join_done h unit e v is =
         let i = s.1 in
         let lines : length t.released ≡ length t.members = i.lines ∙ sym i.width in
         let number : length k.units ≡ unit = sym i.width ∙ sym e in
         leaves M name live log (join M w n) reach _ (record { reply = Joined unit; state = joined_state M k kind }) (joins_follow M name k w log s.2 n)
         (ap (join_kind_of M k) known ∙ fits (let width = i.width in omega (arith, h, width)) ∙ (λ j. record { reply = Joined (number j); state = joined_state M k kind }))
-        v (subst (λ (q : Kept S). IsCompact q live (joined_state M k kind)) (sym (is lines)) joined_is)
+        v (subst (λ (q : TenantState S). IsCompact q live (joined_state M k kind)) (sym (is lines)) joined_is)

@@ -19,11 +19,11 @@ use Rattle.model.proofs.Places.{get_below}
 use Rattle.theory.proofs.Certificate.{reachable_invariant}
 use Rattle.theory.proofs.ListLaws.{bool_cases, take_while_le}
 use Rattle.output_commit.specs.declared.held.Held.{Held}
-use Rattle.output_commit.specs.Holds.{below as held_below}
+use Rattle.output_commit.specs.Holds.{held_below}
 use Rattle.layer_laws.specs.Laws.{held_outputs}
 use Rattle.compact.specs.Compact.{Compact, Unit}
 use Rattle.compact.specs.Steps.{kill_of, killed_unit, places as all_of}
-use Rattle.compact.specs.StepLaws.{Stands}
+use Rattle.compact.specs.StepLaws.{StandsCompact}
 use Rattle.compact.proofs.Cuts.{cut_hold, cut_member}
 use Rattle.compact.proofs.Recovery.{kills_follow}
 use Rattle.compact.proofs.Tests.{places_are}
@@ -32,12 +32,12 @@ use Rattle.rollback.proofs.Keeping.{kept_killed}
 use Rattle.rollback_laws.proofs.Failures.{kills_are_seen}
 use Rattle.rollback_laws.proofs.Places.{places_are_seen}
 use Rattle.rollback_laws.proofs.Standing.{units_are_ready}
-use Rattle.tenant.specs.Kept.{Kept, Member, killed_member, outputs_to, up_refusal}
+use Rattle.tenant.specs.Kept.{TenantState, Member, killed_member, outputs_to, up_refusal}
 use Rattle.tenant.specs.Represents.{AreLast, IsMember, Leaves, StandsFor}
 use Rattle.tenant.proofs.Follow.{is_up, keeps, leaves, not_up, with_one}
 
 -- no output is of an interval that the path does not have
-pub whole_hold : {S : Type 0} (M : Meaning S) (name : List ℕ) (k : Compact S) (w : World) (log : List Record) → Stands M name k w log → (u : ℕ) (x : Unit S) → slice_get k.units u ≡ Some x → held_below x.hold (all_of x) ≡ x.hold
+pub whole_hold : {S : Type 0} (M : Meaning S) (name : List ℕ) (k : Compact S) (w : World) (log : List Record) → StandsCompact M name k w log → (u : ℕ) (x : Unit S) → slice_get k.units u ≡ Some x → held_below x.hold (all_of x) ≡ x.hold
 whole_hold M name k w log s u x at =
     let width = s.represents.width in
     let f = get_below w.members u (let a = slice_get_within k.units u x at in omega (arith, a, width)) in
@@ -63,7 +63,7 @@ hold_cut hold stable all whole h few = elim (bool_cases (nat_lt stable 429496729
     dec : (n : ℕ) → (nat_lt n 4294967296 ≡ true) ⊎ (4294967296 ≤ n)
     dec n = grind (arith, nat_tests)
 
-module _ {S : Type 0} (M : Meaning S) (name : List ℕ) (live : ℕ → List ℕ) (t : Kept S) (w : World) (log : List Record) (s : StandsFor M name live t w log) (u : ℕ) where
+module _ {S : Type 0} (M : Meaning S) (name : List ℕ) (live : ℕ → List ℕ) (t : TenantState S) (w : World) (log : List Record) (s : StandsFor M name live t w log) (u : ℕ) where
   abbrev k : Compact S
   k = s.0
 

@@ -29,7 +29,7 @@ use Rattle.compact.proofs.Tails.{before_frontier}
 use Rattle.rollback_laws.proofs.Places.{places_are_seen}
 use Rattle.compact.specs.Compact.{Content, IsContent, IsLetter, Letter}
 use Rattle.tenant.specs.Keeping.{IsKeeping, KeepsPast, Shelves, shelf_of, shelves_of}
-use Rattle.tenant.specs.Kept.{Kept, Member as MemberOf}
+use Rattle.tenant.specs.Kept.{TenantState, Member as MemberOf}
 use Rattle.tenant.specs.Outcomes.{done}
 use Rattle.tenant.specs.Represents.{StandsFor}
 use Rattle.tenant.specs.Stands.{IsStanding, live_in}
@@ -38,11 +38,11 @@ use Rattle.tenant.proofs.Standing.{opened}
 
 -- ---- closed, and opened for the proofs of this crate
 
-pub past_opened : {S : Type 0} {t : Kept S} {w : World} {shelves : List Shelf} → KeepsPast t w shelves → IsKeeping t w shelves
+pub past_opened : {S : Type 0} {t : TenantState S} {w : World} {shelves : List Shelf} → KeepsPast t w shelves → IsKeeping t w shelves
 unfolding KeepsPast
 past_opened k = k
 
-pub past_closed : {S : Type 0} {t : Kept S} {w : World} {shelves : List Shelf} → IsKeeping t w shelves → KeepsPast t w shelves
+pub past_closed : {S : Type 0} {t : TenantState S} {w : World} {shelves : List Shelf} → IsKeeping t w shelves → KeepsPast t w shelves
 unfolding KeepsPast
 past_closed k = k
 
@@ -118,7 +118,7 @@ module _ {S : Type 0} (M : Meaning S) (v w : World) (g : Invariant M v) (g' : In
 abbrev pub SameBases : (List Shelf → List Shelf) → Type 0
 SameBases change = (shelves : List Shelf) (u : ℕ) (s : Shelf) → slice_get (change shelves) u ≡ Some s → ((r : Shelf) × (slice_get shelves u ≡ Some r) × (r.base ≡ s.base)) ⊎ ((length shelves ≤ u) × (s.base ≡ 0))
 
-module _ {S : Type 0} (M : Meaning S) (name : List ℕ) (t v : Kept S) (w z : World) (records : List (Option Record)) (standing : IsStanding M name t w records) (step : TenantStep) (said : Said) (reply : Reply) (stepped_to : step_open M w step said ≡ done reply z)
+module _ {S : Type 0} (M : Meaning S) (name : List ℕ) (t v : TenantState S) (w z : World) (records : List (Option Record)) (standing : IsStanding M name t w records) (step : TenantStep) (said : Said) (reply : Reply) (stepped_to : step_open M w step said ≡ done reply z)
     (shelves : List Shelf) (keeping : IsKeeping t w shelves) (change : List Shelf → List Shelf) (bases : SameBases change) (made : Shelves change t v) where
   reached : Reachable M w
   reached = standing.stands.2.reached

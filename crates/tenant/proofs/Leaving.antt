@@ -7,25 +7,25 @@ use Rattle.std.proofs.lemmas.List.Sums.{take_while-cons}
 use Rattle.std.proofs.lemmas.Option.{same_Some}
 use Rattle.theory.proofs.ListLaws.{true_lt}
 use Rattle.output_commit.specs.declared.held.Held.{Held}
-use Rattle.output_commit.specs.Holds.{below, first_is_firm}
+use Rattle.output_commit.specs.Holds.{held_below, first_is_firm}
 use Rattle.tenant.specs.Kept.{AreMoved, firm_texts, unfirm}
 
 not_lt : (a b : ℕ) → b ≤ a → nat_lt a b ≡ false
 not_lt a b h = grind (arith, nat_tests)
 
 -- the first of them is firm
-below_one : (f : ℕ) (o : Held) (left : List Held) → nat_lt o.mark.index f ≡ true → below (o ∷ left) f ≡ o ∷ below left f
-below_one f o left e = take_while-cons (λ (h : Held). nat_lt h.mark.index f) o left ∙ ap (λ b. cond b (o ∷ below left f) []) e
+below_one : (f : ℕ) (o : Held) (left : List Held) → nat_lt o.mark.index f ≡ true → held_below (o ∷ left) f ≡ o ∷ held_below left f
+below_one f o left e = take_while-cons (λ (h : Held). nat_lt h.mark.index f) o left ∙ ap (λ b. cond b (o ∷ held_below left f) []) e
 
 -- or not
-below_none : (f : ℕ) (o : Held) (left : List Held) → nat_lt o.mark.index f ≡ false → below (o ∷ left) f ≡ []
-below_none f o left e = take_while-cons (λ (h : Held). nat_lt h.mark.index f) o left ∙ ap (λ b. cond b (o ∷ below left f) []) e
+below_none : (f : ℕ) (o : Held) (left : List Held) → nat_lt o.mark.index f ≡ false → held_below (o ∷ left) f ≡ []
+below_none f o left e = take_while-cons (λ (h : Held). nat_lt h.mark.index f) o left ∙ ap (λ b. cond b (o ∷ held_below left f) []) e
 
 -- the first one left
 pub moved_one : (f : ℕ) (outputs : List Held) (o : Held) (left : List Held) (texts more : List (List ℕ)) → outputs ≡ o ∷ left → first_is_firm f outputs ≡ true → more ≡ texts ++ o.text ∷ [] → AreMoved f outputs texts left more
 moved_one f outputs o left texts more is firm e =
     let first : nat_lt o.mark.index f ≡ true = ap (first_is_firm f) (sym is) ∙ firm in
-    let front : below outputs f ≡ o ∷ below left f = ap (λ os. below os f) is ∙ below_one f o left first in
+    let front : held_below outputs f ≡ o ∷ held_below left f = ap (λ os. held_below os f) is ∙ below_one f o left first in
     record {
       all = ap (λ ts. ts ++ firm_texts left f) e ∙ append_assoc texts (o.text ∷ []) (firm_texts left f) ∙ ap (λ os. texts ++ map (λ (h : Held). h.text) os) (sym front);
       rest = sym (λ i. drop (length (front i)) (is i));
@@ -35,7 +35,7 @@ moved_one f outputs o left texts more is firm e =
 pub moved_on : (f : ℕ) (a b c : List Held) (t u v : List (List ℕ)) → AreMoved f a t b u → AreMoved f b u c v → AreMoved f a t c v
 moved_on f a b c t u v m n = record { all = n.all ∙ m.all; rest = n.rest ∙ m.rest }
 
-none_below : (f : ℕ) (left : List Held) → first_is_firm f left ≡ false → below left f ≡ []
+none_below : (f : ℕ) (left : List Held) → first_is_firm f left ≡ false → held_below left f ≡ []
 none_below f [] e = refl
 none_below f (o ∷ left) e = below_none f o left e
 

@@ -3,23 +3,23 @@ use Rattle.std.proofs.Common.{◌≡◌, ◌≢◌, refl, sym, ◌∙◌, ap, �
 use Rattle.std.specs.Prelude.{Some, slice_get, slice_index, slice_set}
 use Rattle.std.proofs.lemmas.List.{nil_from_length}
 use Rattle.std.proofs.lemmas.Option.{get_or_from_slice_get, same_Some}
-use Rattle.output_commit.specs.Holds.{Line, texts_of}
+use Rattle.output_commit.specs.Holds.{Line, line_texts}
 use Rattle.tenant.specs.Kept.{Member, firm_of, firm_texts, released_member, released_of, with_firm_out}
 
 -- a unit that has a line has texts
-pub texts_there : (lines : List Line) (u : ℕ) → u < length lines → slice_get (released_of lines) u ≡ Some (texts_of lines u)
+pub texts_there : (lines : List Line) (u : ℕ) → u < length lines → slice_get (released_of lines) u ≡ Some (line_texts lines u)
 texts_there [] u h = absurd (omega (arith, h))
 texts_there (l ∷ lines) zero h = refl
 texts_there (l ∷ lines) (suc u) h = texts_there lines u (omega (arith, h))
 
 -- what is there is the unit's texts
-pub texts_are : (lines : List Line) (u : ℕ) (texts : List (List ℕ)) → slice_get (released_of lines) u ≡ Some texts → texts_of lines u ≡ texts
+pub texts_are : (lines : List Line) (u : ℕ) (texts : List (List ℕ)) → slice_get (released_of lines) u ≡ Some texts → line_texts lines u ≡ texts
 texts_are [] u texts e = absurd (cc e)
 texts_are (l ∷ lines) zero texts e = same_Some l.texts texts e
 texts_are (l ∷ lines) (suc u) texts e = texts_are lines u texts e
 
 -- the same texts of each unit
-pub same_texts : (lines others : List Line) → length lines ≡ length others → ((u : ℕ) → texts_of lines u ≡ texts_of others u) → released_of lines ≡ released_of others
+pub same_texts : (lines others : List Line) → length lines ≡ length others → ((u : ℕ) → line_texts lines u ≡ line_texts others u) → released_of lines ≡ released_of others
 same_texts [] [] h same = refl
 same_texts [] (l ∷ others) h same = absurd (omega (arith, h))
 same_texts (l ∷ lines) [] h same = absurd (omega (arith, h))
@@ -29,7 +29,7 @@ same_texts (l ∷ lines) (m ∷ others) h same =
     λ i. head i ∷ tail i
 
 -- other texts of one unit
-pub one_text : (lines others : List Line) (u : ℕ) (texts : List (List ℕ)) → length lines ≡ length others → u < length others → texts_of lines u ≡ texts → ((v : ℕ) → v ≢ u → texts_of lines v ≡ texts_of others v)
+pub one_text : (lines others : List Line) (u : ℕ) (texts : List (List ℕ)) → length lines ≡ length others → u < length others → line_texts lines u ≡ texts → ((v : ℕ) → v ≢ u → line_texts lines v ≡ line_texts others v)
     → released_of lines ≡ slice_set (released_of others) u texts
 one_text lines [] u texts h within is same = absurd (omega (arith, within))
 one_text [] (m ∷ others) u texts h within is same = absurd (omega (arith, h))
@@ -42,7 +42,7 @@ one_text (l ∷ lines) (m ∷ others) (suc u) texts h within is same =
     λ i. head i ∷ tail i
 
 -- and one line more, of which nothing was released
-pub one_line : (lines others : List Line) → length lines ≡ length others + 1 → ((u : ℕ) → texts_of lines u ≡ texts_of others u) → released_of lines ≡ released_of others ++ [] ∷ []
+pub one_line : (lines others : List Line) → length lines ≡ length others + 1 → ((u : ℕ) → line_texts lines u ≡ line_texts others u) → released_of lines ≡ released_of others ++ [] ∷ []
 one_line [] others h same = absurd (omega (arith, h))
 one_line (l ∷ lines) [] h same =
     let head : l.texts ≡ [] = same 0 in
@@ -65,19 +65,19 @@ member_out members u m q p frontiers frontier at a same own there new =
     (λ i. slice_set members (a i) (new i)) ∙ (λ i. slice_set members u (released_member (same i) (front i)))
 
 pub texts_out : {S : Type 0} (before mid after : List Line) (u : ℕ) (m q : Member S) (frontiers : List ℕ) (frontier : ℕ) (texts : List (List ℕ)) → q ≡ m → m.unit ≡ u → slice_get frontiers u ≡ Some frontier → slice_get (released_of before) u ≡ Some texts
-    → u < length before → length mid ≡ length before → ((v : ℕ) → texts_of mid v ≡ texts_of before v) → length after ≡ length mid
-    → texts_of after q.unit ≡ texts_of mid q.unit ++ firm_texts q.outputs (slice_index frontiers q.unit) → ((v : ℕ) → v ≢ q.unit → texts_of after v ≡ texts_of mid v)
+    → u < length before → length mid ≡ length before → ((v : ℕ) → line_texts mid v ≡ line_texts before v) → length after ≡ length mid
+    → line_texts after q.unit ≡ line_texts mid q.unit ++ firm_texts q.outputs (slice_index frontiers q.unit) → ((v : ℕ) → v ≢ q.unit → line_texts after v ≡ line_texts mid v)
     → released_of after ≡ firm_of (released_of before) u m frontier texts
 texts_out before mid after u m q frontiers frontier texts same own there was within a b c new others =
     let unit : q.unit ≡ u = ap (λ (n : Member _). n.unit) same ∙ own in
     let front = front_is frontiers u q.unit frontier unit there in
-    let had : texts_of mid q.unit ≡ texts = ap (texts_of mid) unit ∙ b u ∙ texts_are before u texts was in
+    let had : line_texts mid q.unit ≡ texts = ap (line_texts mid) unit ∙ b u ∙ texts_are before u texts was in
     one_text after before u (texts ++ firm_texts m.outputs frontier) (c ∙ a) within
-    (ap (texts_of after) (sym unit) ∙ new ∙ (λ i. had i ++ firm_texts (same i).outputs (front i)))
+    (ap (line_texts after) (sym unit) ∙ new ∙ (λ i. had i ++ firm_texts (same i).outputs (front i)))
     (λ v d. others v (λ e. d (e ∙ unit)) ∙ b v)
 
 -- nothing was released
-pub none_out : (lines : List Line) (n : ℕ) → length lines ≡ n → ((u : ℕ) → texts_of lines u ≡ []) → released_of lines ≡ replicate n []
+pub none_out : (lines : List Line) (n : ℕ) → length lines ≡ n → ((u : ℕ) → line_texts lines u ≡ []) → released_of lines ≡ replicate n []
 none_out [] zero e none = refl
 none_out [] (suc n) e none = absurd (omega (arith, e))
 none_out (l ∷ lines) zero e none = absurd (omega (arith, e))

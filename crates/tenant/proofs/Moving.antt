@@ -21,7 +21,7 @@ use Rattle.checkpoint.specs.Shelves.{Shelved, based_at, has_index, is_at, later_
 use Rattle.compact.specs.Compact.{Compact, Interval, Letter, Represents, Snapshot, Unit}
 use Rattle.compact.specs.Forgetting.{rebased}
 use Rattle.compact.specs.Steps.{with_unit_at}
-use Rattle.compact.specs.StepLaws.{Stands as StandsCompact}
+use Rattle.compact.specs.StepLaws.{StandsCompact}
 use Rattle.compact.proofs.Flushes.{logs_may_grow}
 use Rattle.compact.proofs.Forgetting.{bases_move, contents_go}
 use Rattle.rollback.specs.Units.{IsKept, Recovering, based_on, forgotten, places}
@@ -33,15 +33,15 @@ use Rattle.rollback_laws.proofs.Standing.{units_are_ready}
 use Rattle.shared_log.specs.Logged.{Grows, IsLeftOf, Logged, places_of}
 use Rattle.shared_log.proofs.LeftLaws.{same_grows}
 use Rattle.tenant.specs.Bases.{IsBeside, LetsGo, emptied_all, emptied_at, emptied_by, given_up, moved_kept, next_base, passed, rebased_member}
-use Rattle.tenant.specs.Kept.{Kept, Member}
+use Rattle.tenant.specs.Kept.{TenantState, Member}
 use Rattle.tenant.specs.Represents.{AreLast, IsCompact, IsMember}
 use Rattle.tenant.specs.Stands.{Did, IsStanding, Stands, live_in}
 use Rattle.tenant.proofs.Follow.{Keeps, keeps}
 use Rattle.tenant.proofs.Lasts.{last_fits}
 use Rattle.tenant.proofs.Logging.{take_one}
 use Rattle.tenant.proofs.Others.{stands_beside}
-use Rattle.tenant.proofs.Places.{places_are}
 use Rattle.tenant.proofs.Standing.{closed}
+use Rattle.shared_log.proofs.PlacesLaws.{places_are}
 
 -- ---- the nearest snapshot
 
@@ -119,7 +119,7 @@ last_dropped own live n h =
 
 -- ---- one unit
 
-module _ {S : Type 0} (M : Meaning S) (name : List ℕ) (t : Kept S) (w : World) (before after : Logged) (s : IsStanding M name t w before.records) (u : ℕ) (m : Member S) (found : slice_get t.members u ≡ Some m)
+module _ {S : Type 0} (M : Meaning S) (name : List ℕ) (t : TenantState S) (w : World) (before after : Logged) (s : IsStanding M name t w before.records) (u : ℕ) (m : Member S) (found : slice_get t.members u ≡ Some m)
     (f : ℕ) (front : slice_get t.frontiers u ≡ Some f) where
   abbrev whole : List Record
   whole = s.whole
@@ -181,7 +181,7 @@ module _ {S : Type 0} (M : Meaning S) (name : List ℕ) (t : Kept S) (w : World)
 
   -- ---- the log
 
-  module _ (v : Kept S) (count : ℕ) (go : LetsGo name m.unit count before after) where
+  module _ (v : TenantState S) (count : ℕ) (go : LetsGo name m.unit count before after) where
     live_own : live_in name after.records u ≡ drop count (live u)
     live_own =
         sym (places_are after name u)
@@ -212,7 +212,7 @@ module _ {S : Type 0} (M : Meaning S) (name : List ℕ) (t : Kept S) (w : World)
     abbrev q : Member S
     q = rebased_member m base
 
-    abbrev v : Kept S
+    abbrev v : TenantState S
     v = moved_kept t u m (Some base)
 
     abbrev emptier : Compact S
@@ -301,8 +301,8 @@ module _ {S : Type 0} (M : Meaning S) (name : List ℕ) (t : Kept S) (w : World)
   -- ---- it stays
 
   -- what the tenant stands for stays where nothing of it goes
-  stays : (v : Kept S) → v ≡ t → LetsGo name m.unit 0 before after → Stands M name v w after.records
-  stays v same go = subst (λ (z : Kept S). Stands M name z w after.records) (sym same) (stands_beside M name t w before.records after.records [] go.grows live_same (closed s))
+  stays : (v : TenantState S) → v ≡ t → LetsGo name m.unit 0 before after → Stands M name v w after.records
+  stays v same go = subst (λ (z : TenantState S). Stands M name z w after.records) (sym same) (stands_beside M name t w before.records after.records [] go.grows live_same (closed s))
     where
       live_same : (a : ℕ) → live_in name after.records a ≡ live a
       live_same a = elim (bool_cases (a == u)) [
@@ -329,8 +329,8 @@ module _ {S : Type 0} (M : Meaning S) (name : List ℕ) (t : Kept S) (w : World)
       ]
 
   -- it does where a unit's base moves on as far as it is firm
-  pub moved_stands : (v : Kept S) → v ≡ moved_kept t u m (next_base r f) → LetsGo name m.unit (given_up r (next_base r f)) before after → Stands M name v w after.records
-  moved_stands v is_moved go = subst (λ (z : Kept S). Stands M name z w after.records) (sym is_moved) (moved_by (next_base r f) refl go)
+  pub moved_stands : (v : TenantState S) → v ≡ moved_kept t u m (next_base r f) → LetsGo name m.unit (given_up r (next_base r f)) before after → Stands M name v w after.records
+  moved_stands v is_moved go = subst (λ (z : TenantState S). Stands M name z w after.records) (sym is_moved) (moved_by (next_base r f) refl go)
 
 -- ---- beside it
 
@@ -356,12 +356,12 @@ lets_beside name u count before after go = record {
 }
 
 -- what another tenant stands for stays
-pub beside_stands : {S : Type 0} (M : Meaning S) (name other : List ℕ) (t : Kept S) (w : World) (before after : Logged) → IsBeside name before after → bytes_eq other name ≡ false → Stands M other t w before.records → Stands M other t w after.records
+pub beside_stands : {S : Type 0} (M : Meaning S) (name other : List ℕ) (t : TenantState S) (w : World) (before after : Logged) → IsBeside name before after → bytes_eq other name ≡ false → Stands M other t w before.records → Stands M other t w after.records
 beside_stands M name other t w before after b differs s =
     stands_beside M other t w before.records after.records [] b.grows (λ u. sym (places_are after other u) ∙ b.others other u differs ∙ places_are before other u) s
 
 -- a step was done, and then what it left goes on to something that stands for the same world
-pub did_then : {S : Type 0} (M : Meaning S) (name : List ℕ) (w : World) (k v : Kept S) (step : TenantStep) (said : Said) (answer : Reply) (before mid after : Logged) → Did M name w k step said answer before mid
+pub did_then : {S : Type 0} (M : Meaning S) (name : List ℕ) (w : World) (k v : TenantState S) (step : TenantStep) (said : Said) (answer : Reply) (before mid after : Logged) → Did M name w k step said answer before mid
     → ((z : World) → Stands M name k z mid.records → Stands M name v z after.records) → IsBeside name mid after → Did M name w v step said answer before after
 did_then M name w k v step said answer before mid after d stands b = record {
   steps = (d.steps.0, d.steps.1, stands d.steps.0 d.steps.2);

@@ -9,7 +9,7 @@ use Rattle.model.specs.Handler.{Meaning}
 use Rattle.model.specs.Steps.{Outcome, open_new}
 use Rattle.model.specs.World.{World}
 use Rattle.shared_log.specs.Logged.{IsLeftOf}
-use Rattle.tenant.specs.Kept.{Kept}
+use Rattle.tenant.specs.Kept.{TenantState}
 use Rattle.tenant.specs.Represents.{Leaves, OpensAs, StandsFor}
 use Rattle.tenant.specs.Stands.{IsOpened, Stands, live_in}
 use Rattle.tenant.proofs.Standing.{closed}
@@ -35,7 +35,7 @@ module _ {S : Type 0} (M : Meaning S) (kinds : List (List ℕ)) (quota : Quota) 
   same_world : (outcome : Outcome) (y z : World) → outcome ≡ record { reply = reply; world = Some y } → outcome ≡ record { reply = reply; world = Some z } → y ≡ z
   same_world outcome y z e f = let h : Some y ≡ Some z = sym (ap (λ (o : Outcome). o.world) e) ∙ ap (λ (o : Outcome). o.world) f in cc h
 
-  pub opened_is : (t : Option (Kept S)) → OpensAs M kinds quota optimism reply t → IsOpened M kinds quota optimism reply t
+  pub opened_is : (t : Option (TenantState S)) → OpensAs M kinds quota optimism reply t → IsOpened M kinds quota optimism reply t
   opened_is None e = (None, e, λ name records. tt)
   opened_is (Some t) h = (Some first.0, first.1, stands)
     where
@@ -52,6 +52,6 @@ module _ {S : Type 0} (M : Meaning S) (kinds : List (List ℕ)) (quota : Quota) 
           })
 
 -- the same, by what the calls give
-pub opened_so : {S : Type 0} (M : Meaning S) (kinds : List (List ℕ)) (quota : Quota) (optimism : ℕ) (reply other : Reply) (t : Option (Kept S))
+pub opened_so : {S : Type 0} (M : Meaning S) (kinds : List (List ℕ)) (quota : Quota) (optimism : ℕ) (reply other : Reply) (t : Option (TenantState S))
     → other ≡ reply → OpensAs M kinds quota optimism reply t → IsOpened M kinds quota optimism other t
 opened_so M kinds quota optimism reply other t e h = subst (λ r. IsOpened M kinds quota optimism r t) (sym e) (opened_is M kinds quota optimism reply t h)

@@ -11,15 +11,16 @@ use Rattle.theory.proofs.ListLaws.{get_take}
 use Rattle.shared_log.specs.Logged.{Grows, Logged, OthersKept, places_from}
 use Rattle.shared_log.proofs.LeftLaws.{appended_grows, same_grows}
 use Rattle.compact.proofs.Flushes.{logs_may_grow}
-use Rattle.tenant.specs.Kept.{Kept}
+use Rattle.tenant.specs.Kept.{TenantState}
 use Rattle.tenant.specs.Stands.{Stands, live_in}
 use Rattle.tenant.specs.Represents.{IsCompact}
 use Rattle.tenant.proofs.Logging.{AreOf}
-use Rattle.tenant.proofs.Places.{other_places, owns_not, places_are, places_behind, places_same}
+use Rattle.tenant.proofs.Places.{other_places, owns_not, places_behind, places_same}
 use Rattle.tenant.proofs.Standing.{closed, opened}
+use Rattle.shared_log.proofs.PlacesLaws.{places_are}
 
 -- Its records are live as they were.
-pub stands_beside : {S : Type 0} (M : Meaning S) (name : List ℕ) (t : Kept S) (w : World) (before after : List (Option Record)) (grown : List Record) → Grows before grown after
+pub stands_beside : {S : Type 0} (M : Meaning S) (name : List ℕ) (t : TenantState S) (w : World) (before after : List (Option Record)) (grown : List Record) → Grows before grown after
     → ((u : ℕ) → live_in name after u ≡ live_in name before u) → Stands M name t w before → Stands M name t w after
 stands_beside M name t w before after grown grows same given =
     let s = opened given in
@@ -34,7 +35,7 @@ stands_beside M name t w before after grown grows same given =
     })
 
 -- Records of one tenant are live of no other.
-pub appended_beside : {S : Type 0} (M : Meaning S) (name other : List ℕ) (t : Kept S) (w : World) (before after : List (Option Record)) (records : List Record) (n : ℕ) → after ≡ before ++ map Some (take n records)
+pub appended_beside : {S : Type 0} (M : Meaning S) (name other : List ℕ) (t : TenantState S) (w : World) (before after : List (Option Record)) (records : List Record) (n : ℕ) → after ≡ before ++ map Some (take n records)
     → AreOf name records n → bytes_eq other name ≡ false → Stands M other t w before → Stands M other t w after
 appended_beside M name other t w before after records n logged of_name differs s = stands_beside M other t w before after (take n records) (appended_grows before after (take n records) logged) same s
   where
@@ -55,7 +56,7 @@ appended_beside M name other t w before after records n logged of_name differs s
         ∙ append-nil (places_from other u 0 before)
 
 -- A unit's records that go are of no other tenant.
-pub returned_beside : {S : Type 0} (M : Meaning S) (name other : List ℕ) (u : ℕ) (t : Kept S) (w : World) (before after : Logged) → Grows before.records [] after.records × OthersKept name u before after → bytes_eq other name ≡ false
+pub returned_beside : {S : Type 0} (M : Meaning S) (name other : List ℕ) (u : ℕ) (t : TenantState S) (w : World) (before after : Logged) → Grows before.records [] after.records × OthersKept name u before after → bytes_eq other name ≡ false
     → Stands M other t w before.records → Stands M other t w after.records
 returned_beside M name other u t w before after kept differs s =
     stands_beside M other t w before.records after.records [] kept.0

@@ -6,6 +6,7 @@ use Rattle.std.proofs.lemmas.Bool.Decides.{Decides-eqb}
 use Rattle.model.specs.declared.records.Record.{Record}
 use Rattle.model.specs.Lists.{numbers_from}
 use Rattle.shared_log.specs.Logged.{IsLeftOf, Logged, is_of, is_owner, owner_of, places_from, places_of}
+use Rattle.shared_log.proofs.PlacesLaws.{places_are}
 
 -- the places of two lists, one behind the other
 pub places_behind : (name : List ℕ) (u p : ℕ) (xs ys : List (Option Record)) → places_from name u p (xs ++ ys) ≡ places_from name u p xs ++ places_from name u (p + length xs) ys
@@ -57,11 +58,6 @@ left_length [] (w ∷ whole) h = absurd h
 left_length (x ∷ records) [] h = absurd h
 left_length (None ∷ records) (w ∷ whole) h = ap suc (left_length records whole h)
 left_length (Some x ∷ records) (w ∷ whole) h = ap suc (left_length records whole h.1)
-
--- the places of a log are those of its list
-pub places_are : (log : Logged) (name : List ℕ) (u : ℕ) → places_of name u log ≡ places_from name u 0 log.records
-unfolding places_of
-places_are log name u = refl
 
 -- and are told by its list
 pub places_same : (before after : Logged) → after.records ≡ before.records → (name : List ℕ) (u : ℕ) → places_of name u after ≡ places_of name u before

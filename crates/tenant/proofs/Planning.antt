@@ -13,13 +13,13 @@ use Rattle.compact.specs.Compact.{Letter, Progress}
 use Rattle.compact.specs.Steps.{Receipt}
 use Rattle.rollback.specs.Units.{asking}
 use Rattle.tenant.specs.declared.receipts.Plan.{Plan}
-use Rattle.tenant.specs.Kept.{IsAsking, IsNext, Kept, Member, next_vector_of}
+use Rattle.tenant.specs.Kept.{IsAsking, IsNext, TenantState, Member, next_vector_of}
 use Rattle.tenant.specs.Outcomes.{IsPlain}
 use Rattle.tenant.specs.Plans.{IsPlan, IsPlanned}
 use Rattle.tenant.proofs.Asking.{asked_up}
 use Rattle.tenant.proofs.Keeping.{letters_whole}
 
-module _ {S : Type 0} (name : List ℕ) (t : Kept S) (u : ℕ) (m : Member S) (q : Receipt) (turn : Turn S) (plan : Plan) (planned : IsPlanned name t u m q turn (Ok plan))
+module _ {S : Type 0} (name : List ℕ) (t : TenantState S) (u : ℕ) (m : Member S) (q : Receipt) (turn : Turn S) (plan : Plan) (planned : IsPlanned name t u m q turn (Ok plan))
     (refusal : Option Refusal) (source : Source) (text : List ℕ) (input : Input S) (is : IsAsking refusal m.recovering source text input) where
   up : (p : Progress S) × (m.recovering.progress ≡ Some p)
   up = let a = asked_up m.recovering source text input is.asked in (a.0, a.1)

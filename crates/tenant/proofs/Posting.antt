@@ -16,7 +16,7 @@ use Rattle.model.specs.Steps.{accepted, first_refusal, post, post_to, turn_tests
 use Rattle.model.specs.Alone.{Reachable}
 use Rattle.model.specs.Alone.Reachable.{stepped}
 use Rattle.model.proofs.Places.{at_unit_found}
-use Rattle.handler.specs.Inputs.{Input, turn_of}
+use Rattle.handler.specs.Inputs.{Input, turn_upon_input}
 use Rattle.compact.specs.Compact.{Compact, Progress}
 use Rattle.compact.specs.Steps.{Done, Receipt, accepted_of, at_unit_of, or_next, or_refused, post_front, post_of, post_refusal, posted, receiving_state}
 use Rattle.compact.proofs.Receipts.{posts_follow}
@@ -24,7 +24,7 @@ use Rattle.compact.proofs.Tests.{posts_are_tested}
 use Rattle.rollback.specs.Units.{asking}
 use Rattle.unit_steps.specs.Receipts.{arrival_refusal, post_refused}
 use Rattle.unit_steps.proofs.Seen.{posts_are_refused}
-use Rattle.tenant.specs.Kept.{IsAsking, Kept, Member, next_letters_of, next_record_of, next_reply_of, received_kept, turn_refusal_of}
+use Rattle.tenant.specs.Kept.{IsAsking, TenantState, Member, next_letters_of, next_record_of, next_reply_of, received_kept, turn_refusal_of}
 use Rattle.tenant.specs.Needs.{IsAsked, input_unless, post_needs, post_to_needs}
 use Rattle.tenant.specs.declared.receipts.Plan.{Plan}
 use Rattle.tenant.specs.Plans.{IsPlanned}
@@ -33,7 +33,7 @@ use Rattle.tenant.proofs.Asking.{Shown, asked_up, input_is, none_shown, refused_
 use Rattle.tenant.proofs.Follow.{Keeps, keeps, leaves}
 use Rattle.tenant.proofs.Receiving.{received_is, reply_is, turn_refusal_is}
 
-module _ {S : Type 0} (M : Meaning S) (name : List ℕ) (live : ℕ → List ℕ) (t : Kept S) (w : World) (log : List Record) (s : StandsFor M name live t w log) (u number : ℕ) (text : List ℕ) where
+module _ {S : Type 0} (M : Meaning S) (name : List ℕ) (live : ℕ → List ℕ) (t : TenantState S) (w : World) (log : List Record) (s : StandsFor M name live t w log) (u number : ℕ) (text : List ℕ) where
   abbrev k : Compact S
   k = s.0
 
@@ -84,17 +84,17 @@ module _ {S : Type 0} (M : Meaning S) (name : List ℕ) (live : ℕ → List ℕ
     -- ---- upon the turn
 
     module _ (input : Input S) (is : IsAsking (post_refused t.quota.volatile m.recovering number text) m.recovering Outside text input) where
-      turned : (o : Option Refusal) → turn_refusal_of t m (turn_of M input) ≡ o → at_unit_of k (post_of M name k u number text) (slice_get k.units u) ≡ or_refused k (accepted_of M name k u (posted number text) x.unit) o
+      turned : (o : Option Refusal) → turn_refusal_of t m (turn_upon_input M input) ≡ o → at_unit_of k (post_of M name k u number text) (slice_get k.units u) ≡ or_refused k (accepted_of M name k u (posted number text) x.unit) o
       turned o e =
           let after = turn_refusal_is M name live t w log s u m x (posted number text) input is.asked ∙ e in
           ap (at_unit_of k (post_of M name k u number text)) x.at
           ∙ (λ i. or_refused k (accepted_of M name k u (posted number text) x.unit) (or_next ((refusal_of ∙ is.passes) i) (after i)))
 
-      pub post_refused_then : (r : Refusal) → turn_refusal_of t m (turn_of M input) ≡ Some r → Leaves M name live (post M w u number text) (Refused r) t log
+      pub post_refused_then : (r : Refusal) → turn_refusal_of t m (turn_upon_input M input) ≡ Some r → Leaves M name live (post M w u number text) (Refused r) t log
       post_refused_then r e = leaves M name live log (post M w u number text) reach _ (record { reply = Refused r; state = k }) (posts_follow M name k w log s.2 u number text) (turned (Some r) e) t s.1
 
-      pub post_done : turn_refusal_of t m (turn_of M input) ≡ None → (p : Progress S) → m.recovering.progress ≡ Some p → (reply : Reply) → reply ≡ next_reply_of t u m (turn_of M input)
-          → (v : Kept S) → v ≡ received_kept M t u m (next_record_of name t u m (posted number text)) (turn_of M input).outputs (next_letters_of t u m (posted number text) (turn_of M input) p.sessions)
+      pub post_done : turn_refusal_of t m (turn_upon_input M input) ≡ None → (p : Progress S) → m.recovering.progress ≡ Some p → (reply : Reply) → reply ≡ next_reply_of t u m (turn_upon_input M input)
+          → (v : TenantState S) → v ≡ received_kept M t u m (next_record_of name t u m (posted number text)) (turn_upon_input M input).outputs (next_letters_of t u m (posted number text) (turn_upon_input M input) p.sessions)
           → Leaves M name live (post M w u number text) reply v log
       post_done none p up reply answer v new =
           let q = posted number text in
@@ -103,11 +103,11 @@ module _ {S : Type 0} (M : Meaning S) (name : List ℕ) (live : ℕ → List ℕ
           let given : Done S = record { reply = reply; state = receiving_state M name k u q x.unit } in
           leaves M name live log (post M w u number text) reach _ given (posts_follow M name k w log s.2 u number text)
           (turned None none ∙ (λ i. record { reply = (told ∙ sym answer) i; state = receiving_state M name k u q x.unit }))
-          v (subst (λ (v : Kept S). IsCompact v live (receiving_state M name k u q x.unit)) (sym new) kept)
+          v (subst (λ (v : TenantState S). IsCompact v live (receiving_state M name k u q x.unit)) (sym new) kept)
 
       -- so it is of what was planned
-      pub post_planned : (turn : Turn S) → turn ≡ turn_of M input → (q : Receipt) → q ≡ posted number text → (plan : Plan) → IsPlanned name t u m q turn (Ok plan) → (reply : Reply) → reply ≡ plan.answer.reply
-          → (v : Kept S) → v ≡ received_kept M t u m plan.logged plan.outputs.items plan.made.items → Leaves M name live (post M w u number text) reply v log
+      pub post_planned : (turn : Turn S) → turn ≡ turn_upon_input M input → (q : Receipt) → q ≡ posted number text → (plan : Plan) → IsPlanned name t u m q turn (Ok plan) → (reply : Reply) → reply ≡ plan.answer.reply
+          → (v : TenantState S) → v ≡ received_kept M t u m plan.logged plan.outputs.items plan.made.items → Leaves M name live (post M w u number text) reply v log
       post_planned turn e q same plan planned reply told v new =
           let p = asked_up m.recovering Outside text input is.asked in
           let made = planned.1 p.0 p.1 in

@@ -12,7 +12,7 @@ use Rattle.model.specs.World.{World, Member as InWorld}
 use Rattle.model.proofs.Places.{get_below}
 use Rattle.compact.specs.Compact.{IsUnit, Unit}
 use Rattle.compact.proofs.Words.{maps_same}
-use Rattle.tenant.specs.Kept.{Kept, Member}
+use Rattle.tenant.specs.Kept.{TenantState, Member}
 use Rattle.tenant.specs.Reads.{opening_count, opening_of, seats_of}
 use Rattle.tenant.specs.Represents.{IsMember, StandsFor}
 use Rattle.tenant.specs.Stands.{released_in}
@@ -35,7 +35,7 @@ more_seats {S} members i m before after seat within at so_far is made =
     ∙ ap (λ ms. before ++ seats_of ms) (sym next)
     ∙ so_far
 
-module _ {S : Type 0} (M : Meaning S) (name : List ℕ) (live : ℕ → List ℕ) (t : Kept S) (w : World) (log : List Record) (s : StandsFor M name live t w log) where
+module _ {S : Type 0} (M : Meaning S) (name : List ℕ) (live : ℕ → List ℕ) (t : TenantState S) (w : World) (log : List Record) (s : StandsFor M name live t w log) where
   -- the unit of the tenant, and that of the compact state, which stand for a member of the world
   pub record StandsAt (u : ℕ) (m : InWorld) : Type 0 where
     pub member : Member S

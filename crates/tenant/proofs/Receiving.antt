@@ -12,7 +12,7 @@ use Rattle.model.specs.Nodes.{sends_within}
 use Rattle.model.specs.Steps.{first_refusal}
 use Rattle.model.specs.World.{World}
 use Rattle.model.proofs.Places.{numbers_first}
-use Rattle.handler.specs.Inputs.{Input, turn_of}
+use Rattle.handler.specs.Inputs.{Input, turn_upon_input}
 use Rattle.session.specs.Counts.{Counts, advanced, sent_one}
 use Rattle.output_commit.specs.Holds.{held_of}
 use Rattle.compact.specs.Compact.{Compact, Letter, Progress}
@@ -24,7 +24,7 @@ use Rattle.rollback_laws.proofs.Receipts.{receipts_are_seen, turns_are_seen}
 use Rattle.unit_steps.specs.Laws.{AreMade}
 use Rattle.unit_steps.specs.Receipts.{mark_upon, turn_refused, vector_upon}
 use Rattle.unit_steps.proofs.Seen.{vectors_are_made}
-use Rattle.tenant.specs.Kept.{Kept, Member, next_letters_of, next_mark_of, next_record_of, next_reply_of, next_vector_of, received_kept, received_member, turn_refusal_of}
+use Rattle.tenant.specs.Kept.{TenantState, Member, next_letters_of, next_mark_of, next_record_of, next_reply_of, next_vector_of, received_kept, received_member, turn_refusal_of}
 use Rattle.tenant.specs.Represents.{IsCompact, IsMember, StandsFor}
 use Rattle.tenant.proofs.Follow.{Keeps, with_one}
 
@@ -39,15 +39,10 @@ numbers_step k n i all more h e f =
     let c : 0 < n - i = omega arith in
     rw (f, a, b, append_assoc) (rw (numbers_first (k + i) (n - i) c) at e)
 
--- a letter for each send
-pub count_letters : (u : ℕ) (vector : List Mark) (c : Counts) (sends : List (ℕ × List ℕ)) → length (letters_by u vector c sends) ≡ length sends
-count_letters u vector c [] = refl
-count_letters u vector c (s ∷ sends) = ap suc (count_letters u vector (sent_one c s.0) sends)
-
 -- ---- more letters
 
 -- the same letters on both sides
-pub with_letters : {S : Type 0} (t : Kept S) (live : ℕ → List ℕ) (k : Compact S) → IsCompact t live k → (letters others : List Letter) → others ≡ letters → IsCompact (record t { letters = letters }) live (record k { letters = others })
+pub with_letters : {S : Type 0} (t : TenantState S) (live : ℕ → List ℕ) (k : Compact S) → IsCompact t live k → (letters others : List Letter) → others ≡ letters → IsCompact (record t { letters = letters }) live (record k { letters = others })
 with_letters t live k is letters others same = record {
   quota = is.quota;
   optimism = is.optimism;
@@ -60,13 +55,13 @@ with_letters t live k is letters others same = record {
   letters = same;
 }
 
-module _ {S : Type 0} (M : Meaning S) (name : List ℕ) (live : ℕ → List ℕ) (t : Kept S) (w : World) (log : List Record) (s : StandsFor M name live t w log) (u : ℕ)
+module _ {S : Type 0} (M : Meaning S) (name : List ℕ) (live : ℕ → List ℕ) (t : TenantState S) (w : World) (log : List Record) (s : StandsFor M name live t w log) (u : ℕ)
     (m : Member S) (x : Keeps t live s.0 u m) (q : Receipt) (input : Input S) (asked : asking m.recovering q.source q.text ≡ Some input) where
   abbrev k : Compact S
   k = s.0
 
   abbrev turn : Turn S
-  turn = turn_of M input
+  turn = turn_upon_input M input
 
   turn_is : turn_of_receipt M x.unit q ≡ turn
   turn_is = sym (turns_are_seen M m.recovering x.unit x.is.seen q input asked)

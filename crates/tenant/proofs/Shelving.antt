@@ -18,7 +18,7 @@ use Rattle.model.specs.Alone.Reachable.{stepped}
 use Rattle.theory.proofs.ListLaws.{set_get_same, true_lt}
 use Rattle.compact.specs.Compact.{Compact, Represents, Unit}
 use Rattle.compact.specs.Steps.{Done, checkpoint_of, last_mark, or_refused, places as all_of, shelved_unit, with_unit_at}
-use Rattle.compact.specs.StepLaws.{Stands}
+use Rattle.compact.specs.StepLaws.{StandsCompact}
 use Rattle.compact.proofs.Checkpoints.{checkpoints_follow}
 use Rattle.compact.proofs.Forgetting.{snapshots_go}
 use Rattle.rollback.specs.Units.{IsKept, checkpointed, places}
@@ -26,7 +26,7 @@ use Rattle.rollback.proofs.Keeping.{kept_shelved}
 use Rattle.rollback_laws.specs.Seen.{IsSeen}
 use Rattle.rollback_laws.proofs.Checkpoints.{checkpoints_are_seen}
 use Rattle.rollback_laws.proofs.Places.{places_are_seen}
-use Rattle.tenant.specs.Kept.{Kept, Member, checkpointed_member, up_refusal}
+use Rattle.tenant.specs.Kept.{TenantState, Member, checkpointed_member, up_refusal}
 use Rattle.tenant.specs.Represents.{IsMember, Leaves, StandsFor}
 use Rattle.tenant.proofs.Follow.{is_up, keeps, leaves, leaves_on, not_up, with_one}
 
@@ -54,7 +54,7 @@ unfolding first_refusal
 fails k done r true e = refl
 fails k done r false e = absurd (cc e)
 
-module _ {S : Type 0} (M : Meaning S) (name : List ℕ) (live : ℕ → List ℕ) (t : Kept S) (w : World) (log : List Record) (s : StandsFor M name live t w log) (u : ℕ) where
+module _ {S : Type 0} (M : Meaning S) (name : List ℕ) (live : ℕ → List ℕ) (t : TenantState S) (w : World) (log : List Record) (s : StandsFor M name live t w log) (u : ℕ) where
   abbrev k : Compact S
   k = s.0
 
@@ -99,7 +99,7 @@ module _ {S : Type 0} (M : Meaning S) (name : List ℕ) (live : ℕ → List ℕ
           places = i.places;
         } in
         let first : Compact S = with_unit_at k u (shelved_unit x.unit) in
-        let goes : (z : World) → Stands M name first z log → Represents M name (with_unit_at k u fewer) z log = (λ z stands. subst (λ (units : List (Unit S)). Represents M name (record k { units = units }) z log) (set_again k.units u (shelved_unit x.unit) fewer)
+        let goes : (z : World) → StandsCompact M name first z log → Represents M name (with_unit_at k u fewer) z log = (λ z stands. subst (λ (units : List (Unit S)). Represents M name (record k { units = units }) z log) (set_again k.units u (shelved_unit x.unit) fewer)
         (snapshots_go M name first z log stands u (shelved_unit x.unit) (set_get_same k.units u (shelved_unit x.unit) x.unit x.at) seen.0)) in
         leaves_on M name live log (checkpoint w u) reach _ (record { reply = Checkpointed at; state = first }) (checkpoints_follow M name k w log s.2 u)
         (is_up t live k s.1 u (checkpoint_of k u) m x up

@@ -6,20 +6,20 @@ use Rattle.model.specs.declared.replies.Said.{Said}
 use Rattle.model.specs.declared.steps.TenantStep.{TenantStep}
 use Rattle.model.specs.Alone.{step_open}
 use Rattle.model.specs.Handler.{Meaning}
-use Rattle.model.specs.Records.{IsHonest}
+use Rattle.model.specs.Records.{IsHonest, quiet}
 use Rattle.model.specs.World.{World}
 use Rattle.handler.specs.Inputs.{Input}
 use Rattle.shared_log.specs.Logged.{Logged}
 use Rattle.shared_log.proofs.LeftLaws.{same_grows}
 use Rattle.tenant.specs.declared.answer.Answer.{Answer}
-use Rattle.tenant.specs.Kept.{Kept}
-use Rattle.tenant.specs.Outcomes.{IsPlain, quiet}
+use Rattle.tenant.specs.Kept.{TenantState}
+use Rattle.tenant.specs.Outcomes.{IsPlain}
 use Rattle.tenant.specs.Stands.{Did, Stands, live_in}
 use Rattle.tenant.specs.Needs.{WasFresh}
 use Rattle.tenant.specs.Represents.{Does, DoesAs, StandsFor}
 use Rattle.tenant.proofs.Standing.{closed, opened}
 
-module _ {S : Type 0} (M : Meaning S) (name : List ℕ) (t v : Kept S) (step : TenantStep) (before : Logged) (honest : (w : World) → IsHonest M name w step quiet []) where
+module _ {S : Type 0} (M : Meaning S) (name : List ℕ) (t v : TenantState S) (step : TenantStep) (before : Logged) (honest : (w : World) → IsHonest M name w step quiet []) where
   -- what a step does whatever the log, it does over this one
   pub plain_did : (a : Answer) → DoesAs M name (λ w. step_open M w step quiet) t a.reply v → IsPlain a → (w : World) → Stands M name t w before.records → Did M name w v step a.said a.reply before before
   plain_did a does plain w given =
@@ -56,7 +56,7 @@ module _ {S : Type 0} (M : Meaning S) (name : List ℕ) (t v : Kept S) (step : T
   some_ok (Err e) does plain = tt
 
 -- whether a turn will do shows whatever the log
-pub fresh_ok : {S E : Type 0} (M : Meaning S) (name : List ℕ) (t : Kept S) (records : List (Option Record)) (needed : World → Option (Input S)) (input : Input S) (r : Result (Option Answer) E)
+pub fresh_ok : {S E : Type 0} (M : Meaning S) (name : List ℕ) (t : TenantState S) (records : List (Option Record)) (needed : World → Option (Input S)) (input : Input S) (r : Result (Option Answer) E)
     → IfOk r (λ o. (live : ℕ → List ℕ) (w : World) (log : List Record) → StandsFor M name live t w log → WasFresh (needed w) input o) → IfOk r (λ o. (w : World) → Stands M name t w records → WasFresh (needed w) input o)
 fresh_ok M name t records needed input (Ok o) h = λ w s. h (live_in name records) w (opened s).whole (opened s).stands
 fresh_ok M name t records needed input (Err e) h = tt

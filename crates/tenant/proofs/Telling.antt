@@ -18,11 +18,11 @@ use Rattle.compact.proofs.Releases.{statuses_follow}
 use Rattle.rollback.specs.Units.{IsKept, stable_places}
 use Rattle.rollback_laws.specs.Seen.{IsSeen}
 use Rattle.rollback_laws.proofs.Places.{places_are_seen}
-use Rattle.tenant.specs.Kept.{Kept, Member}
+use Rattle.tenant.specs.Kept.{TenantState, Member}
 use Rattle.tenant.specs.Represents.{Leaves, StandsFor}
 use Rattle.tenant.proofs.Follow.{keeps, leaves, no_unit}
 
-module _ {S : Type 0} (M : Meaning S) (name : List ℕ) (live : ℕ → List ℕ) (t : Kept S) (w : World) (log : List Record) (s : StandsFor M name live t w log) (u : ℕ) where
+module _ {S : Type 0} (M : Meaning S) (name : List ℕ) (live : ℕ → List ℕ) (t : TenantState S) (w : World) (log : List Record) (s : StandsFor M name live t w log) (u : ℕ) where
   abbrev k : Compact S
   k = s.0
 

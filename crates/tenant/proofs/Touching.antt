@@ -5,10 +5,10 @@ use Rattle.model.specs.declared.refusals.Refusal.TheVariants.{Down, Limit, Store
 use Rattle.model.specs.declared.replies.Reply.{Reply}
 use Rattle.model.specs.declared.replies.Reply.TheVariants.{Refused}
 use Rattle.model.specs.declared.replies.Said.{Said}
-use Rattle.model.specs.Records.{IsFetching, notice_fetches, restart_fetches}
+use Rattle.model.specs.Records.{IsFetching, notice_fetches, restart_fetches, quiet}
 use Rattle.model.specs.Steps.{Outcome, at_unit, at_up, first_refusal, going_back_tests, gone_back, if_unit, is_device, is_down, notice, notice_orphan, notice_rows, outcome_or, path_kept, restart, unless}
 use Rattle.model.specs.World.{Member, World, incarnation_of}
-use Rattle.tenant.specs.Outcomes.{failing, quiet}
+use Rattle.tenant.specs.Outcomes.{failing}
 
 -- a store that wasn't asked
 pub quiet_asked : (asked : Bool) → IsFetching asked quiet []

@@ -14,21 +14,15 @@ use Rattle.theory.proofs.Certificate.{Invariant, reachable_invariant}
 use Rattle.theory.proofs.FirmVector.{units_within}
 use Rattle.theory.proofs.ListLaws.{get_drop, map_at}
 use Rattle.compact.specs.Compact.{Compact, Interval, Unit, interval_of}
-use Rattle.compact.specs.StepLaws.{Stands}
+use Rattle.compact.specs.StepLaws.{StandsCompact}
 use Rattle.unit_steps.specs.Receipts.{NoLonger}
-
-numbers_long : (k n : ℕ) → length (numbers_from k n) ≡ n
-numbers_long k zero = refl
-numbers_long k (suc n) = ap suc (numbers_long (suc k) n)
-
-pub vector_long : (nodes : List Node) (x : ℕ) → length (vector_of nodes x) ≡ (node_at nodes x).units
-vector_long nodes x = length-map (numbers_from 0 (node_at nodes x).units) (greatest_mark (past_nodes nodes x)) ∙ numbers_long 0 (node_at nodes x).units
+use Rattle.layer_laws.proofs.Made.{length-vector_of}
 
 -- the vector of a node has no more entries than there are units
 pub vector_within : {S : Type 0} (M : Meaning S) (w : World) (g : Invariant M w) (n x : ℕ) → x < length w.nodes → length w.members ≡ n → length (vector_of w.nodes x) ≤ n
-vector_within M w g n x h e = let a = vector_long w.nodes x in let b = units_within M w g x h in omega (arith, a, b, e)
+vector_within M w g n x h e = let a = length-vector_of w.nodes x in let b = units_within M w g x h in omega (arith, a, b, e)
 
-pub widths : {S : Type 0} (M : Meaning S) (name : List ℕ) (k : Compact S) (w : World) (log : List Record) → Stands M name k w log → (u : ℕ) (x : Unit S) → slice_get k.units u ≡ Some x
+pub widths : {S : Type 0} (M : Meaning S) (name : List ℕ) (k : Compact S) (w : World) (log : List Record) → StandsCompact M name k w log → (u : ℕ) (x : Unit S) → slice_get k.units u ≡ Some x
     → (intervals : List Interval) → x.intervals ≡ intervals → (n : ℕ) → length k.units ≡ n → NoLonger n intervals
 widths M name k w log stands u x at intervals same n long i v e =
     let width = stands.represents.width in

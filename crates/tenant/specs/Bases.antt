@@ -6,7 +6,7 @@ use Rattle.compact.specs.Compact.{Interval, Letter}
 use Rattle.compact.specs.Forgetting.{emptied}
 use Rattle.rollback.specs.Units.{Recovering, forgotten, places}
 use Rattle.shared_log.specs.Logged.{Grows, Logged, OthersKept, places_of}
-use Rattle.tenant.specs.Kept.{Kept, Member}
+use Rattle.tenant.specs.Kept.{TenantState, Member}
 
 -- the index of the greatest snapshot below the frontier, if there is one
 abbrev pub next_base : {S : Type 0} → Recovering S → ℕ → Option ℕ
@@ -50,7 +50,7 @@ given_up r None = 0
 given_up r (Some base) = base - r.base
 
 -- the tenant then
-abbrev pub moved_kept : {S : Type 0} → Kept S → ℕ → Member S → Option ℕ → Kept S
+abbrev pub moved_kept : {S : Type 0} → TenantState S → ℕ → Member S → Option ℕ → TenantState S
 moved_kept t u m base = record t { members = slice_set t.members u (moved_member m base); letters = moved_letters t.letters m.recovering base }
 
 -- ---- the log

@@ -13,7 +13,7 @@ use Rattle.model.specs.Keeping.{Shelf, after_open, all_based, based, changed, fi
 use Rattle.model.specs.World.{Member as MemberOf, World}
 use Rattle.compact.specs.Compact.{Letter}
 use Rattle.rollback.specs.Units.{Recovering}
-use Rattle.tenant.specs.Kept.{Kept, Member, live_count}
+use Rattle.tenant.specs.Kept.{TenantState, Member, live_count}
 use Rattle.tenant.specs.Outcomes.{done}
 use Rattle.tenant.specs.Stands.{Stands}
 
@@ -21,41 +21,41 @@ use Rattle.tenant.specs.Stands.{Stands}
 abbrev pub shelf_of : {S : Type 0} → Recovering S → Shelf
 shelf_of r = record { base = r.base; others = map (λ s. s.index) r.shelf.others }
 
-abbrev pub shelves_of : {S : Type 0} → Kept S → List Shelf
+abbrev pub shelves_of : {S : Type 0} → TenantState S → List Shelf
 shelves_of t = map (λ m. shelf_of m.recovering) t.members
 
 -- The tenant's units have these checkpoints, and a letter is without content just where an interval up to its receiver's base received it.
-pub record IsKeeping {S : Type 0} (t : Kept S) (w : World) (shelves : List Shelf) : Type 0 where
+pub record IsKeeping {S : Type 0} (t : TenantState S) (w : World) (shelves : List Shelf) : Type 0 where
   pub shelved : shelves_of t ≡ shelves
   pub letters : (l : ℕ) (c : Letter) (m : MemberOf) (s : Shelf) → slice_get t.letters l ≡ Some c → slice_get w.members c.receiver ≡ Some m → slice_get shelves c.receiver ≡ Some s
       → is_none c.content ≡ received_for_good w m s l
 
 -- The same, closed: whoever stands above passes it on.
-unfoldable pub KeepsPast : {S : Type 0} → Kept S → World → List Shelf → Type 0
+unfoldable pub KeepsPast : {S : Type 0} → TenantState S → World → List Shelf → Type 0
 KeepsPast t w shelves = IsKeeping t w shelves
 
 -- A step keeps what the rules leave: where it is of this world, and leaves that one.
-abbrev pub KeepsOn : {S : Type 0} → Meaning S → List ℕ → Kept S → TenantStep → Said → Reply → Kept S → List (Option Record) → Type 0
+abbrev pub KeepsOn : {S : Type 0} → Meaning S → List ℕ → TenantState S → TenantStep → Said → Reply → TenantState S → List (Option Record) → Type 0
 KeepsOn M name t step said reply v records =
     (w z : World) (shelves : List Shelf) → Stands M name t w records → step_open M w step said ≡ done reply z → KeepsPast t w shelves → KeepsPast v z (shelves_after z step reply shelves)
 
 -- A tenant that was opened with this reply keeps all, whatever checkpoints were said to be there before.
-abbrev pub OpensPast : {S : Type 0} → Reply → Kept S → Type 0
+abbrev pub OpensPast : {S : Type 0} → Reply → TenantState S → Type 0
 OpensPast reply t = (z : World) (shelves : List Shelf) → KeepsPast t z (after_open reply shelves)
 
 -- No letter gave up its content, and those that were made have theirs.
-pub record AddsLetters {S : Type 0} (t v : Kept S) : Type 0 where
+pub record AddsLetters {S : Type 0} (t v : TenantState S) : Type 0 where
   pub made : List Letter
   pub letters : v.letters ≡ t.letters ++ made
   pub whole : (i : ℕ) (c : Letter) → slice_get made i ≡ Some c → is_none c.content ≡ false
 
 -- The checkpoints changed so.
-pub record Shelves {S : Type 0} (change : List Shelf → List Shelf) (t v : Kept S) : Type 0 where
+pub record Shelves {S : Type 0} (change : List Shelf → List Shelf) (t v : TenantState S) : Type 0 where
   pub shelves : shelves_of v ≡ change (shelves_of t)
   pub letters : AddsLetters t v
 
 -- They stayed.
-abbrev pub SameShelves : {S : Type 0} → Kept S → Kept S → Type 0
+abbrev pub SameShelves : {S : Type 0} → TenantState S → TenantState S → Type 0
 SameShelves t v = Shelves (λ shelves. shelves) t v
 
 -- the base of the unit at this place moves, if the unit is there
@@ -64,7 +64,7 @@ based_one w u None shelves = shelves
 based_one w u (Some m) shelves = changed (based (firm_length w m)) u shelves
 
 -- The bases of all units moved as far as they are firm.
-abbrev pub Bases : {S : Type 0} → Meaning S → List ℕ → Kept S → List (Option Record) → Kept S → Type 0
+abbrev pub Bases : {S : Type 0} → Meaning S → List ℕ → TenantState S → List (Option Record) → TenantState S → Type 0
 Bases M name t records v = (w : World) (shelves : List Shelf) → Stands M name t w records → KeepsPast t w shelves → KeepsPast v w (all_based w w.members shelves)
 
 -- ---- how much that is
@@ -81,5 +81,5 @@ abbrev pub amount_of : {S : Type 0} → List Letter → ℕ → Member S → Amo
 amount_of letters u m = record { records = live_count m.recovering; shelved = shelved_count m.recovering; letters = length (filter (is_whole_to u) letters) }
 
 -- how much is kept of this unit's past, if the unit is there
-abbrev pub kept_by : {S : Type 0} → Kept S → ℕ → Option Amount
+abbrev pub kept_by : {S : Type 0} → TenantState S → ℕ → Option Amount
 kept_by t u = option_map (amount_of t.letters u) (slice_get t.members u)

@@ -2,6 +2,7 @@
 use Rattle.std.specs.Prelude.{◌≡◌, [], ◌∷◌, replicate, length, ◌++◌, ◌-◌, min, option_map, drop, map, slice_get, slice_set, ℕ, cond, nat_le, nat_lt, List, Option, Some, None, ◌+◌, take, ◌<◌, ◌^◌}
 use Rattle.std.specs.List.{fold, position}
 use Rattle.std.specs.Option.{is_some}
+use Rattle.model.specs.declared.limits.TheConstants.{MAX_INCARNATION}
 use Rattle.handler.specs.Inputs.{Input}
 use Rattle.model.specs.declared.names.Mark.{Mark}
 use Rattle.model.specs.declared.names.Quota.{Quota}
@@ -21,7 +22,7 @@ use Rattle.model.specs.Nodes.{sends_within}
 use Rattle.model.specs.Steps.{kind_or_0}
 use Rattle.session.specs.Counts.{Counts, advanced}
 use Rattle.output_commit.specs.declared.held.Held.{Held}
-use Rattle.output_commit.specs.Holds.{Line, below, held_of}
+use Rattle.output_commit.specs.Holds.{Line, held_below, held_of}
 use Rattle.checkpoint.specs.declared.snapshot.Snapshot.{Snapshot}
 use Rattle.checkpoint.specs.Shelves.{nearest_of}
 use Rattle.orphan.specs.Tests.{is_orphan_by}
@@ -38,7 +39,7 @@ pub record Member (S : Type 0) : Type 0 where
   pub known : ℕ
 
 -- An open tenant. For each unit it keeps how many of its intervals are stable and how many are firm, and what it released.
-pub record Kept (S : Type 0) : Type 0 where
+pub record TenantState (S : Type 0) : Type 0 where
   pub quota : Quota
   pub optimism : ℕ
   pub table : List Row
@@ -63,11 +64,11 @@ released_of lines = map (λ l. l.texts) lines
 
 -- the texts of the outputs at the front that are of the first so many intervals
 abbrev pub firm_texts : List Held → ℕ → List (List ℕ)
-firm_texts outputs frontier = map (λ o. o.text) (below outputs frontier)
+firm_texts outputs frontier = map (λ o. o.text) (held_below outputs frontier)
 
 -- and the outputs behind them
 abbrev pub unfirm : List Held → ℕ → List Held
-unfirm outputs frontier = drop (length (below outputs frontier)) outputs
+unfirm outputs frontier = drop (length (held_below outputs frontier)) outputs
 
 -- Some of a unit's firm outputs moved to what it released. As many firm outputs are left of them together.
 pub record AreMoved (frontier : ℕ) (outputs : List Held) (texts : List (List ℕ)) (left : List Held) (more : List (List ℕ)) : Type 0 where
@@ -88,7 +89,7 @@ firm_of released u m frontier texts = slice_set released u (texts ++ firm_texts 
 
 -- the outputs of intervals below this index, which a path of more than 2^32 intervals would not have
 abbrev pub outputs_to : List Held → ℕ → List Held
-outputs_to outputs n = cond (nat_lt n 4294967296) (below outputs n) outputs
+outputs_to outputs n = cond (nat_lt n 4294967296) (held_below outputs n) outputs
 
 abbrev pub killed_member : {S : Type 0} → Member S → Member S
 killed_member m = record m { recovering = killed m.recovering; outputs = outputs_to m.outputs (places (killed m.recovering)) }
@@ -109,7 +110,7 @@ abbrev pub with_begun : {S : Type 0} → Meaning S → ℕ → List (Member S) �
 with_begun M width members kind = members ++ begun_member M width (record { unit = length members; kind = kind; home = width }) 0 ∷ []
 
 -- a tenant with units of these kinds, each at its beginning
-abbrev pub opened_kept : {S : Type 0} → Meaning S → List (List ℕ) → Quota → ℕ → Kept S
+abbrev pub opened_kept : {S : Type 0} → Meaning S → List (List ℕ) → Quota → ℕ → TenantState S
 opened_kept M kinds quota optimism = record {
   quota = quota;
   optimism = optimism;
@@ -134,7 +135,7 @@ GoOn {S} table stable_lengths members before after =
     → slice_get after u ≡ Some (frontier_of table stable_lengths m.recovering f)
 
 -- So many more intervals of the unit are stable, and the frontiers have gone on. All else is as it was.
-pub record IsFlushed {S : Type 0} (before : Kept S) (u count : ℕ) (m : Member S) (after : Kept S) : Type 0 where
+pub record IsFlushed {S : Type 0} (before : TenantState S) (u count : ℕ) (m : Member S) (after : TenantState S) : Type 0 where
   pub quota : after.quota ≡ before.quota
   pub optimism : after.optimism ≡ before.optimism
   pub table : after.table ≡ before.table
@@ -156,7 +157,7 @@ abbrev pub fitted_from : {S : Type 0} → ℕ → List (Member S) → ℕ → Li
 fitted_from n members at = take at members ++ map (fitted_member n) (drop at members)
 
 -- one unit more, at its beginning, and the others fitted for it
-abbrev pub joined_kept : {S : Type 0} → Meaning S → Kept S → ℕ → Kept S
+abbrev pub joined_kept : {S : Type 0} → Meaning S → TenantState S → ℕ → TenantState S
 joined_kept M t kind =
     let width = length t.members + 1 in
     record t {
@@ -171,7 +172,7 @@ joined_kept M t kind =
 -- why a unit can't restart, whatever the store says
 abbrev pub restart_refusal : {S : Type 0} → List Row → ℕ → Option (Member S) → Option Refusal
 restart_refusal table u None = Some NoUnit
-restart_refusal table u (Some m) = cond (is_some m.recovering.progress) (Some Up) (cond (nat_le 65535 (incarnation_of table u)) (Some Limit) None)
+restart_refusal table u (Some m) = cond (is_some m.recovering.progress) (Some Up) (cond (nat_le MAX_INCARNATION (incarnation_of table u)) (Some Limit) None)
 
 -- how many places of a path are kept, where this one is the first orphan, if there is one
 abbrev pub kept_before : Option ℕ → ℕ → ℕ
@@ -190,7 +191,7 @@ abbrev pub returned_member : {S : Type 0} → Member S → ℕ → Option (Progr
 returned_member m target progress known = record m { recovering = returned m.recovering target progress; outputs = outputs_to m.outputs (target + 1); known = known }
 
 -- with the unit gone back to the target, and a row that says so
-abbrev pub gone_back : {S : Type 0} → Kept S → ℕ → Member S → ℕ → ℕ → Option (Progress S) → Kept S
+abbrev pub gone_back : {S : Type 0} → TenantState S → ℕ → Member S → ℕ → ℕ → Option (Progress S) → TenantState S
 gone_back t u m target incarnation progress = record t {
   table = t.table ++ record { unit = u; incarnation = incarnation; start = target + 1 } ∷ [];
   members = slice_set t.members u (returned_member m target progress (length t.table + 1));
@@ -228,26 +229,26 @@ pub record IsAsking {S : Type 0} (refusal : Option Refusal) (r : Recovering S) (
   pub asked : asking r source text ≡ Some input
 
 -- what the tenant tells a unit of its table and its other units
-abbrev pub known_of : {S : Type 0} → Kept S → Member S → Known
+abbrev pub known_of : {S : Type 0} → TenantState S → Member S → Known
 known_of t m = record { table = t.table; rows = m.known; stable_lengths = t.stable_lengths }
 
 -- why a letter is refused before its turn
-abbrev pub letter_refusal_of : {S : Type 0} → Kept S → Member S → Letter → Option Refusal
+abbrev pub letter_refusal_of : {S : Type 0} → TenantState S → Member S → Letter → Option Refusal
 letter_refusal_of t m c = letter_refused (known_of t m) t.optimism t.quota.volatile m.recovering c.source c.number c.content
 
 -- The letter has a content, upon whose text its receiver's turn has this input, and no test before the turn refuses it.
-abbrev pub IsAskingBy : {S : Type 0} → Kept S → Member S → Letter → Option Content → Input S → Type 0
+abbrev pub IsAskingBy : {S : Type 0} → TenantState S → Member S → Letter → Option Content → Input S → Type 0
 IsAskingBy t m c None input = ⊥
 IsAskingBy t m c (Some content) input = IsAsking (letter_refusal_of t m c) m.recovering (FromUnit c.source) content.text input
 
 -- the mark, the vector and the record of the interval that a receipt makes
-abbrev pub next_mark_of : {S : Type 0} → Kept S → ℕ → Member S → Mark
+abbrev pub next_mark_of : {S : Type 0} → TenantState S → ℕ → Member S → Mark
 next_mark_of t u m = mark_upon t.table u m.recovering
 
-abbrev pub next_vector_of : {S : Type 0} → Kept S → ℕ → Member S → Receipt → List Mark
+abbrev pub next_vector_of : {S : Type 0} → TenantState S → ℕ → Member S → Receipt → List Mark
 next_vector_of t u m q = vector_upon t.table (length t.members) u m.recovering q.vector
 
-abbrev pub next_record_of : {S : Type 0} → List ℕ → Kept S → ℕ → Member S → Receipt → Record
+abbrev pub next_record_of : {S : Type 0} → List ℕ → TenantState S → ℕ → Member S → Receipt → Record
 next_record_of name t u m q = record {
   tenant = name;
   unit = u;
@@ -260,15 +261,15 @@ next_record_of name t u m q = record {
 }
 
 -- the letters that its turn makes, where the unit's sessions were these before
-abbrev pub next_letters_of : {S : Type 0} → Kept S → ℕ → Member S → Receipt → Turn S → Counts → List Letter
+abbrev pub next_letters_of : {S : Type 0} → TenantState S → ℕ → Member S → Receipt → Turn S → Counts → List Letter
 next_letters_of t u m q turn sessions = letters_by u (next_vector_of t u m q) (advanced sessions q.source) (sends_within (length t.members) turn)
 
 -- and what it is answered
-abbrev pub next_reply_of : {S : Type 0} → Kept S → ℕ → Member S → Turn S → Reply
+abbrev pub next_reply_of : {S : Type 0} → TenantState S → ℕ → Member S → Turn S → Reply
 next_reply_of t u m turn = Accepted (next_mark_of t u m) (length m.outputs + length turn.outputs) (numbers_from (length t.letters) (length (sends_within (length t.members) turn)))
 
 -- why it is refused for what its turn makes
-abbrev pub turn_refusal_of : {S : Type 0} → Kept S → Member S → Turn S → Option Refusal
+abbrev pub turn_refusal_of : {S : Type 0} → TenantState S → Member S → Turn S → Option Refusal
 turn_refusal_of t m turn = turn_refused t.quota (length m.outputs) (length t.letters) (length t.members) turn
 
 -- a unit with one more interval, which has this record and these outputs
@@ -276,7 +277,7 @@ abbrev pub received_member : {S : Type 0} → Meaning S → Member S → Record 
 received_member M m r outputs = record m { recovering = took M m.recovering r; outputs = m.outputs ++ held_of r.mark outputs }
 
 -- the tenant with such a unit, and with these letters
-abbrev pub received_kept : {S : Type 0} → Meaning S → Kept S → ℕ → Member S → Record → List (List ℕ) → List Letter → Kept S
+abbrev pub received_kept : {S : Type 0} → Meaning S → TenantState S → ℕ → Member S → Record → List (List ℕ) → List Letter → TenantState S
 received_kept M t u m r outputs made = record t { members = slice_set t.members u (received_member M m r outputs); letters = t.letters ++ made }
 
 -- The record is of the unit's next interval, whose turn has this input.

@@ -1,8 +1,9 @@
 -- Answers of an open tenant.
 use Rattle.std.specs.Prelude.{◌≡◌, Some}
+use Rattle.model.specs.Records.{quiet}
 use Rattle.model.specs.Steps.{Outcome}
 use Rattle.model.specs.World.{World}
-use Rattle.model.specs.declared.replies.End.TheVariants.{Device, Whole}
+use Rattle.model.specs.declared.replies.End.TheVariants.{Device}
 use Rattle.model.specs.declared.replies.Reply.{Reply}
 use Rattle.model.specs.declared.replies.Said.{Said}
 use Rattle.tenant.specs.declared.answer.Answer.{Answer}
@@ -10,10 +11,6 @@ use Rattle.tenant.specs.declared.answer.Answer.{Answer}
 -- the reply, and the world after the step
 abbrev pub done : Reply → World → Outcome
 done r w = record { reply = r; world = Some w }
-
--- the store was not asked
-abbrev pub quiet : Said
-quiet = record { appended = 0; end = Whole }
 
 -- the store was asked for records, and its device failed
 abbrev pub failing : Said

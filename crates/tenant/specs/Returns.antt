@@ -9,11 +9,12 @@ use Rattle.model.specs.declared.replies.Reply.TheVariants.{Refused}
 use Rattle.compact.specs.Compact.{Progress}
 use Rattle.shared_log.specs.Logged.{Grows, Logged, OthersKept, places_of}
 use Rattle.tenant.specs.declared.answer.Answer.{Answer}
-use Rattle.tenant.specs.Kept.{IsReplayed, Kept, Member, gone_back, live_count}
-use Rattle.tenant.specs.Outcomes.{failing, quiet}
+use Rattle.tenant.specs.Kept.{IsReplayed, TenantState, Member, gone_back, live_count}
+use Rattle.model.specs.Records.{quiet}
+use Rattle.tenant.specs.Outcomes.{failing}
 
 -- the unit went back to the target, and the records behind it are live no more
-pub record Went {S : Type 0} (M : Meaning S) (name : List ℕ) (t : Kept S) (u : ℕ) (m : Member S) (target : ℕ) (given : Reply) (a : Answer) (v : Kept S) (before after : Logged) : Type 0 where
+pub record Went {S : Type 0} (M : Meaning S) (name : List ℕ) (t : TenantState S) (u : ℕ) (m : Member S) (target : ℕ) (given : Reply) (a : Answer) (v : TenantState S) (before after : Logged) : Type 0 where
   pub said : a.said ≡ quiet
   pub reply : a.reply ≡ given
   pub progress : Option (Progress S)
@@ -24,12 +25,12 @@ pub record Went {S : Type 0} (M : Meaning S) (name : List ℕ) (t : Kept S) (u :
   pub grows : Grows before.records [] after.records
 
 -- the device failed, and nothing was changed
-pub record Failed {S : Type 0} (t : Kept S) (a : Answer) (v : Kept S) (before after : Logged) : Type 0 where
+pub record Failed {S : Type 0} (t : TenantState S) (a : Answer) (v : TenantState S) (before after : Logged) : Type 0 where
   pub said : a.said ≡ failing
   pub reply : a.reply ≡ Refused Store
   pub same : v ≡ t
   pub records : after.records ≡ before.records
   pub device : HasRisen before.failures after.failures
 
-abbrev pub Returns : {S : Type 0} → Meaning S → List ℕ → Kept S → ℕ → Member S → ℕ → Reply → Answer → Kept S → Logged → Logged → Type 0
+abbrev pub Returns : {S : Type 0} → Meaning S → List ℕ → TenantState S → ℕ → Member S → ℕ → Reply → Answer → TenantState S → Logged → Logged → Type 0
 Returns M name t u m target given a v before after = Went M name t u m target given a v before after ⊎ Failed t a v before after

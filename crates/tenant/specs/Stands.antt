@@ -13,7 +13,7 @@ use Rattle.model.specs.Records.{IsHonest}
 use Rattle.model.specs.Steps.{open_new}
 use Rattle.model.specs.World.{World}
 use Rattle.shared_log.specs.Logged.{Grows, IsLeftOf, Logged, places_from}
-pub use Rattle.tenant.specs.Kept.{Kept}
+pub use Rattle.tenant.specs.Kept.{TenantState}
 use Rattle.tenant.specs.Outcomes.{done}
 use Rattle.tenant.specs.Represents.{StandsFor}
 
@@ -23,17 +23,17 @@ live_in name records = λ u. places_from name u 0 records
 
 -- The tenant of this name stands for the world, where the log has these records, with empty places for those that were
 -- forgotten: they are what is left of a whole list.
-pub record IsStanding {S : Type 0} (M : Meaning S) (name : List ℕ) (t : Kept S) (w : World) (records : List (Option Record)) : Type 0 where
+pub record IsStanding {S : Type 0} (M : Meaning S) (name : List ℕ) (t : TenantState S) (w : World) (records : List (Option Record)) : Type 0 where
   pub whole : List Record
   pub left : IsLeftOf records whole
   pub stands : StandsFor M name (live_in name records) t w whole
 
 -- The same, closed: whoever stands above passes it on, and can't look into it without saying so.
-unfoldable pub Stands : {S : Type 0} → Meaning S → List ℕ → Kept S → World → List (Option Record) → Type 0
+unfoldable pub Stands : {S : Type 0} → Meaning S → List ℕ → TenantState S → World → List (Option Record) → Type 0
 Stands M name t w records = IsStanding M name t w records
 
 -- the tenant, if there is one, stands for the world, if there is one
-abbrev pub StandsAt : {S : Type 0} → Meaning S → List ℕ → Option (Kept S) → Option World → List (Option Record) → Type 0
+abbrev pub StandsAt : {S : Type 0} → Meaning S → List ℕ → Option (TenantState S) → Option World → List (Option Record) → Type 0
 StandsAt M name None None records = Unit {0}
 StandsAt M name None (Some w) records = ⊥
 StandsAt M name (Some k) None records = ⊥
@@ -46,16 +46,16 @@ pub record Logs {S : Type 0} (M : Meaning S) (name : List ℕ) (w : World) (step
   pub device : said.end ≡ Device → HasRisen before.failures after.failures
 
 -- the reply to a step of this world is that of the definitions for what the store said, and the tenant stands for the world after it
-abbrev pub Steps : {S : Type 0} → Meaning S → List ℕ → World → Kept S → TenantStep → Said → Reply → List (Option Record) → Type 0
+abbrev pub Steps : {S : Type 0} → Meaning S → List ℕ → World → TenantState S → TenantStep → Said → Reply → List (Option Record) → Type 0
 Steps M name w k step said answer records = (z : World) × (step_open M w step said ≡ done answer z) × Stands M name k z records
 
 -- a step of this world was done
-pub record Did {S : Type 0} (M : Meaning S) (name : List ℕ) (w : World) (k : Kept S) (step : TenantStep) (said : Said) (answer : Reply) (before after : Logged) : Type 0 where
+pub record Did {S : Type 0} (M : Meaning S) (name : List ℕ) (w : World) (k : TenantState S) (step : TenantStep) (said : Said) (answer : Reply) (before after : Logged) : Type 0 where
   pub steps : Steps M name w k step said answer after.records
   pub logs : Logs M name w step said before after
 
 -- a tenant was opened with these, or not
-abbrev pub IsOpened : {S : Type 0} → Meaning S → List (List ℕ) → Quota → ℕ → Reply → Option (Kept S) → Type 0
+abbrev pub IsOpened : {S : Type 0} → Meaning S → List (List ℕ) → Quota → ℕ → Reply → Option (TenantState S) → Type 0
 IsOpened M kinds quota optimism answer t = (z : Option World) × (open_new M kinds quota optimism ≡ record { reply = answer; world = z })
     × ((name : List ℕ) (records : List (Option Record)) → StandsAt M name t z records)
 

@@ -1,7 +1,8 @@
 //! What a step is answered.
 
 ghost use Rattle.std.specs.Prelude.{◌≡◌, IfOk, IsOk};
-ghost use Rattle.tenant.specs.Outcomes.{IsPlain, failing, quiet as quiet_said};
+ghost use Rattle.model.specs.Records.{quiet as quiet_said};
+ghost use Rattle.tenant.specs.Outcomes.{IsPlain, failing};
 ghost use Rattle.model.specs.declared.refusals.Refusal.TheVariants.{Store};
 ghost use Rattle.model.specs.declared.replies.Reply.TheVariants.{Refused};
 

@@ -46,7 +46,9 @@ impl<H: Handler> Tenant<H> {
         history: &[Entry],
         name: &TenantName,
     ) -> Result<Vec<Move>, NoMemory>
-        ensures { IfOk result (λ moves. AreCertificate H.meaning name.now history.now self.now.table self.now.frontiers (routes_by self.now.letters) moves.items) }
+        ensures { IfOk result (λ moves.
+            AreCertificate H.meaning name.now history.now self.now.table self.now.frontiers
+            (routes_by self.now.letters) moves.items) }
     {
         let routes = routes(alloc, self.letters.as_slice())?;
         let frontiers = self.frontiers.as_slice();
@@ -75,7 +77,9 @@ impl<H: Handler> Tenant<H> {
         history: &[Entry],
         name: &TenantName,
     ) -> Result<Vec<Move>, NoMemory>
-        ensures { IfOk result (λ moves. (w : World) (records : List (Option Record)) → Stands H.meaning name.now self.now w records → IsLegal H.meaning history.now → (alone H.meaning (own name.now (pairs history.now))).world ≡ Some w → moves.items ≡ certificate_of w) }
+        ensures { IfOk result (λ moves. (w : World) (records : List (Option Record))
+            → Stands H.meaning name.now self.now w records → IsLegal H.meaning history.now
+            → (alone H.meaning (own name.now (pairs history.now))).world ≡ Some w → moves.items ≡ certificate_of w) }
     {
         let moves = self.moves(alloc, handler, history, name)?;
         Ok(moves)

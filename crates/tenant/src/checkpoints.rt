@@ -4,7 +4,7 @@ ghost use Rattle.std.specs.Prelude.{◌≡◌, ◌≤◌, ◌<◌, IfOk, List, O
 ghost use Rattle.model.specs.World.{World};
 ghost use Rattle.model.specs.declared.steps.TenantStep.TheVariants.{Checkpoint};
 ghost use Rattle.tenant.specs.Keeping.{KeepsOn};
-ghost use Rattle.tenant.specs.Kept.{Kept, Member as MemberOf, checkpointed_member};
+ghost use Rattle.tenant.specs.Kept.{TenantState, Member as MemberOf, checkpointed_member};
 ghost use Rattle.tenant.specs.Stands.{Did, Stands};
 
 use crate::answer::Answer;
@@ -23,8 +23,10 @@ fn checkpoint_member<H: Handler>(
     at: usize,
 ) -> Result<(), NoMemory>
     requires within { at < length members.old.items }
-    requires whole { (m : MemberOf H.State) → slice_get members.old.items at ≡ Some m → length m.recovering.volatile ≡ 0 }
-    ensures ok { IfOk result (λ _. (m : MemberOf H.State) → slice_get members.old.items at ≡ Some m → members.new.items ≡ slice_set members.old.items at (checkpointed_member m)) }
+    requires whole { (m : MemberOf H.State) → slice_get members.old.items at ≡ Some m
+        → length m.recovering.volatile ≡ 0 }
+    ensures ok { IfOk result (λ _. (m : MemberOf H.State) → slice_get members.old.items at ≡ Some m
+        → members.new.items ≡ slice_set members.old.items at (checkpointed_member m)) }
     ensures err { OnErr result (members.new.items ≡ members.old.items) }
 {
     let member = &mut members[at];
@@ -36,8 +38,10 @@ impl<H: Handler> Tenant<H> {
     /// Shelves a snapshot of a unit, which is there, and of which all is stable.
     fn checkpoint_at(&mut self, alloc: Global, handler: &H, unit: Unit) -> Result<(), NoMemory>
         requires within { unit < length self.old.members }
-        requires whole { (m : MemberOf H.State) → slice_get self.old.members unit ≡ Some m → length m.recovering.volatile ≡ 0 }
-        ensures ok { IfOk result (λ _. (m : MemberOf H.State) → slice_get self.old.members unit ≡ Some m → self.new ≡ record self.old { members = slice_set self.old.members unit (checkpointed_member m) }) }
+        requires whole { (m : MemberOf H.State) → slice_get self.old.members unit ≡ Some m
+            → length m.recovering.volatile ≡ 0 }
+        ensures ok { IfOk result (λ _. (m : MemberOf H.State) → slice_get self.old.members unit ≡ Some m
+            → self.new ≡ record self.old { members = slice_set self.old.members unit (checkpointed_member m) }) }
         ensures err { OnErr result (self.new ≡ self.old) }
     {
         checkpoint_member(
@@ -64,10 +68,13 @@ impl<H: Handler> Tenant<H> {
         log: &mut SharedLog<S>,
     ) -> Result<Answer, NoMemory>
         ensures kept { IfOk result (λ a. a.kept ≡ a.reply) }
-        ensures did { IfOk result (λ a. (w : World) → Stands H.meaning tenant.now self.old w log.old.records → Did H.meaning tenant.now w self.new (Checkpoint unit) a.said a.reply log.old log.new) }
-        ensures keeps_on { IfOk result (λ a. KeepsOn H.meaning tenant.now self.old (Checkpoint unit) a.said a.reply self.new log.old.records) }
+        ensures did { IfOk result (λ a. (w : World) → Stands H.meaning tenant.now self.old w log.old.records
+            → Did H.meaning tenant.now w self.new (Checkpoint unit) a.said a.reply log.old log.new) }
+        ensures keeps_on { IfOk result (λ a.
+            KeepsOn H.meaning tenant.now self.old (Checkpoint unit) a.said a.reply self.new log.old.records) }
         // What other tenants stand for stays.
-        ensures others { (k : Kept H.State) (w : World) (other : List ℕ) → bytes_eq other tenant.now ≡ false → Stands H.meaning other k w log.old.records → Stands H.meaning other k w log.new.records }
+        ensures others { (k : TenantState H.State) (w : World) (other : List ℕ) → bytes_eq other tenant.now ≡ false
+            → Stands H.meaning other k w log.old.records → Stands H.meaning other k w log.new.records }
         ensures up { log.old.failures ≤ log.new.failures }
         ensures err { OnErr result (self.new ≡ self.old) }
         ensures err_log { OnErr result (log.new.records ≡ log.old.records) }

@@ -25,14 +25,16 @@ use unit_steps::{Known, SentLetter, letter_refusal};
 impl<H: Handler> Tenant<H> {
     /// The letter of this number.
     fn letter(&self, letter: Letter) -> Option<&SentLetter>
-        ensures { MatchOption result (slice_get self.now.letters letter ≡ None) (λ l. slice_get self.now.letters letter ≡ Some l.now) }
+        ensures { MatchOption result (slice_get self.now.letters letter ≡ None) (λ l.
+            slice_get self.now.letters letter ≡ Some l.now) }
     {
         self.letters.get(letter.number() as usize)
     }
 
     /// Why a letter is refused before its turn.
     fn letter_refusal(&self, member: &Member<H>, sent: &SentLetter) -> Option<Refusal>
-        ensures refusal { IsWithin (length self.now.stable_lengths) sent.now.content → result ≡ letter_refusal_of self.now member.now sent.now }
+        ensures refusal { IsWithin (length self.now.stable_lengths) sent.now.content
+            → result ≡ letter_refusal_of self.now member.now sent.now }
         ensures within { IfNone result (IsWithin (length self.now.stable_lengths) sent.now.content) }
         ensures content { IfNone result (is_some sent.now.content ≡ true) }
         ensures room { IfNone result (places member.now.recovering < 2 ^ 32) }
@@ -58,8 +60,12 @@ impl<H: Handler> Tenant<H> {
         handler: &H,
         letter: Letter,
     ) -> Result<Result<Ask<H>, Refusal>, NoMemory>
-        ensures asked { IfOk result (λ r. (name : List ℕ) (live : ℕ → List ℕ) (w : World) (log : List RecordOf) → StandsFor H.meaning name live self.now w log → IsAsked (deliver_needs H.meaning w letter) (deliver_of H.meaning w letter) w r) }
-        ensures input { IfOk result (λ r. IfOk r (λ input. (c : LetterOf) (m : MemberOf H.State) → slice_get self.now.letters letter ≡ Some c → slice_get self.now.members c.receiver ≡ Some m → IsAskingBy self.now m c c.content input)) }
+        ensures asked { IfOk result (λ r. (name : List ℕ) (live : ℕ → List ℕ) (w : World) (log : List RecordOf)
+            → StandsFor H.meaning name live self.now w log
+            → IsAsked (deliver_needs H.meaning w letter) (deliver_of H.meaning w letter) w r) }
+        ensures input { IfOk result (λ r. IfOk r (λ input. (c : LetterOf) (m : MemberOf H.State)
+            → slice_get self.now.letters letter ≡ Some c → slice_get self.now.members c.receiver ≡ Some m
+            → IsAskingBy self.now m c c.content input)) }
     {
         let sent = match self.letter(letter) {
             Some(sent) => sent,
@@ -97,8 +103,10 @@ impl<H: Handler> Tenant<H> {
         letter: Letter,
         worked: Done<H>,
     ) -> Result<Answer, NoMemory>
-        requires { (c : LetterOf) (m : MemberOf H.State) → slice_get self.old.letters letter ≡ Some c → slice_get self.old.members c.receiver ≡ Some m → IsAskingBy self.old m c c.content worked.input }
-        ensures done { IfOk result (λ a. DoesAs H.meaning name.now (λ w. deliver_of H.meaning w letter) self.old a.reply self.new) }
+        requires { (c : LetterOf) (m : MemberOf H.State) → slice_get self.old.letters letter ≡ Some c
+            → slice_get self.old.members c.receiver ≡ Some m → IsAskingBy self.old m c c.content worked.input }
+        ensures done { IfOk result (λ a.
+            DoesAs H.meaning name.now (λ w. deliver_of H.meaning w letter) self.old a.reply self.new) }
         ensures plain { IfOk result IsPlain }
         ensures shelves { IfOk result (λ _. SameShelves self.old self.new) }
         ensures err { OnErr result (self.new ≡ self.old) }
@@ -151,7 +159,8 @@ impl<H: Handler> Tenant<H> {
         name: &TenantName,
         letter: Letter,
     ) -> Result<Answer, NoMemory>
-        ensures done { IfOk result (λ a. DoesAs H.meaning name.now (λ w. deliver_of H.meaning w letter) self.old a.reply self.new) }
+        ensures done { IfOk result (λ a.
+            DoesAs H.meaning name.now (λ w. deliver_of H.meaning w letter) self.old a.reply self.new) }
         ensures plain { IfOk result IsPlain }
         ensures shelves { IfOk result (λ _. SameShelves self.old self.new) }
         ensures err { OnErr result (self.new ≡ self.old) }

@@ -10,7 +10,7 @@ ghost use Rattle.model.specs.declared.steps.TenantStep.TheVariants.{Flush};
 ghost use Rattle.rollback.specs.Units.{stable_places};
 ghost use Rattle.unit_steps.specs.Receipts.{IsFrontier, frontier_of};
 ghost use Rattle.tenant.specs.Keeping.{KeepsOn};
-ghost use Rattle.tenant.specs.Kept.{GoOn, IsFlushed, Kept, Member as MemberOf, flushed_member};
+ghost use Rattle.tenant.specs.Kept.{GoOn, IsFlushed, TenantState, Member as MemberOf, flushed_member};
 ghost use Rattle.tenant.specs.Stands.{Did, Stands};
 
 use crate::answer::Answer;
@@ -47,7 +47,8 @@ fn append_at<H: Handler, S: Store>(
     log: &mut SharedLog<S>,
 ) -> Result<(), End>
     requires { place < length recovering.now.volatile }
-    ensures ok { OnOk result ((r : RecordOf) → slice_get recovering.now.volatile place ≡ Some r → (log.new.records ≡ log.old.records ++ Some r ∷ []) × (bytes_eq r.tenant tenant.now ≡ true)) }
+    ensures ok { OnOk result ((r : RecordOf) → slice_get recovering.now.volatile place ≡ Some r
+        → (log.new.records ≡ log.old.records ++ Some r ∷ []) × (bytes_eq r.tenant tenant.now ≡ true)) }
     ensures err { OnErr result (log.new.records ≡ log.old.records) }
     ensures end { IfErr result (λ e. e ≡ Whole → ⊥) }
     ensures device { IfErr result (λ e. e ≡ Device → HasRisen log.old.failures log.new.failures) }
@@ -71,7 +72,8 @@ fn append_all<H: Handler, S: Store>(
     log: &mut SharedLog<S>,
 ) -> Said
     ensures records { log.new.records ≡ log.old.records ++ map Some (take result.appended recovering.now.volatile) }
-    ensures own { (k : ℕ) (r : RecordOf) → k < result.appended → slice_get recovering.now.volatile k ≡ Some r → bytes_eq r.tenant tenant.now ≡ true }
+    ensures own { (k : ℕ) (r : RecordOf) → k < result.appended → slice_get recovering.now.volatile k ≡ Some r
+        → bytes_eq r.tenant tenant.now ≡ true }
     ensures within { result.appended ≤ length recovering.now.volatile }
     ensures whole { (result.end ≡ Whole) ↔ (result.appended ≡ length recovering.now.volatile) }
     ensures device { result.end ≡ Device → HasRisen log.old.failures log.new.failures }
@@ -113,9 +115,13 @@ fn mark_stable<H: Handler>(
     count: usize,
 )
     requires within { at < length members.old.items }
-    requires few { (m : MemberOf H.State) → slice_get members.old.items at ≡ Some m → count ≤ length m.recovering.volatile }
-    ensures members { (m : MemberOf H.State) → slice_get members.old.items at ≡ Some m → members.new.items ≡ slice_set members.old.items at (flushed_member m count) }
-    ensures lengths { (m : MemberOf H.State) → slice_get members.old.items at ≡ Some m → stable_lengths.new.items ≡ slice_set stable_lengths.old.items at (stable_places (flushed_member m count).recovering) }
+    requires few { (m : MemberOf H.State) → slice_get members.old.items at ≡ Some m
+        → count ≤ length m.recovering.volatile }
+    ensures members { (m : MemberOf H.State) → slice_get members.old.items at ≡ Some m
+        → members.new.items ≡ slice_set members.old.items at (flushed_member m count) }
+    ensures lengths { (m : MemberOf H.State) → slice_get members.old.items at ≡ Some m
+        → stable_lengths.new.items
+        ≡ slice_set stable_lengths.old.items at (stable_places (flushed_member m count).recovering) }
 {
     let member = &mut members[at];
     member.mark_stable(count);
@@ -140,7 +146,9 @@ fn front_of<H: Handler>(
     at: usize,
     frontier: u64,
 ) -> u64
-    ensures { (m : MemberOf H.State) → slice_get members.now at ≡ Some m → IsFrontier (length stable_lengths.now) m.recovering frontier → result ≡ frontier_of table.now stable_lengths.now m.recovering frontier }
+    ensures { (m : MemberOf H.State) → slice_get members.now at ≡ Some m
+        → IsFrontier (length stable_lengths.now) m.recovering frontier
+        → result ≡ frontier_of table.now stable_lengths.now m.recovering frontier }
 {
     match member_at(members, at) {
         Some(member) => frontier_after(table, stable_lengths, member.recovering(), frontier),
@@ -169,8 +177,10 @@ impl<H: Handler> Tenant<H> {
     /// So many more intervals of the unit, which is there, are stable, and the frontiers go on.
     fn enter_stable(&mut self, unit: Unit, count: usize)
         requires within { unit < length self.old.members }
-        requires few { (m : MemberOf H.State) → slice_get self.old.members unit ≡ Some m → count ≤ length m.recovering.volatile }
-        ensures { (m : MemberOf H.State) → slice_get self.old.members unit ≡ Some m → IsFlushed self.old unit count m self.new }
+        requires few { (m : MemberOf H.State) → slice_get self.old.members unit ≡ Some m
+            → count ≤ length m.recovering.volatile }
+        ensures { (m : MemberOf H.State) → slice_get self.old.members unit ≡ Some m
+            → IsFlushed self.old unit count m self.new }
     {
         mark_stable(
             &mut self.members,
@@ -199,10 +209,13 @@ impl<H: Handler> Tenant<H> {
         log: &mut SharedLog<S>,
     ) -> Result<Answer, NoMemory>
         ensures kept { IfOk result (λ a. a.kept ≡ a.reply) }
-        ensures did { IfOk result (λ a. (w : World) → Stands H.meaning tenant.now self.old w log.old.records → Did H.meaning tenant.now w self.new (Flush unit) a.said a.reply log.old log.new) }
-        ensures keeps_on { IfOk result (λ a. KeepsOn H.meaning tenant.now self.old (Flush unit) a.said a.reply self.new log.old.records) }
+        ensures did { IfOk result (λ a. (w : World) → Stands H.meaning tenant.now self.old w log.old.records
+            → Did H.meaning tenant.now w self.new (Flush unit) a.said a.reply log.old log.new) }
+        ensures keeps_on { IfOk result (λ a.
+            KeepsOn H.meaning tenant.now self.old (Flush unit) a.said a.reply self.new log.old.records) }
         // What other tenants stand for stays.
-        ensures others { (k : Kept H.State) (w : World) (other : List ℕ) → bytes_eq other tenant.now ≡ false → Stands H.meaning other k w log.old.records → Stands H.meaning other k w log.new.records }
+        ensures others { (k : TenantState H.State) (w : World) (other : List ℕ) → bytes_eq other tenant.now ≡ false
+            → Stands H.meaning other k w log.old.records → Stands H.meaning other k w log.new.records }
         ensures up { log.old.failures ≤ log.new.failures }
         ensures err { OnErr result (self.new ≡ self.old) }
         ensures err_log { OnErr result (log.new.records ≡ log.old.records) }

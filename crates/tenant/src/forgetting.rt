@@ -59,8 +59,10 @@ fn forget_member<H: Handler, S: Store>(
     log: &mut SharedLog<S>,
 )
     ensures member { member.new ≡ moved_member member.old (next_base member.old.recovering frontier) }
-    ensures letters { letters.new.items ≡ moved_letters letters.old.items member.old.recovering (next_base member.old.recovering frontier) }
-    ensures log { LetsGo tenant.now member.old.unit (given_up member.old.recovering (next_base member.old.recovering frontier)) log.old log.new }
+    ensures letters { letters.new.items
+        ≡ moved_letters letters.old.items member.old.recovering (next_base member.old.recovering frontier) }
+    ensures log { LetsGo tenant.now member.old.unit
+        (given_up member.old.recovering (next_base member.old.recovering frontier)) log.old log.new }
 {
     let base = match member.next_base(frontier) {
         Some(base) => base,
@@ -81,9 +83,12 @@ fn forget_at<H: Handler, S: Store>(
     log: &mut SharedLog<S>,
 )
     requires { at < length members.old.items }
-    ensures members { (m : MemberOf H.State) → slice_get members.old.items at ≡ Some m → members.new.items ≡ slice_set members.old.items at (moved_member m (next_base m.recovering frontier)) }
-    ensures letters { (m : MemberOf H.State) → slice_get members.old.items at ≡ Some m → letters.new.items ≡ moved_letters letters.old.items m.recovering (next_base m.recovering frontier) }
-    ensures log { (m : MemberOf H.State) → slice_get members.old.items at ≡ Some m → LetsGo tenant.now m.unit (given_up m.recovering (next_base m.recovering frontier)) log.old log.new }
+    ensures members { (m : MemberOf H.State) → slice_get members.old.items at ≡ Some m
+        → members.new.items ≡ slice_set members.old.items at (moved_member m (next_base m.recovering frontier)) }
+    ensures letters { (m : MemberOf H.State) → slice_get members.old.items at ≡ Some m
+        → letters.new.items ≡ moved_letters letters.old.items m.recovering (next_base m.recovering frontier) }
+    ensures log { (m : MemberOf H.State) → slice_get members.old.items at ≡ Some m
+        → LetsGo tenant.now m.unit (given_up m.recovering (next_base m.recovering frontier)) log.old log.new }
 {
     let member = &mut members[at];
     forget_member(tenant, member, letters, frontier, log);
@@ -99,8 +104,10 @@ impl<H: Handler> Tenant<H> {
         log: &mut SharedLog<S>,
     )
         requires { at < length self.old.members }
-        ensures kept { (m : MemberOf H.State) → slice_get self.old.members at ≡ Some m → self.new ≡ moved_kept self.old at m (next_base m.recovering frontier) }
-        ensures log { (m : MemberOf H.State) → slice_get self.old.members at ≡ Some m → LetsGo tenant.now m.unit (given_up m.recovering (next_base m.recovering frontier)) log.old log.new }
+        ensures kept { (m : MemberOf H.State) → slice_get self.old.members at ≡ Some m
+            → self.new ≡ moved_kept self.old at m (next_base m.recovering frontier) }
+        ensures log { (m : MemberOf H.State) → slice_get self.old.members at ≡ Some m
+            → LetsGo tenant.now m.unit (given_up m.recovering (next_base m.recovering frontier)) log.old log.new }
     {
         forget_at(
             tenant,
@@ -114,9 +121,11 @@ impl<H: Handler> Tenant<H> {
 
     /// The unit at this place forgets what is firm for good.
     fn forget_one<S: Store>(&mut self, tenant: &TenantName, at: usize, log: &mut SharedLog<S>)
-        ensures stands { (w : World) → Stands H.meaning tenant.now self.old w log.old.records → Stands H.meaning tenant.now self.new w log.new.records }
+        ensures stands { (w : World) → Stands H.meaning tenant.now self.old w log.old.records
+            → Stands H.meaning tenant.now self.new w log.new.records }
         ensures beside { IsBeside tenant.now log.old log.new }
-        ensures bases { (w : World) (shelves : List Shelf) → Stands H.meaning tenant.now self.old w log.old.records → KeepsPast self.old w shelves → KeepsPast self.new w (based_one w at (slice_get w.members at) shelves) }
+        ensures bases { (w : World) (shelves : List Shelf) → Stands H.meaning tenant.now self.old w log.old.records
+            → KeepsPast self.old w shelves → KeepsPast self.new w (based_one w at (slice_get w.members at) shelves) }
     {
         if at < self.members.len() && at < self.frontiers.len() {
             let frontier = self.frontiers[at];
@@ -126,7 +135,8 @@ impl<H: Handler> Tenant<H> {
 
     /// Each unit forgets what is firm for good. Takes no memory, and time by what is forgotten and by the units.
     pub(crate) fn forget_firm<S: Store>(&mut self, tenant: &TenantName, log: &mut SharedLog<S>)
-        ensures stands { (w : World) → Stands H.meaning tenant.now self.old w log.old.records → Stands H.meaning tenant.now self.new w log.new.records }
+        ensures stands { (w : World) → Stands H.meaning tenant.now self.old w log.old.records
+            → Stands H.meaning tenant.now self.new w log.new.records }
         ensures beside { IsBeside tenant.now log.old log.new }
         ensures bases { Bases H.meaning tenant.now self.old log.old.records self.new }
     {
@@ -142,9 +152,11 @@ impl<H: Handler> Tenant<H> {
         added: u64,
         log: &mut SharedLog<S>,
     )
-        ensures stands { (w : World) → Stands H.meaning tenant.now self.old w log.old.records → Stands H.meaning tenant.now self.new w log.new.records }
+        ensures stands { (w : World) → Stands H.meaning tenant.now self.old w log.old.records
+            → Stands H.meaning tenant.now self.new w log.new.records }
         ensures beside { IsBeside tenant.now log.old log.new }
-        ensures bases { (w : World) (shelves : List Shelf) → Stands H.meaning tenant.now self.old w log.old.records → KeepsPast self.old w shelves → KeepsPast self.new w (where_added w added shelves) }
+        ensures bases { (w : World) (shelves : List Shelf) → Stands H.meaning tenant.now self.old w log.old.records
+            → KeepsPast self.old w shelves → KeepsPast self.new w (where_added w added shelves) }
     {
         if added > 0 {
             self.forget_firm(tenant, log);

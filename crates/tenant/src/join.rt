@@ -13,7 +13,7 @@ use crate::answer::Answer;
 use crate::member::Member;
 use crate::tenant::Tenant;
 use handler::Handler;
-use model::{Kind, NoMemory, Refusal, Reply, Seat, Unit};
+use model::{Kind, MAX_UNITS, NoMemory, Refusal, Reply, Seat, Unit};
 use output_commit::Outlet;
 use session::Sessions;
 use std::alloc::Global;
@@ -25,7 +25,8 @@ fn sessions_at<H: Handler>(
     width: usize,
 ) -> Result<Option<Sessions>, NoMemory>
     requires { at < length members.now.items }
-    ensures { IfOk result (λ sessions. (m : MemberOf H.State) → slice_get members.now.items at ≡ Some m → sessions ≡ option_map (λ p. widened p.sessions width) m.recovering.progress) }
+    ensures { IfOk result (λ sessions. (m : MemberOf H.State) → slice_get members.now.items at ≡ Some m
+        → sessions ≡ option_map (λ p. widened p.sessions width) m.recovering.progress) }
 {
     members[at].widened_sessions(width)
 }
@@ -33,7 +34,9 @@ fn sessions_at<H: Handler>(
 /// Adds the entries that `sessions_at` made.
 fn fit_at<H: Handler>(members: &mut Vec<Member<H>>, at: usize, sessions: Option<Sessions>)
     requires { at < length members.old.items }
-    ensures { (n : ℕ) (m : MemberOf H.State) → slice_get members.old.items at ≡ Some m → sessions ≡ option_map (λ p. widened p.sessions n) m.recovering.progress → members.new.items ≡ slice_set members.old.items at (fitted_member n m) }
+    ensures { (n : ℕ) (m : MemberOf H.State) → slice_get members.old.items at ≡ Some m
+        → sessions ≡ option_map (λ p. widened p.sessions n) m.recovering.progress
+        → members.new.items ≡ slice_set members.old.items at (fitted_member n m) }
 {
     let member = &mut members[at];
     member.fit(sessions);
@@ -47,7 +50,8 @@ fn add_unit<H: Handler>(
     width: usize,
 ) -> Result<(), NoMemory>
     ensures members { OnOk result (members.new.items ≡ members.old.items ++ member ∷ []) }
-    ensures lines { OnOk result (length outlet.old + 1 ≡ width → released_of outlet.new ≡ released_of outlet.old ++ [] ∷ []) }
+    ensures lines { OnOk result (length outlet.old + 1 ≡ width
+        → released_of outlet.new ≡ released_of outlet.old ++ [] ∷ []) }
     ensures err_members { OnErr result (members.new.items ≡ members.old.items) }
     ensures err_lines { OnErr result (released_of outlet.new ≡ released_of outlet.old) }
 {
@@ -67,7 +71,8 @@ fn widen_from<H: Handler>(
     width: usize,
 ) -> Result<(), NoMemory>
     ensures members { OnOk result (members.new.items ≡ fitted_from width members.old.items at ++ member ∷ []) }
-    ensures lines { OnOk result (length outlet.old + 1 ≡ width → released_of outlet.new ≡ released_of outlet.old ++ [] ∷ []) }
+    ensures lines { OnOk result (length outlet.old + 1 ≡ width
+        → released_of outlet.new ≡ released_of outlet.old ++ [] ∷ []) }
     ensures err_members { OnErr result (members.new.items ≡ members.old.items) }
     ensures err_lines { OnErr result (released_of outlet.new ≡ released_of outlet.old) }
 {
@@ -83,8 +88,9 @@ fn widen_from<H: Handler>(
 impl<H: Handler> Tenant<H> {
     /// One unit more of this kind, at its beginning.
     fn enter_unit(&mut self, alloc: Global, handler: &H, kind: Kind) -> Result<(), NoMemory>
-        requires { length self.old.members < 16 }
-        ensures ok { OnOk result (length self.old.released ≡ length self.old.members → self.new ≡ joined_kept H.meaning self.old kind) }
+        requires { length self.old.members < MAX_UNITS }
+        ensures ok { OnOk result (length self.old.released ≡ length self.old.members
+            → self.new ≡ joined_kept H.meaning self.old kind) }
         ensures err { OnErr result (self.new ≡ self.old) }
     {
         let count = self.member_count();
@@ -104,7 +110,7 @@ impl<H: Handler> Tenant<H> {
     }
 
     /// One more unit of this kind, at its beginning, which knows all rows. It is refused where the handler
-    /// doesn't know the kind (`bad-open`), and where there are 16 units (`limit`).
+    /// doesn't know the kind (`bad-open`), and where there are as many units as may be (`limit`).
     ///
     /// # Errors
     ///
@@ -117,7 +123,8 @@ impl<H: Handler> Tenant<H> {
     ) -> Result<Answer, NoMemory>
         ensures done { IfOk result (λ a. Does H.meaning (λ w. join_of H.meaning w name.now) self.old a.reply self.new) }
         ensures plain { IfOk result IsPlain }
-        ensures shelves { IfOk result (λ a. length self.old.released ≡ length self.old.members → Shelves (after_join a.reply) self.old self.new) }
+        ensures shelves { IfOk result (λ a. length self.old.released ≡ length self.old.members
+            → Shelves (after_join a.reply) self.old self.new) }
         ensures err { OnErr result (self.new ≡ self.old) }
     {
         let kind = match handler.kind(name) {
@@ -125,7 +132,7 @@ impl<H: Handler> Tenant<H> {
             None => return Ok(Answer::refused(Refusal::BadOpen)),
         };
         let count = self.member_count();
-        if count >= 16 {
+        if count >= MAX_UNITS {
             return Ok(Answer::refused(Refusal::Limit));
         }
         let unit = Unit::new(count as u8);

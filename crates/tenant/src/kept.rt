@@ -48,7 +48,9 @@ impl<H: Handler> Tenant<H> {
     /// How much is kept of this unit's past, if the unit is there: what the rules of keeping leave of the steps that
     /// the tenant did. Takes no memory, and time by the number of letters.
     pub fn kept(&self, unit: Unit) -> Option<Kept>
-        ensures { (name : List ℕ) (w : World) (records : List (Option Record)) (shelves : List Shelf) → Stands H.meaning name self.now w records → KeepsPast self.now w shelves → result ≡ kept_in H.meaning w shelves unit }
+        ensures { (name : List ℕ) (w : World) (records : List (Option Record)) (shelves : List Shelf)
+            → Stands H.meaning name self.now w records → KeepsPast self.now w shelves
+            → result ≡ kept_in H.meaning w shelves unit }
     {
         self.amount(unit)
     }

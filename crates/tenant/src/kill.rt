@@ -16,8 +16,10 @@ use model::{Reply, Unit};
 /// The unit at this place fails.
 fn kill_member<H: Handler>(members: &mut Vec<Member<H>>, at: usize) -> u64
     requires { at < length members.old.items }
-    ensures lost { (m : MemberOf H.State) → slice_get members.old.items at ≡ Some m → result ≡ length m.recovering.volatile }
-    ensures members { (m : MemberOf H.State) → slice_get members.old.items at ≡ Some m → members.new.items ≡ slice_set members.old.items at (killed_member m) }
+    ensures lost { (m : MemberOf H.State) → slice_get members.old.items at ≡ Some m
+        → result ≡ length m.recovering.volatile }
+    ensures members { (m : MemberOf H.State) → slice_get members.old.items at ≡ Some m
+        → members.new.items ≡ slice_set members.old.items at (killed_member m) }
 {
     let member = &mut members[at];
     member.kill()
@@ -27,8 +29,10 @@ impl<H: Handler> Tenant<H> {
     /// The unit, which is there, fails.
     fn kill_at(&mut self, unit: Unit) -> u64
         requires { unit < length self.old.members }
-        ensures lost { (m : MemberOf H.State) → slice_get self.old.members unit ≡ Some m → result ≡ length m.recovering.volatile }
-        ensures tenant { (m : MemberOf H.State) → slice_get self.old.members unit ≡ Some m → self.new ≡ record self.old { members = slice_set self.old.members unit (killed_member m) } }
+        ensures lost { (m : MemberOf H.State) → slice_get self.old.members unit ≡ Some m
+            → result ≡ length m.recovering.volatile }
+        ensures tenant { (m : MemberOf H.State) → slice_get self.old.members unit ≡ Some m
+            → self.new ≡ record self.old { members = slice_set self.old.members unit (killed_member m) } }
     {
         kill_member(&mut self.members, usize::from(unit.number()))
     }

@@ -28,7 +28,7 @@
 //! - `laws`: what holds over time of the worlds that a tenant stands for.
 //! - `TenantStep`, `Reply` and `Kept` are those of `model`.
 //!
-//! Contracts see the tenant as `Kept` of `specs/Kept`. `specs/Represents` says which world that is over a whole log, and
+//! Contracts see the tenant as `TenantState` of `specs/Kept`. `specs/Represents` says which world that is over a whole log, and
 //! what a step does whatever the log; `specs/Stands` says it over a log that may have forgotten records, and
 //! `specs/Keeping` what the tenant keeps of its past: what the rules of `model`, `specs/Keeping`, leave.
 //!
@@ -42,7 +42,9 @@
 //!     tenants: &Tenants<H>,
 //!     step: &Step,
 //! ) -> Result<Option<Ask<H>>, NoMemory>
-//!     ensures { IfOk result (λ a. (w : Option World) (records : List (Option Record)) → StandsAt H.meaning (addressed step.now).0 (get bytes_eq tenants.now (addressed step.now).0) w records → a ≡ needs_at H.meaning w (addressed step.now).1) }
+//!     ensures { IfOk result (λ a. (w : Option World) (records : List (Option Record))
+//!         → StandsAt H.meaning (addressed step.now).0 (get bytes_eq tenants.now (addressed step.now).0) w records
+//!         → a ≡ needs_at H.meaning w (addressed step.now).1) }
 //! {
 //!     let Some(tenant) = tenants.get(step.tenant()) else {
 //!         return Ok(None);

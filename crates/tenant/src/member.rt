@@ -2,7 +2,7 @@
 
 ghost use Rattle.std.specs.Prelude.{◌≡◌, ◌≢◌, ◌++◌, ◌+◌, ◌-◌, ◌<◌, ◌≤◌, ℕ, IfOk, IfSome, OnErr, Some, min, length, option_map, slice_index, true};
 ghost use Rattle.std.specs.Option.{is_some};
-ghost use Rattle.output_commit.specs.Holds.{room_of, texts_of};
+ghost use Rattle.output_commit.specs.Holds.{room_of, line_texts};
 ghost use Rattle.compact.specs.Compact.{Unit as UnitOf};
 ghost use Rattle.compact.specs.Steps.{last_mark as last_mark_of};
 ghost use Rattle.checkpoint.specs.declared.snapshot.Snapshot.{Snapshot as SnapshotOf};
@@ -148,7 +148,8 @@ impl<H: Handler> Member<H> {
 
     /// The mark of its last interval.
     pub(crate) fn last_mark(&self, unit: Unit) -> Mark
-        ensures { (x : UnitOf H.State) → IsKept self.now.recovering → IsSeen self.now.recovering x → result ≡ last_mark_of unit x }
+        ensures { (x : UnitOf H.State) → IsKept self.now.recovering → IsSeen self.now.recovering x
+            → result ≡ last_mark_of unit x }
     {
         let index = self.recovering.last_index();
         let interval = self.recovering.interval(index);
@@ -209,14 +210,16 @@ impl<H: Handler> Member<H> {
 
     /// What it took and sent with entries for `n` units, where it is up.
     pub(crate) fn widened_sessions(&self, n: usize) -> Result<Option<Sessions>, NoMemory>
-        ensures { IfOk result (λ sessions. sessions ≡ option_map (λ p. widened p.sessions n) self.now.recovering.progress) }
+        ensures { IfOk result (λ sessions.
+            sessions ≡ option_map (λ p. widened p.sessions n) self.now.recovering.progress) }
     {
         self.recovering.widened_sessions(n)
     }
 
     /// Adds the entries that `widened_sessions` made. Takes no memory.
     pub(crate) fn fit(&mut self, sessions: Option<Sessions>)
-        ensures { (n : ℕ) → sessions ≡ option_map (λ p. widened p.sessions n) self.old.recovering.progress → self.new ≡ fitted_member n self.old }
+        ensures { (n : ℕ) → sessions ≡ option_map (λ p. widened p.sessions n) self.old.recovering.progress
+            → self.new ≡ fitted_member n self.old }
     {
         self.recovering.fit(sessions);
     }
@@ -234,8 +237,9 @@ impl<H: Handler> Member<H> {
         requires line { self.old.unit < length outlet.old }
         requires room { length self.old.outputs ≤ room_of outlet.old self.old.unit }
         ensures member { self.new ≡ released_member self.old (slice_index frontiers.now self.old.unit) }
-        ensures texts { texts_of outlet.new self.old.unit ≡ texts_of outlet.old self.old.unit ++ firm_texts self.old.outputs (slice_index frontiers.now self.old.unit) }
-        ensures others { (u : ℕ) → u ≢ self.old.unit → texts_of outlet.new u ≡ texts_of outlet.old u }
+        ensures texts { line_texts outlet.new self.old.unit ≡ line_texts outlet.old self.old.unit
+            ++ firm_texts self.old.outputs (slice_index frontiers.now self.old.unit) }
+        ensures others { (u : ℕ) → u ≢ self.old.unit → line_texts outlet.new u ≡ line_texts outlet.old u }
         ensures len { length outlet.new ≡ length outlet.old }
     {
         self.hold.release(outlet, frontiers);
@@ -260,7 +264,8 @@ impl<H: Handler> Member<H> {
     /// orphan is the base, which is firm and so no orphan.
     pub(crate) fn last_kept(&self, table: &StartTable) -> Option<u32>
         ensures target { IfSome result (λ t. IsTarget self.now.recovering t) }
-        ensures kept { IfSome result (λ t. OrphansAreTail table.now self.now.recovering.intervals → t + 1 ≡ kept_length table.now self.now.recovering) }
+        ensures kept { IfSome result (λ t. OrphansAreTail table.now self.now.recovering.intervals
+            → t + 1 ≡ kept_length table.now self.now.recovering) }
     {
         match self.recovering.first_orphan(table) {
             None => Some(self.recovering.last_index()),
@@ -277,7 +282,8 @@ impl<H: Handler> Member<H> {
     /// The first position among its live records that it needs to go back to the target, and the position behind the
     /// last.
     pub(crate) fn needed(&self, target: u32) -> (usize, usize)
-        ensures first { (s : SnapshotOf (ProgressOf H.State)) → nearest_of self.now.recovering.shelf target ≡ Some s → result.0 ≡ s.index - self.now.recovering.base }
+        ensures first { (s : SnapshotOf (ProgressOf H.State)) → nearest_of self.now.recovering.shelf target ≡ Some s
+            → result.0 ≡ s.index - self.now.recovering.base }
         ensures last { result.1 ≡ min (target + 1) (stable_places self.now.recovering) - 1 - self.now.recovering.base }
     {
         let base = self.recovering.base();

@@ -6,7 +6,7 @@ ghost use Rattle.model.specs.World.{World};
 ghost use Rattle.model.specs.declared.steps.TenantStep.TheVariants.{Notice};
 ghost use Rattle.model.specs.Keeping.{after_return};
 ghost use Rattle.tenant.specs.Keeping.{Shelves};
-ghost use Rattle.tenant.specs.Kept.{Kept, Member as MemberOf};
+ghost use Rattle.tenant.specs.Kept.{TenantState, Member as MemberOf};
 ghost use Rattle.tenant.specs.Stands.{Did, Stands};
 
 use crate::answer::Answer;
@@ -20,7 +20,8 @@ use std::alloc::Global;
 /// The unit at this place knows so many rows.
 fn learn<H: Handler>(members: &mut Vec<Member<H>>, at: usize, known: usize)
     requires { at < length members.old.items }
-    ensures { (m : MemberOf H.State) → slice_get members.old.items at ≡ Some m → members.new.items ≡ slice_set members.old.items at (record m { known = known }) }
+    ensures { (m : MemberOf H.State) → slice_get members.old.items at ≡ Some m
+        → members.new.items ≡ slice_set members.old.items at (record m { known = known }) }
 {
     let member = &mut members[at];
     member.learn(known);
@@ -30,7 +31,11 @@ impl<H: Handler> Tenant<H> {
     /// The unit, which is there, knows all rows.
     fn learn_rows(&mut self, unit: Unit)
         requires { unit < length self.old.members }
-        ensures { (m : MemberOf H.State) → slice_get self.old.members unit ≡ Some m → self.new ≡ record self.old { members = slice_set self.old.members unit (record m { known = length self.old.table }) } }
+        ensures { (m : MemberOf H.State) → slice_get self.old.members unit ≡ Some m
+            → self.new ≡ record self.old {
+              members = slice_set self.old.members unit
+                  (record m { known = length self.old.table });
+            } }
     {
         let known = self.table.len();
         learn(&mut self.members, usize::from(unit.number()), known);
@@ -39,7 +44,8 @@ impl<H: Handler> Tenant<H> {
     /// Whether no interval of the unit, which is there, is behind this index.
     fn is_last(&self, unit: Unit, index: u32) -> bool
         requires { unit < length self.now.members }
-        ensures { (m : MemberOf H.State) → slice_get self.now.members unit ≡ Some m → result ≡ nat_le (places m.recovering) (index + 1) }
+        ensures { (m : MemberOf H.State) → slice_get self.now.members unit ≡ Some m
+            → result ≡ nat_le (places m.recovering) (index + 1) }
     {
         let member = self.member_there(unit);
         member.last_index() <= index
@@ -60,10 +66,12 @@ impl<H: Handler> Tenant<H> {
         log: &mut SharedLog<S>,
     ) -> Result<Answer, NoMemory>
         ensures kept { IfOk result (λ a. a.kept ≡ a.reply) }
-        ensures did { IfOk result (λ a. (w : World) → Stands H.meaning tenant.now self.old w log.old.records → Did H.meaning tenant.now w self.new (Notice unit) a.said a.reply log.old log.new) }
+        ensures did { IfOk result (λ a. (w : World) → Stands H.meaning tenant.now self.old w log.old.records
+            → Did H.meaning tenant.now w self.new (Notice unit) a.said a.reply log.old log.new) }
         ensures shelves { IfOk result (λ a. Shelves (after_return unit a.reply) self.old self.new) }
         // What other tenants stand for stays.
-        ensures others { (k : Kept H.State) (w : World) (other : List ℕ) → bytes_eq other tenant.now ≡ false → Stands H.meaning other k w log.old.records → Stands H.meaning other k w log.new.records }
+        ensures others { (k : TenantState H.State) (w : World) (other : List ℕ) → bytes_eq other tenant.now ≡ false
+            → Stands H.meaning other k w log.old.records → Stands H.meaning other k w log.new.records }
         ensures up { log.old.failures ≤ log.new.failures }
         ensures err { OnErr result (self.new ≡ self.old) }
         ensures err_log { OnErr result (log.new.records ≡ log.old.records) }

@@ -15,7 +15,10 @@ use crate::member::Member;
 use crate::tenant::Tenant;
 use handler::Handler;
 use incarnation::StartTable;
-use model::{Kind, NoMemory, Quota, Refusal, Reply, Seat, Text, Texts, Unit};
+use model::{
+    Kind, MAX_HELD_QUOTA, MAX_LETTERS_QUOTA, MAX_OPTIMISM, MAX_UNITS, MAX_VOLATILE_QUOTA, NoMemory,
+    Quota, Refusal, Reply, Seat, Text, Texts, Unit,
+};
 use output_commit::Outlet;
 use std::alloc::Global;
 
@@ -28,7 +31,9 @@ fn within(low: u32, x: u32, high: u32) -> bool
 fn is_quota(q: Quota) -> bool
     ensures { result ≡ is_quota_of q }
 {
-    within(1, q.volatile, 1024) && within(1, q.held, 1024) && within(1, q.letters, 1_000_000)
+    within(1, q.volatile, MAX_VOLATILE_QUOTA)
+        && within(1, q.held, MAX_HELD_QUOTA)
+        && within(1, q.letters, MAX_LETTERS_QUOTA)
 }
 
 fn is_unknown<H: Handler>(handler: &H, name: &Text) -> bool
@@ -44,15 +49,18 @@ fn has_unknown<H: Handler>(handler: &H, names: &[Text]) -> bool
 }
 
 fn are_few(count: usize) -> bool
-    ensures { result ≡ is_within 1 count 16 }
+    ensures { result ≡ is_within 1 count MAX_UNITS }
 {
-    1 <= count && count <= 16
+    1 <= count && count <= MAX_UNITS
 }
 
 fn can_open<H: Handler>(handler: &H, names: &[Text], quota: Quota, optimism: u32) -> bool
     ensures { result ≡ can_open_with H.meaning names.now quota optimism }
 {
-    are_few(names.len()) && !has_unknown(handler, names) && is_quota(quota) && optimism <= 16
+    are_few(names.len())
+        && !has_unknown(handler, names)
+        && is_quota(quota)
+        && optimism <= MAX_OPTIMISM
 }
 
 fn kind_of<H: Handler>(handler: &H, name: &Text) -> Kind
@@ -88,8 +96,10 @@ fn begin_all<H: Handler>(
     handler: &H,
     names: &[Text],
 ) -> Result<Vec<Member<H>>, NoMemory>
-    requires { length names.now ≤ 16 }
-    ensures { IfOk result (λ ms. ms.items ≡ fold (λ ms n. with_begun H.meaning (length names.now) ms (kind_or_0 (H.meaning.kind n))) [] names.now) }
+    requires { length names.now ≤ MAX_UNITS }
+    ensures { IfOk result (λ ms.
+        ms.items ≡ fold (λ ms n.
+        with_begun H.meaning (length names.now) ms (kind_or_0 (H.meaning.kind n))) [] names.now) }
 {
     let mut members = Vec::new(alloc);
     let home = names.len() as u8;
@@ -115,7 +125,7 @@ impl<H: Handler> Tenant<H> {
         quota: Quota,
         optimism: u32,
     ) -> Result<Tenant<H>, NoMemory>
-        requires { length names.now ≤ 16 }
+        requires { length names.now ≤ MAX_UNITS }
         ensures { IfOk result (λ t. t ≡ opened_kept H.meaning names.now quota optimism) }
     {
         let width = names.len();

@@ -31,8 +31,13 @@ impl<H: Handler> Tenant<H> {
         number: u32,
         text: &Text,
     ) -> Result<Result<Ask<H>, Refusal>, NoMemory>
-        ensures asked { IfOk result (λ r. (name : List ℕ) (live : ℕ → List ℕ) (w : World) (log : List RecordOf) → StandsFor H.meaning name live self.now w log → IsAsked (post_needs H.meaning w unit number text.now) (post_of H.meaning w unit number text.now) w r) }
-        ensures input { IfOk result (λ r. IfOk r (λ input. (m : MemberOf H.State) → slice_get self.now.members unit ≡ Some m → IsAsking (post_refused self.now.quota.volatile m.recovering number text.now) m.recovering Outside text.now input)) }
+        ensures asked { IfOk result (λ r. (name : List ℕ) (live : ℕ → List ℕ) (w : World) (log : List RecordOf)
+            → StandsFor H.meaning name live self.now w log
+            → IsAsked (post_needs H.meaning w unit number text.now) (post_of H.meaning w unit number text.now) w r) }
+        ensures input { IfOk result (λ r. IfOk r (λ input. (m : MemberOf H.State)
+            → slice_get self.now.members unit ≡ Some m
+            → IsAsking (post_refused self.now.quota.volatile m.recovering number text.now)
+            m.recovering Outside text.now input)) }
     {
         let member = match self.member(unit) {
             Some(member) => member,
@@ -63,8 +68,11 @@ impl<H: Handler> Tenant<H> {
         text: Text,
         worked: Done<H>,
     ) -> Result<Answer, NoMemory>
-        requires { (m : MemberOf H.State) → slice_get self.old.members unit ≡ Some m → IsAsking (post_refused self.old.quota.volatile m.recovering number text) m.recovering Outside text worked.input }
-        ensures done { IfOk result (λ a. DoesAs H.meaning name.now (λ w. post_of H.meaning w unit number text) self.old a.reply self.new) }
+        requires { (m : MemberOf H.State) → slice_get self.old.members unit ≡ Some m
+            → IsAsking (post_refused self.old.quota.volatile m.recovering number text)
+            m.recovering Outside text worked.input }
+        ensures done { IfOk result (λ a.
+            DoesAs H.meaning name.now (λ w. post_of H.meaning w unit number text) self.old a.reply self.new) }
         ensures plain { IfOk result IsPlain }
         ensures shelves { IfOk result (λ _. SameShelves self.old self.new) }
         ensures err { OnErr result (self.new ≡ self.old) }
@@ -106,7 +114,8 @@ impl<H: Handler> Tenant<H> {
         number: u32,
         text: Text,
     ) -> Result<Answer, NoMemory>
-        ensures done { IfOk result (λ a. DoesAs H.meaning name.now (λ w. post_of H.meaning w unit number text) self.old a.reply self.new) }
+        ensures done { IfOk result (λ a.
+            DoesAs H.meaning name.now (λ w. post_of H.meaning w unit number text) self.old a.reply self.new) }
         ensures plain { IfOk result IsPlain }
         ensures shelves { IfOk result (λ _. SameShelves self.old self.new) }
         ensures err { OnErr result (self.new ≡ self.old) }

@@ -29,7 +29,8 @@ impl<H: Handler> Tenant<H> {
         handler: &H,
         step: &TenantStep,
     ) -> Result<Option<Ask<H>>, NoMemory>
-        ensures { IfOk result (λ a. (name : List ℕ) (w : World) (records : List (Option RecordOf)) → Stands H.meaning name self.now w records → a ≡ needs H.meaning w step.now) }
+        ensures { IfOk result (λ a. (name : List ℕ) (w : World) (records : List (Option RecordOf))
+            → Stands H.meaning name self.now w records → a ≡ needs H.meaning w step.now) }
     {
         self.needed(alloc, handler, step)
     }
@@ -40,7 +41,8 @@ impl<H: Handler> Tenant<H> {
         handler: &H,
         step: &TenantStep,
     ) -> Result<Option<Ask<H>>, NoMemory>
-        ensures { IfOk result (λ a. (name : List ℕ) (live : ℕ → List ℕ) (w : World) (log : List RecordOf) → StandsFor H.meaning name live self.now w log → a ≡ needs H.meaning w step.now) }
+        ensures { IfOk result (λ a. (name : List ℕ) (live : ℕ → List ℕ) (w : World) (log : List RecordOf)
+            → StandsFor H.meaning name live self.now w log → a ≡ needs H.meaning w step.now) }
     {
         match step {
             TenantStep::Post { unit, number, text } => {
@@ -69,8 +71,12 @@ impl<H: Handler> Tenant<H> {
         text: Text,
         worked: Done<H>,
     ) -> Result<Option<Answer>, NoMemory>
-        ensures fresh { IfOk result (λ o. (live : ℕ → List ℕ) (w : World) (log : List RecordOf) → StandsFor H.meaning name.now live self.old w log → WasFresh (post_needs H.meaning w unit number text) worked.input o) }
-        ensures done { IfOk result (λ o. IfSome o (λ a. DoesAs H.meaning name.now (λ w. post_of H.meaning w unit number text) self.old a.reply self.new)) }
+        ensures fresh { IfOk result (λ o. (live : ℕ → List ℕ) (w : World) (log : List RecordOf)
+            → StandsFor H.meaning name.now live self.old w log
+            → WasFresh (post_needs H.meaning w unit number text) worked.input o) }
+        ensures done { IfOk result (λ o.
+            IfSome o (λ a.
+            DoesAs H.meaning name.now (λ w. post_of H.meaning w unit number text) self.old a.reply self.new)) }
         ensures plain { IfOk result (λ o. IfSome o IsPlain) }
         ensures shelves { IfOk result (λ o. IfSome o (λ _. SameShelves self.old self.new)) }
         ensures stale { IfOk result (λ o. IfNone o (self.new ≡ self.old)) }
@@ -98,8 +104,12 @@ impl<H: Handler> Tenant<H> {
         letter: Letter,
         worked: Done<H>,
     ) -> Result<Option<Answer>, NoMemory>
-        ensures fresh { IfOk result (λ o. (live : ℕ → List ℕ) (w : World) (log : List RecordOf) → StandsFor H.meaning name.now live self.old w log → WasFresh (deliver_needs H.meaning w letter) worked.input o) }
-        ensures done { IfOk result (λ o. IfSome o (λ a. DoesAs H.meaning name.now (λ w. deliver_of H.meaning w letter) self.old a.reply self.new)) }
+        ensures fresh { IfOk result (λ o. (live : ℕ → List ℕ) (w : World) (log : List RecordOf)
+            → StandsFor H.meaning name.now live self.old w log
+            → WasFresh (deliver_needs H.meaning w letter) worked.input o) }
+        ensures done { IfOk result (λ o.
+            IfSome o (λ a.
+            DoesAs H.meaning name.now (λ w. deliver_of H.meaning w letter) self.old a.reply self.new)) }
         ensures plain { IfOk result (λ o. IfSome o IsPlain) }
         ensures shelves { IfOk result (λ o. IfSome o (λ _. SameShelves self.old self.new)) }
         ensures stale { IfOk result (λ o. IfNone o (self.new ≡ self.old)) }

@@ -46,7 +46,8 @@ fn first_seats<H: Handler>(alloc: Global, members: &[Member<H>]) -> Result<Vec<S
 impl<H: Handler> Tenant<H> {
     /// What is kept of what the unit released.
     fn released_texts(&self, unit: Unit) -> Option<&[Text]>
-        ensures { MatchOption result (slice_get self.now.released unit ≡ None) (λ texts. slice_get self.now.released unit ≡ Some texts.now) }
+        ensures { MatchOption result (slice_get self.now.released unit ≡ None) (λ texts.
+            slice_get self.now.released unit ≡ Some texts.now) }
     {
         if usize::from(unit.number()) < self.outlet.len() {
             Some(self.outlet.released(unit))
@@ -57,7 +58,9 @@ impl<H: Handler> Tenant<H> {
 
     /// The outputs that the unit has released so far, if the unit is there. Takes no memory.
     pub fn released(&self, unit: Unit) -> Option<&[Text]>
-        ensures { (name : List ℕ) (w : World) (records : List (Option Record)) → Stands H.meaning name self.now w records → MatchOption result (released_in w unit ≡ None) (λ texts. released_in w unit ≡ Some texts.now) }
+        ensures { (name : List ℕ) (w : World) (records : List (Option Record))
+            → Stands H.meaning name self.now w records
+            → MatchOption result (released_in w unit ≡ None) (λ texts. released_in w unit ≡ Some texts.now) }
     {
         self.released_texts(unit)
     }
@@ -65,7 +68,8 @@ impl<H: Handler> Tenant<H> {
     /// The rows of the table: where units went back to, in order. Takes no memory.
     #[tactic(auto, unfolding(crate::specs::Stands::Stands))]
     pub fn rollbacks(&self) -> &[Row]
-        ensures { (name : List ℕ) (w : World) (records : List (Option Record)) → Stands H.meaning name self.now w records → result.now ≡ w.table }
+        ensures { (name : List ℕ) (w : World) (records : List (Option Record))
+            → Stands H.meaning name self.now w records → result.now ≡ w.table }
     {
         self.table.known(self.table.len())
     }
@@ -76,7 +80,8 @@ impl<H: Handler> Tenant<H> {
     ///
     /// `NoMemory` where their list finds none.
     pub fn opening_seats(&self, alloc: Global) -> Result<Vec<Seat>, NoMemory>
-        ensures { IfOk result (λ seats. (name : List ℕ) (w : World) (records : List (Option Record)) → Stands H.meaning name self.now w records → seats.items ≡ opening_seats_of w) }
+        ensures { IfOk result (λ seats. (name : List ℕ) (w : World) (records : List (Option Record))
+            → Stands H.meaning name self.now w records → seats.items ≡ opening_seats_of w) }
     {
         let members = self.members.as_slice();
         let seats = first_seats(alloc, members)?;

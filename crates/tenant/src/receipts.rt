@@ -59,7 +59,7 @@ fn copies(alloc: Global, texts: &[Text]) -> Result<Vec<Text>, NoMemory>
 {
     let mut all = Vec::new(alloc);
     for text in texts {
-        all.push(text.copy(alloc)?)?;
+        all.push(text.copy()?)?;
     }
     Ok(all)
 }
@@ -75,7 +75,7 @@ pub(crate) fn ask_upon<H: Handler>(
     ensures asked { IfOk result (λ r. IfOk r (λ input. asking member.now.recovering source text.now ≡ Some input)) }
     ensures down { IfOk result (λ r. IfErr r (λ refusal. (refusal ≡ Down) × (member.now.recovering.progress ≡ None))) }
 {
-    let own_text = text.copy(alloc)?;
+    let own_text = text.copy()?;
     match member.recovering().ask(alloc, handler, source, own_text)? {
         Some(ask) => Ok(Ok(ask)),
         None => Ok(Err(Refusal::Down)),
@@ -95,7 +95,8 @@ fn receive_at<H: Handler>(
     requires within { at < length members.old.items }
     requires few { length logged.vector ≤ 256 }
     requires next { (m : MemberOf H.State) → slice_get members.old.items at ≡ Some m → IsNext m logged worked.input }
-    ensures members { IfOk result (λ _. (m : MemberOf H.State) → slice_get members.old.items at ≡ Some m → members.new.items ≡ slice_set members.old.items at (received_member H.meaning m logged outputs.items)) }
+    ensures members { IfOk result (λ _. (m : MemberOf H.State) → slice_get members.old.items at ≡ Some m
+        → members.new.items ≡ slice_set members.old.items at (received_member H.meaning m logged outputs.items)) }
     ensures letters { IfOk result (λ _. letters.new.items ≡ letters.old.items ++ made.items) }
     ensures err_members { OnErr result (members.new.items ≡ members.old.items) }
     ensures err_letters { OnErr result (letters.new.items ≡ letters.old.items) }
@@ -142,7 +143,6 @@ impl<H: Handler> Tenant<H> {
     /// The record of a receipt, whose interval has this vector.
     fn record_upon(
         &self,
-        alloc: Global,
         name: &TenantName,
         unit: Unit,
         member: &Member<H>,
@@ -157,7 +157,6 @@ impl<H: Handler> Tenant<H> {
         let mark = mark_upon(&self.table, unit, member.recovering());
         let _units = vector.len();
         record_upon(
-            alloc,
             name,
             unit,
             mark,
@@ -179,7 +178,9 @@ impl<H: Handler> Tenant<H> {
         source: Source,
         turn: &Turn<H::State>,
     ) -> Result<Vec<SentLetter>, NoMemory>
-        ensures made { IfOk result (λ made. made.items ≡ letters_of unit vector.now (advanced sessions.now source) (sends_within (length self.now.members) turn.now)) }
+        ensures made { IfOk result (λ made.
+            made.items ≡ letters_of unit vector.now (advanced sessions.now source)
+            (sends_within (length self.now.members) turn.now)) }
         ensures count { IfOk result (λ made. vec_len made ≡ length (sends_within (length self.now.members) turn.now)) }
     {
         let width = self.width();
@@ -230,7 +231,7 @@ impl<H: Handler> Tenant<H> {
     {
         let vector = self.vector_upon(unit, member, arrival)?;
         let made = self.letters_upon(alloc, unit, &vector, sessions, arrival.source, turn)?;
-        let logged = self.record_upon(alloc, name, unit, member, arrival, &vector)?;
+        let logged = self.record_upon(name, unit, member, arrival, &vector)?;
         let outputs = copies(alloc, turn.outputs())?;
         let answer = self.reply_upon(alloc, unit, member, made.len(), turn)?;
         Ok(Plan {
@@ -278,9 +279,11 @@ impl<H: Handler> Tenant<H> {
     ) -> Result<Answer, NoMemory>
         requires within { unit < length self.old.members }
         requires few { length plan.logged.vector ≤ 256 }
-        requires next { (m : MemberOf H.State) → slice_get self.old.members unit ≡ Some m → IsNext m plan.logged worked.input }
+        requires next { (m : MemberOf H.State) → slice_get self.old.members unit ≡ Some m
+            → IsNext m plan.logged worked.input }
         ensures answer { IfOk result (λ a. a ≡ plan.answer) }
-        ensures ok { IfOk result (λ _. (m : MemberOf H.State) → slice_get self.old.members unit ≡ Some m → self.new ≡ received_kept H.meaning self.old unit m plan.logged plan.outputs.items plan.made.items) }
+        ensures ok { IfOk result (λ _. (m : MemberOf H.State) → slice_get self.old.members unit ≡ Some m
+            → self.new ≡ received_kept H.meaning self.old unit m plan.logged plan.outputs.items plan.made.items) }
         ensures err { OnErr result (self.new ≡ self.old) }
     {
         let Plan {

@@ -27,7 +27,9 @@ fn release_member<H: Handler>(
     unit: Unit,
 ) -> Result<(), NoMemory>
     requires { unit < length members.old.items }
-    ensures ok { IfOk result (λ _. (m : MemberOf H.State) (frontier : ℕ) (texts : List (List ℕ)) → slice_get members.old.items unit ≡ Some m → m.unit ≡ unit → slice_get frontiers.now unit ≡ Some frontier → slice_get (released_of outlet.old) unit ≡ Some texts
+    ensures ok { IfOk result (λ _. (m : MemberOf H.State) (frontier : ℕ) (texts : List (List ℕ))
+        → slice_get members.old.items unit ≡ Some m → m.unit ≡ unit → slice_get frontiers.now unit ≡ Some frontier
+        → slice_get (released_of outlet.old) unit ≡ Some texts
         → (members.new.items ≡ with_firm_out members.old.items unit m frontier) × (released_of outlet.new ≡ firm_of (released_of outlet.old) unit m frontier texts)) }
     ensures err_members { OnErr result (members.new.items ≡ members.old.items) }
     ensures err_outlet { OnErr result (released_of outlet.new ≡ released_of outlet.old) }
@@ -45,7 +47,9 @@ fn release_member<H: Handler>(
 impl<H: Handler> Tenant<H> {
     fn release_at(&mut self, unit: Unit) -> Result<(), NoMemory>
         requires { unit < length self.old.members }
-        ensures ok { IfOk result (λ _. (m : MemberOf H.State) (frontier : ℕ) (texts : List (List ℕ)) → slice_get self.old.members unit ≡ Some m → m.unit ≡ unit → slice_get self.old.frontiers unit ≡ Some frontier → slice_get self.old.released unit ≡ Some texts
+        ensures ok { IfOk result (λ _. (m : MemberOf H.State) (frontier : ℕ) (texts : List (List ℕ))
+            → slice_get self.old.members unit ≡ Some m → m.unit ≡ unit
+            → slice_get self.old.frontiers unit ≡ Some frontier → slice_get self.old.released unit ≡ Some texts
             → self.new ≡ record self.old { members = with_firm_out self.old.members unit m frontier; released = firm_of self.old.released unit m frontier texts }) }
         ensures err { OnErr result (self.new ≡ self.old) }
     {
@@ -61,7 +65,9 @@ impl<H: Handler> Tenant<H> {
     /// Copies of the texts of the unit's outputs at the front that are firm.
     fn firm_texts(&self, alloc: Global, unit: Unit) -> Result<Vec<Text>, NoMemory>
         requires { unit < length self.now.members }
-        ensures { IfOk result (λ texts. (m : MemberOf H.State) (frontier : ℕ) → slice_get self.now.members unit ≡ Some m → slice_get self.now.frontiers unit ≡ Some frontier → texts.items ≡ firm_texts m.outputs frontier) }
+        ensures { IfOk result (λ texts. (m : MemberOf H.State) (frontier : ℕ)
+            → slice_get self.now.members unit ≡ Some m → slice_get self.now.frontiers unit ≡ Some frontier
+            → texts.items ≡ firm_texts m.outputs frontier) }
     {
         let at = usize::from(unit.number());
         let member = &self.members[at];
@@ -80,7 +86,8 @@ impl<H: Handler> Tenant<H> {
     pub(crate) fn release(&mut self, alloc: Global, unit: Unit) -> Result<Answer, NoMemory>
         ensures done { IfOk result (λ a. Does H.meaning (λ w. release_of H.meaning w unit) self.old a.reply self.new) }
         ensures plain { IfOk result IsPlain }
-        ensures shelves { IfOk result (λ _. (name : List ℕ) (w : World) (records : List (Option Record)) → Stands H.meaning name self.old w records → SameShelves self.old self.new) }
+        ensures shelves { IfOk result (λ _. (name : List ℕ) (w : World) (records : List (Option Record))
+            → Stands H.meaning name self.old w records → SameShelves self.old self.new) }
         ensures err { OnErr result (self.new ≡ self.old) }
     {
         match self.up_member(unit) {

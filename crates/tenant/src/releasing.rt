@@ -1,7 +1,7 @@
 //! The firm outputs of one unit, on their way out.
 
 ghost use Rattle.std.specs.Prelude.{◌≡◌, ◌≢◌, ◌++◌, ◌∷◌, [], ◌<◌, ◌≤◌, ◌+◌, ◌-◌, ℕ, IfOk, MatchBool, MatchOption, drop, length, slice_index, false};
-ghost use Rattle.output_commit.specs.Holds.{front_is_firm, room_of, texts_of};
+ghost use Rattle.output_commit.specs.Holds.{front_is_firm, room_of, line_texts};
 ghost use Rattle.tenant.specs.Kept.{AreMoved, firm_texts, unfirm};
 
 use model::{NoMemory, Text};
@@ -10,7 +10,9 @@ use std::alloc::Global;
 
 /// The text of the output at this place, where it is of the first so many intervals.
 fn firm_at(hold: &Hold, place: usize, frontier: u64) -> Option<&Text>
-    ensures { MatchOption result (firm_texts (drop place hold.now.outputs) frontier ≡ []) (λ text. firm_texts (drop place hold.now.outputs) frontier ≡ text.now ∷ firm_texts (drop (place + 1) hold.now.outputs) frontier) }
+    ensures { MatchOption result (firm_texts (drop place hold.now.outputs) frontier ≡ []) (λ text.
+        firm_texts (drop place hold.now.outputs) frontier ≡ text.now
+        ∷ firm_texts (drop (place + 1) hold.now.outputs) frontier) }
 {
     let held = hold.at(place)?;
     if u64::from(held.mark.index) < frontier {
@@ -27,7 +29,7 @@ pub(crate) fn copy_firm(alloc: Global, hold: &Hold, frontier: u64) -> Result<Vec
     let mut texts = Vec::new(alloc);
     for place in 0..hold.len() {
         match firm_at(hold, place, frontier) {
-            Some(text) => texts.push(text.copy(alloc)?)?,
+            Some(text) => texts.push(text.copy()?)?,
             None => return Ok(texts),
         }
     }
@@ -40,9 +42,11 @@ fn release_one(hold: &mut Hold, outlet: &mut Outlet, frontiers: &[u64]) -> bool
     requires line { hold.old.unit < length outlet.old }
     requires room { length hold.old.outputs ≤ room_of outlet.old hold.old.unit }
     ensures unit { hold.new.unit ≡ hold.old.unit }
-    ensures moved { AreMoved (slice_index frontiers.now hold.old.unit) hold.old.outputs (texts_of outlet.old hold.old.unit) hold.new.outputs (texts_of outlet.new hold.old.unit) }
-    ensures fewer { MatchBool result (length hold.new.outputs + 1 ≡ length hold.old.outputs) (front_is_firm hold.new frontiers.now ≡ false) }
-    ensures others { (u : ℕ) → u ≢ hold.old.unit → texts_of outlet.new u ≡ texts_of outlet.old u }
+    ensures moved { AreMoved (slice_index frontiers.now hold.old.unit) hold.old.outputs
+        (line_texts outlet.old hold.old.unit) hold.new.outputs (line_texts outlet.new hold.old.unit) }
+    ensures fewer { MatchBool result (length hold.new.outputs + 1 ≡ length hold.old.outputs)
+        (front_is_firm hold.new frontiers.now ≡ false) }
+    ensures others { (u : ℕ) → u ≢ hold.old.unit → line_texts outlet.new u ≡ line_texts outlet.old u }
     ensures len { length outlet.new ≡ length outlet.old }
     ensures left { length hold.new.outputs ≤ room_of outlet.new hold.old.unit }
 {
@@ -67,8 +71,9 @@ pub(crate) fn release_all(hold: &mut Hold, outlet: &mut Outlet, frontiers: &[u64
     requires room { length hold.old.outputs ≤ room_of outlet.old hold.old.unit }
     ensures unit { hold.new.unit ≡ hold.old.unit }
     ensures outputs { hold.new.outputs ≡ unfirm hold.old.outputs (slice_index frontiers.now hold.old.unit) }
-    ensures texts { texts_of outlet.new hold.old.unit ≡ texts_of outlet.old hold.old.unit ++ firm_texts hold.old.outputs (slice_index frontiers.now hold.old.unit) }
-    ensures others { (u : ℕ) → u ≢ hold.old.unit → texts_of outlet.new u ≡ texts_of outlet.old u }
+    ensures texts { line_texts outlet.new hold.old.unit ≡ line_texts outlet.old hold.old.unit
+        ++ firm_texts hold.old.outputs (slice_index frontiers.now hold.old.unit) }
+    ensures others { (u : ℕ) → u ≢ hold.old.unit → line_texts outlet.new u ≡ line_texts outlet.old u }
     ensures len { length outlet.new ≡ length outlet.old }
 {
     for _ in 0..hold.len() {

@@ -5,7 +5,7 @@ ghost use Rattle.model.specs.World.{World, incarnation_of};
 ghost use Rattle.model.specs.declared.steps.TenantStep.TheVariants.{Restart};
 ghost use Rattle.model.specs.Keeping.{after_return};
 ghost use Rattle.tenant.specs.Keeping.{Shelves};
-ghost use Rattle.tenant.specs.Kept.{Kept, restart_refusal as restart_refusal_of};
+ghost use Rattle.tenant.specs.Kept.{TenantState, restart_refusal as restart_refusal_of};
 ghost use Rattle.tenant.specs.Stands.{Did, Stands};
 
 use crate::answer::Answer;
@@ -50,10 +50,12 @@ impl<H: Handler> Tenant<H> {
         log: &mut SharedLog<S>,
     ) -> Result<Answer, NoMemory>
         ensures kept { IfOk result (λ a. a.kept ≡ a.reply) }
-        ensures did { IfOk result (λ a. (w : World) → Stands H.meaning tenant.now self.old w log.old.records → Did H.meaning tenant.now w self.new (Restart unit) a.said a.reply log.old log.new) }
+        ensures did { IfOk result (λ a. (w : World) → Stands H.meaning tenant.now self.old w log.old.records
+            → Did H.meaning tenant.now w self.new (Restart unit) a.said a.reply log.old log.new) }
         ensures shelves { IfOk result (λ a. Shelves (after_return unit a.reply) self.old self.new) }
         // What other tenants stand for stays.
-        ensures others { (k : Kept H.State) (w : World) (other : List ℕ) → bytes_eq other tenant.now ≡ false → Stands H.meaning other k w log.old.records → Stands H.meaning other k w log.new.records }
+        ensures others { (k : TenantState H.State) (w : World) (other : List ℕ) → bytes_eq other tenant.now ≡ false
+            → Stands H.meaning other k w log.old.records → Stands H.meaning other k w log.new.records }
         ensures up { log.old.failures ≤ log.new.failures }
         ensures err { OnErr result (self.new ≡ self.old) }
         ensures err_log { OnErr result (log.new.records ≡ log.old.records) }

@@ -44,7 +44,9 @@ fn fetch_at<S: Store>(
     ensures records { log.new.records ≡ log.old.records }
     ensures places { places_of tenant.now unit log.new ≡ places_of tenant.now unit log.old }
     ensures none { IfOk result (λ o. IfNone o (length (places_of tenant.now unit log.old) ≤ skipped + position)) }
-    ensures some { IfOk result (λ o. IfSome o (λ r. (p : ℕ) × (slice_get (places_of tenant.now unit log.old) (skipped + position) ≡ Some p) × (slice_get log.old.records p ≡ Some (Some r)))) }
+    ensures some { IfOk result (λ o. IfSome o (λ r. (p : ℕ)
+        × (slice_get (places_of tenant.now unit log.old) (skipped + position) ≡ Some p)
+        × (slice_get log.old.records p ≡ Some (Some r)))) }
     ensures device { result ≡ Err StoreFault.Device → HasRisen log.old.failures log.new.failures }
     ensures up { log.old.failures ≤ log.new.failures }
 {
@@ -97,7 +99,8 @@ fn fetch_some<S: Store>(
     log: &mut SharedLog<S>,
 ) -> Result<Vec<Record>, StoreFault>
     ensures records { log.new.records ≡ log.old.records }
-    ensures fetched { IfOk result (λ rs. AreFetched log.old.records (drop skipped (places_of tenant.now unit log.old)) first last rs.items) }
+    ensures fetched { IfOk result (λ rs.
+        AreFetched log.old.records (drop skipped (places_of tenant.now unit log.old)) first last rs.items) }
     ensures device { result ≡ Err StoreFault.Device → HasRisen log.old.failures log.new.failures }
     ensures up { log.old.failures ≤ log.new.failures }
 {
@@ -113,8 +116,10 @@ fn fetch_some<S: Store>(
 
 /// The index of the last interval that the unit at this place keeps, if one is left.
 fn last_kept_at<H: Handler>(members: &[Member<H>], table: &StartTable, at: usize) -> Option<u32>
-    ensures target { IfSome result (λ t. (m : MemberOf H.State) → slice_get members.now at ≡ Some m → IsTarget m.recovering t) }
-    ensures kept { IfSome result (λ t. (m : MemberOf H.State) → slice_get members.now at ≡ Some m → OrphansAreTail table.now m.recovering.intervals → t + 1 ≡ kept_length table.now m.recovering) }
+    ensures target { IfSome result (λ t. (m : MemberOf H.State) → slice_get members.now at ≡ Some m
+        → IsTarget m.recovering t) }
+    ensures kept { IfSome result (λ t. (m : MemberOf H.State) → slice_get members.now at ≡ Some m
+        → OrphansAreTail table.now m.recovering.intervals → t + 1 ≡ kept_length table.now m.recovering) }
 {
     match member_at(members, at) {
         Some(member) => member.last_kept(table),
@@ -133,8 +138,11 @@ fn return_member<H: Handler>(
 )
     requires within { at < length members.old.items }
     requires target { (m : MemberOf H.State) → slice_get members.old.items at ≡ Some m → IsTarget m.recovering target }
-    ensures members { (m : MemberOf H.State) → slice_get members.old.items at ≡ Some m → members.new.items ≡ slice_set members.old.items at (returned_member m target progress known) }
-    ensures lengths { (m : MemberOf H.State) → slice_get members.old.items at ≡ Some m → stable_lengths.new.items ≡ slice_set stable_lengths.old.items at (stable_places (returned m.recovering target progress)) }
+    ensures members { (m : MemberOf H.State) → slice_get members.old.items at ≡ Some m
+        → members.new.items ≡ slice_set members.old.items at (returned_member m target progress known) }
+    ensures lengths { (m : MemberOf H.State) → slice_get members.old.items at ≡ Some m
+        → stable_lengths.new.items
+        ≡ slice_set stable_lengths.old.items at (stable_places (returned m.recovering target progress)) }
 {
     let member = &mut members[at];
     member.return_to(target, progress, known);
@@ -158,7 +166,9 @@ impl<H: Handler> Tenant<H> {
     ) -> Result<Option<Progress<H::State>>, StoreFault>
         requires { IsTarget member.now.recovering target }
         ensures records { log.new.records ≡ log.old.records }
-        ensures replayed { IfOk result (λ p. IsReplayed H.meaning log.old.records (places_of tenant.now unit log.old) member.now.recovering target (length self.now.members) p) }
+        ensures replayed { IfOk result (λ p.
+            IsReplayed H.meaning log.old.records (places_of tenant.now unit log.old) member.now.recovering target
+            (length self.now.members) p) }
         ensures device { result ≡ Err StoreFault.Device → HasRisen log.old.failures log.new.failures }
         ensures up { log.old.failures ≤ log.new.failures }
     {
@@ -178,9 +188,11 @@ impl<H: Handler> Tenant<H> {
         progress: Option<Progress<H::State>>,
     ) -> Result<(), NoMemory>
         requires within { unit < length self.old.members }
-        requires target { (m : MemberOf H.State) → slice_get self.old.members unit ≡ Some m → IsTarget m.recovering target }
+        requires target { (m : MemberOf H.State) → slice_get self.old.members unit ≡ Some m
+            → IsTarget m.recovering target }
         requires room { incarnation_of self.old.table unit < 65535 }
-        ensures ok { OnOk result ((m : MemberOf H.State) → slice_get self.old.members unit ≡ Some m → self.new ≡ gone_back self.old unit m target (incarnation_of self.old.table unit + 1) progress) }
+        ensures ok { OnOk result ((m : MemberOf H.State) → slice_get self.old.members unit ≡ Some m
+            → self.new ≡ gone_back self.old unit m target (incarnation_of self.old.table unit + 1) progress) }
         ensures err { OnErr result (self.new ≡ self.old) }
     {
         self.table.append(Row {
@@ -221,11 +233,14 @@ impl<H: Handler> Tenant<H> {
         log: &mut SharedLog<S>,
     ) -> Result<Answer, NoMemory>
         requires within { unit < length self.old.members }
-        requires target { (m : MemberOf H.State) → slice_get self.old.members unit ≡ Some m → IsTarget m.recovering target }
+        requires target { (m : MemberOf H.State) → slice_get self.old.members unit ≡ Some m
+            → IsTarget m.recovering target }
         requires room { incarnation_of self.old.table unit < 65535 }
         ensures kept { IfOk result (λ a. a.kept ≡ a.reply) }
-        ensures returns { IfOk result (λ a. (m : MemberOf H.State) → slice_get self.old.members unit ≡ Some m → Returns H.meaning tenant.now self.old unit m target reply a self.new log.old log.new) }
-        ensures beside { IfOk result (λ _. Grows log.old.records [] log.new.records × OthersKept tenant.now unit log.old log.new) }
+        ensures returns { IfOk result (λ a. (m : MemberOf H.State) → slice_get self.old.members unit ≡ Some m
+            → Returns H.meaning tenant.now self.old unit m target reply a self.new log.old log.new) }
+        ensures beside { IfOk result (λ _. Grows log.old.records [] log.new.records
+            × OthersKept tenant.now unit log.old log.new) }
         ensures up { log.old.failures ≤ log.new.failures }
         ensures err { OnErr result (self.new ≡ self.old) }
         ensures err_log { OnErr result (log.new.records ≡ log.old.records) }
@@ -257,8 +272,11 @@ impl<H: Handler> Tenant<H> {
 
     /// The index of the last interval that the unit keeps, if one is left.
     pub(crate) fn last_kept(&self, unit: Unit) -> Option<u32>
-        ensures target { IfSome result (λ t. (m : MemberOf H.State) → slice_get self.now.members unit ≡ Some m → IsTarget m.recovering t) }
-        ensures kept { IfSome result (λ t. (m : MemberOf H.State) → slice_get self.now.members unit ≡ Some m → OrphansAreTail self.now.table m.recovering.intervals → t + 1 ≡ kept_length self.now.table m.recovering) }
+        ensures target { IfSome result (λ t. (m : MemberOf H.State) → slice_get self.now.members unit ≡ Some m
+            → IsTarget m.recovering t) }
+        ensures kept { IfSome result (λ t. (m : MemberOf H.State) → slice_get self.now.members unit ≡ Some m
+            → OrphansAreTail self.now.table m.recovering.intervals
+            → t + 1 ≡ kept_length self.now.table m.recovering) }
     {
         let members = self.members.as_slice();
         last_kept_at(members, &self.table, usize::from(unit.number()))

@@ -30,7 +30,8 @@ struct Standing {
 
 impl Standing {
     fn reply(&self) -> Reply
-        ensures { result ≡ Status self.now.at self.now.held self.now.known self.now.outside self.now.released self.now.rows self.now.stable self.now.up self.now.volatile }
+        ensures { result ≡ Status self.now.at self.now.held self.now.known self.now.outside self.now.released
+            self.now.rows self.now.stable self.now.up self.now.volatile }
     {
         Reply::Status {
             at: self.at,
@@ -49,7 +50,8 @@ impl Standing {
 impl<H: Handler> Tenant<H> {
     /// What a unit is at, as the step `status` tells it. Takes no memory.
     pub fn status(&self, unit: Unit) -> Reply
-        ensures { (name : List ℕ) (w : World) (records : List (Option Record)) → Stands H.meaning name self.now w records → result ≡ (status_of H.meaning w unit).reply }
+        ensures { (name : List ℕ) (w : World) (records : List (Option Record))
+            → Stands H.meaning name self.now w records → result ≡ (status_of H.meaning w unit).reply }
     {
         self.answer_status(unit).reply
     }

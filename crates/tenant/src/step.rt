@@ -3,7 +3,7 @@
 ghost use Rattle.std.specs.Prelude.{◌≡◌, ◌≤◌, IfNone, IfOk, IfSome, OnErr, List, ℕ, false, bytes_eq};
 ghost use Rattle.model.specs.World.{World};
 ghost use Rattle.tenant.specs.Keeping.{KeepsOn};
-ghost use Rattle.tenant.specs.Kept.{Kept};
+ghost use Rattle.tenant.specs.Kept.{TenantState};
 ghost use Rattle.tenant.specs.Needs.{WasFresh, needs};
 ghost use Rattle.tenant.specs.Stands.{Did, Stands};
 
@@ -26,11 +26,14 @@ impl<H: Handler> Tenant<H> {
         log: &mut SharedLog<S>,
     ) -> Result<Answer, NoMemory>
         ensures kept { IfOk result (λ a. a.kept ≡ a.reply) }
-        ensures did { IfOk result (λ a. (w : World) → Stands H.meaning name.now self.old w log.old.records → Did H.meaning name.now w self.new step a.said a.reply log.old log.new) }
+        ensures did { IfOk result (λ a. (w : World) → Stands H.meaning name.now self.old w log.old.records
+            → Did H.meaning name.now w self.new step a.said a.reply log.old log.new) }
         // It keeps of its past what the rules of keeping leave.
-        ensures keeps_on { IfOk result (λ a. KeepsOn H.meaning name.now self.old step a.said a.reply self.new log.old.records) }
+        ensures keeps_on { IfOk result (λ a.
+            KeepsOn H.meaning name.now self.old step a.said a.reply self.new log.old.records) }
         // What other tenants stand for stays.
-        ensures others { (k : Kept H.State) (w : World) (other : List ℕ) → bytes_eq other name.now ≡ false → Stands H.meaning other k w log.old.records → Stands H.meaning other k w log.new.records }
+        ensures others { (k : TenantState H.State) (w : World) (other : List ℕ) → bytes_eq other name.now ≡ false
+            → Stands H.meaning other k w log.old.records → Stands H.meaning other k w log.new.records }
         // The count of the device's failures never falls.
         ensures up { log.old.failures ≤ log.new.failures }
         ensures err { OnErr result (self.new ≡ self.old) }
@@ -65,14 +68,19 @@ impl<H: Handler> Tenant<H> {
         worked: Done<H>,
         log: &mut SharedLog<S>,
     ) -> Result<Option<Answer>, NoMemory>
-        ensures fresh { IfOk result (λ o. (w : World) → Stands H.meaning name.now self.old w log.old.records → WasFresh (needs H.meaning w step) worked.input o) }
+        ensures fresh { IfOk result (λ o. (w : World) → Stands H.meaning name.now self.old w log.old.records
+            → WasFresh (needs H.meaning w step) worked.input o) }
         ensures kept { IfOk result (λ o. IfSome o (λ a. a.kept ≡ a.reply)) }
-        ensures did { IfOk result (λ o. IfSome o (λ a. (w : World) → Stands H.meaning name.now self.old w log.old.records → Did H.meaning name.now w self.new step a.said a.reply log.old log.new)) }
-        ensures keeps_on { IfOk result (λ o. IfSome o (λ a. KeepsOn H.meaning name.now self.old step a.said a.reply self.new log.old.records)) }
+        ensures did { IfOk result (λ o. IfSome o (λ a. (w : World)
+            → Stands H.meaning name.now self.old w log.old.records
+            → Did H.meaning name.now w self.new step a.said a.reply log.old log.new)) }
+        ensures keeps_on { IfOk result (λ o.
+            IfSome o (λ a. KeepsOn H.meaning name.now self.old step a.said a.reply self.new log.old.records)) }
         ensures stale { IfOk result (λ o. IfNone o (self.new ≡ self.old)) }
         ensures stale_log { IfOk result (λ o. IfNone o (log.new ≡ log.old)) }
         // What other tenants stand for stays.
-        ensures others { (k : Kept H.State) (w : World) (other : List ℕ) → bytes_eq other name.now ≡ false → Stands H.meaning other k w log.old.records → Stands H.meaning other k w log.new.records }
+        ensures others { (k : TenantState H.State) (w : World) (other : List ℕ) → bytes_eq other name.now ≡ false
+            → Stands H.meaning other k w log.old.records → Stands H.meaning other k w log.new.records }
         // The count of the device's failures never falls.
         ensures up { log.old.failures ≤ log.new.failures }
         ensures err { OnErr result (self.new ≡ self.old) }

@@ -27,9 +27,9 @@ pub struct Tenant<H: Handler> {
 }
 
 impl<H: Handler> Model for Tenant<H> {
-    ghost use Rattle.tenant.specs.Kept.{Kept, released_of};
+    ghost use Rattle.tenant.specs.Kept.{TenantState, released_of};
 
-    ghost Value = { Kept H.State };
+    ghost Value = { TenantState H.State };
 
     ghost view = { λ t. record { quota = t.quota; optimism = t.optimism; table = t.table; members = t.members.items; stable_lengths = t.stable_lengths.items; frontiers = t.frontiers.items; released = released_of t.outlet; letters = t.letters.items } };
 }
@@ -37,7 +37,8 @@ impl<H: Handler> Model for Tenant<H> {
 impl<H: Handler> Tenant<H> {
     /// The unit of this number.
     pub(crate) fn member(&self, unit: Unit) -> Option<&Member<H>>
-        ensures { MatchOption result (slice_get self.now.members unit ≡ None) (λ m. slice_get self.now.members unit ≡ Some m.now) }
+        ensures { MatchOption result (slice_get self.now.members unit ≡ None) (λ m.
+            slice_get self.now.members unit ≡ Some m.now) }
     {
         self.members.get(usize::from(unit.number()))
     }

@@ -1,7 +1,7 @@
 //! The outputs of a unit that wait, of which those of the last interval can be taken back.
 
 ghost use Rattle.std.specs.Prelude.{◌≡◌, ◌++◌, [], ◌<◌, ◌≤◌, ◌≢◌, ℕ, IfOk, OnErr, length, slice_index};
-ghost use Rattle.output_commit.specs.Holds.{below, held_of, room_of, texts_of};
+ghost use Rattle.output_commit.specs.Holds.{held_below, held_of, room_of, line_texts};
 ghost use Rattle.tenant.specs.Kept.{firm_texts, unfirm};
 
 use crate::releasing;
@@ -54,8 +54,9 @@ impl Waiting {
     ///
     /// `NoMemory` where they find no memory, or where those that wait are not all of earlier places; they stay.
     pub(crate) fn add(&mut self, mark: Mark, texts: Vec<Text>) -> Result<(), NoMemory>
-        ensures ok { IfOk result (λ _. self.new ≡ record self.old { outputs = self.old.outputs ++ held_of mark texts.items }) }
-        ensures back { IfOk result (λ _. below self.new.outputs mark.index ≡ self.old.outputs) }
+        ensures ok { IfOk result (λ _.
+            self.new ≡ record self.old { outputs = self.old.outputs ++ held_of mark texts.items }) }
+        ensures back { IfOk result (λ _. held_below self.new.outputs mark.index ≡ self.old.outputs) }
         ensures err { OnErr result (self.new ≡ self.old) }
     {
         if u64::from(mark.index) < self.top {
@@ -68,7 +69,7 @@ impl Waiting {
 
     /// Gives up the outputs from the first one on whose interval is not below the index.
     pub(crate) fn cut(&mut self, index: u32)
-        ensures { self.new ≡ record self.old { outputs = below self.old.outputs index } }
+        ensures { self.new ≡ record self.old { outputs = held_below self.old.outputs index } }
     {
         self.hold.cut(index);
         if u64::from(index) < self.top {
@@ -88,9 +89,13 @@ impl Waiting {
         requires front { self.old.unit < length frontiers.now }
         requires line { self.old.unit < length outlet.old }
         requires room { length self.old.outputs ≤ room_of outlet.old self.old.unit }
-        ensures waits { self.new ≡ record self.old { outputs = unfirm self.old.outputs (slice_index frontiers.now self.old.unit) } }
-        ensures texts { texts_of outlet.new self.old.unit ≡ texts_of outlet.old self.old.unit ++ firm_texts self.old.outputs (slice_index frontiers.now self.old.unit) }
-        ensures others { (u : ℕ) → u ≢ self.old.unit → texts_of outlet.new u ≡ texts_of outlet.old u }
+        ensures waits { self.new ≡ record self.old {
+          outputs = unfirm self.old.outputs
+              (slice_index frontiers.now self.old.unit);
+        } }
+        ensures texts { line_texts outlet.new self.old.unit ≡ line_texts outlet.old self.old.unit
+            ++ firm_texts self.old.outputs (slice_index frontiers.now self.old.unit) }
+        ensures others { (u : ℕ) → u ≢ self.old.unit → line_texts outlet.new u ≡ line_texts outlet.old u }
         ensures len { length outlet.new ≡ length outlet.old }
     {
         releasing::release_all(&mut self.hold, outlet, frontiers);

@@ -20,7 +20,7 @@ use Rattle.model.proofs.Places.{get_below}
 use Rattle.theory.proofs.ListLaws.{bool_cases, has_sender}
 use Rattle.theory.proofs.Pasts.{first_step, from_parent, depends_le}
 use Rattle.theory.proofs.Invariants.{Sound}
-use Rattle.theory.proofs.Firm.{Stands, firm_stands, stands_firm}
+use Rattle.theory.proofs.Firm.{StandsStable, firm_stands, stands_firm}
 use Rattle.theory.proofs.Chain.{Chain}
 use Rattle.theory.proofs.Sending.{Received, turns_are}
 use Rattle.theory.proofs.Simulation.{Matches, one_more, more_here, more_other, outside_step, letter_step, begin_step, join_step, matches_same, state_after, texts_to, taken_from, fold_append, Receipts}
@@ -264,7 +264,7 @@ module _ {S : Type 0} (M : Meaning S) (w : World) (c : Chain w) (o : ℕ) (k : C
       seat_parts q unit kind e f g = λ i. record { unit = e i; kind = f i; home = g i }
 
   -- the path that a firm node stands on
-  standing : (x : ℕ) → x < length w.nodes → is_firm w x ≡ true → Stands w.members x
+  standing : (x : ℕ) → x < length w.nodes → is_firm w x ≡ true → StandsStable w.members x
   standing x h firm = firm_stands w x x s.placed h firm itself
 
   sends_now : (x : ℕ) → x < length w.nodes → is_began (node_at w.nodes x).cause ≡ false → sends_in M w x ≡ filter (λ q. nat_lt q.0 (units_at o w.nodes x)) (turn_in M w x).sends

@@ -48,7 +48,7 @@ Passed [] = Unit {0}
 Passed (t ∷ tests) = (t.0 ≡ false) × Passed tests
 
 -- where no test refuses, all pass
-none_refuses : (tests : List (Bool × Refusal)) → first_refusal tests ≡ None → Passed tests
+pub none_refuses : (tests : List (Bool × Refusal)) → first_refusal tests ≡ None → Passed tests
 unfolding first_refusal
 none_refuses [] e = tt
 none_refuses (t ∷ tests) e = go (none_refuses tests) t.0 refl e

@@ -18,7 +18,7 @@ use Rattle.theory.proofs.Changes.Change.{unchanged, receives, flushes, dies, goe
 use Rattle.theory.proofs.Invariants.{Sound, SoundMember, not_orphan, sound_change}
 
 -- the node stands on a path within its stable length
-pub record Stands (members : List Member) (y : ℕ) : Type 0 where
+pub record StandsStable (members : List Member) (y : ℕ) : Type 0 where
   pub unit : ℕ
   pub member : Member
   pub place : ℕ
@@ -27,7 +27,7 @@ pub record Stands (members : List Member) (y : ℕ) : Type 0 where
   pub logged : place < member.stable
 
 -- a stable node stands on a path within its stable length
-pub stable_stands : (members : List Member) (y : ℕ) → is_stable members y ≡ true → Stands members y
+pub stable_stands : (members : List Member) (y : ℕ) → is_stable members y ≡ true → StandsStable members y
 stable_stands members y e =
     let r = any_at (λ m. has (stable_path m) y) members e in
     let m = r.1.0 in
@@ -36,24 +36,24 @@ stable_stands members y e =
     record { unit = r.0; member = m; place = k.0; found = r.1.1; on_path = t.0; logged = t.1 }
 
 -- and a node that stands so is stable
-pub stands_stable : (members : List Member) (y : ℕ) → Stands members y → is_stable members y ≡ true
+pub stands_stable : (members : List Member) (y : ℕ) → StandsStable members y → is_stable members y ≡ true
 stands_stable members y s =
     at_any (λ m. has (stable_path m) y) members s.unit s.member s.found
     (at_has (stable_path s.member) s.place y (take_get s.member.path s.member.stable s.place y s.logged s.on_path))
 
 -- what a firm node depends on stands so
-pub firm_stands : (w : World) (x y : ℕ) → Placed w.nodes → x < length w.nodes → is_firm w x ≡ true → DependsOn w.nodes x y → Stands w.members y
+pub firm_stands : (w : World) (x y : ℕ) → Placed w.nodes → x < length w.nodes → is_firm w x ≡ true → DependsOn w.nodes x y → StandsStable w.members y
 firm_stands w x y placed within firm d =
     let le = depends_le placed d in
     stable_stands w.members y (all_has (is_stable w.members) (past w.nodes x) firm y (depends_past w.nodes placed x y d (omega arith)))
 
 -- and a node is firm where all of that does
-pub stands_firm : (w : World) (x : ℕ) → ((y : ℕ) → DependsOn w.nodes x y → Stands w.members y) → is_firm w x ≡ true
+pub stands_firm : (w : World) (x : ℕ) → ((y : ℕ) → DependsOn w.nodes x y → StandsStable w.members y) → is_firm w x ≡ true
 stands_firm w x h = has_all (is_stable w.members) (past w.nodes x) (λ y e. stands_stable w.members y (h y (past_depends w.nodes x y e)))
 
 -- what stands goes on standing where its unit's new path has it too
 stands_set : (members : List Member) (y u : ℕ) (m n : Member) → slice_get members u ≡ Some m
-    → ((i : ℕ) → slice_get m.path i ≡ Some y → i < m.stable → (slice_get n.path i ≡ Some y) × (i < n.stable)) → Stands members y → Stands (slice_set members u n) y
+    → ((i : ℕ) → slice_get m.path i ≡ Some y → i < m.stable → (slice_get n.path i ≡ Some y) × (i < n.stable)) → StandsStable members y → StandsStable (slice_set members u n) y
 stands_set members y u m n found goes s = elim (ℕ_discrete s.unit u) [
   | yes e ↦
       let is : s.member ≡ m = same_Some s.member m (sym s.found ∙ rw e found) in
@@ -78,7 +78,7 @@ path_depends {nodes} {m = m} s (suc i) j y z e f le = elim (ℕ_discrete j (suc 
 
 module _ {S : Type 0} (M : Meaning S) where
   -- going back cuts no firm node
-  back_stands : (v : World) → Sound v → (x : ℕ) → ((y : ℕ) → DependsOn v.nodes x y → Stands v.members y) → (u : ℕ) (m : Member) → slice_get v.members u ≡ Some m
+  back_stands : (v : World) → Sound v → (x : ℕ) → ((y : ℕ) → DependsOn v.nodes x y → StandsStable v.members y) → (u : ℕ) (m : Member) → slice_get v.members u ≡ Some m
       → (y i : ℕ) → DependsOn v.nodes x y → slice_get m.path i ≡ Some y → slice_get (path_kept v m) i ≡ Some y
   back_stands v s x firm u m found y i d e = kept_if_all_pass _ m.path i y e (λ j z le f.
       let safe : is_orphan v.nodes v.table z ≡ false = not_orphan v.nodes v.table z (λ q g.

@@ -16,6 +16,7 @@ use Rattle.model.specs.Handler.{Meaning}
 use Rattle.model.specs.Lists.{has, from_end}
 use Rattle.model.specs.Nodes.{node_at, past, begun, DependsOn}
 use Rattle.model.specs.World.{World, Member, executed, is_orphan, is_stable, is_firm, incarnation_of, held, path_outputs, releasable}
+use Rattle.model.specs.Records.{quiet}
 use Rattle.model.specs.Steps.{Outcome, first_refusal, outcome_or, unless, at_up, with_member, gone_back, path_kept, row_for, fresh, kill, restart, notice, notice_orphan, notice_rows, release, is_down, going_back_tests, with_place, flushed, killed, back_at, with_known, with_released}
 use Rattle.model.specs.Alone.{Event, step, step_open, course_from, Reachable}
 use Rattle.model.specs.Alone.Reachable.{opened, stepped}
@@ -36,9 +37,6 @@ use Rattle.theory.proofs.ChainKept.{chain_back, chain_change}
 use Rattle.theory.proofs.Released.{pairs_seconds, pairs_of, pairs_front, Closed, firm_closed, release_all}
 use Rattle.theory.proofs.Certificate.{Invariant, reachable_invariant}
 
-abbrev quiet : Said
-quiet = record { appended = 0; end = Whole }
-
 -- ---- what the steps do
 
 passed_none : (tests : List (Bool × Refusal)) → Passed tests → first_refusal tests ≡ None
@@ -49,7 +47,7 @@ passed_none (t ∷ tests) h = rw h.0 (passed_none tests h.1)
 unless_pass : (w : World) (tests : List (Bool × Refusal)) (out : Outcome) → Passed tests → unless w tests out ≡ out
 unless_pass w tests out h = ap (outcome_or w out) (passed_none tests h)
 
-at_up_found : (w : World) (u : ℕ) (f : Member → Outcome) (m : Member) → slice_get w.members u ≡ Some m → m.up ≡ true → at_up w u f ≡ f m
+pub at_up_found : (w : World) (u : ℕ) (f : Member → Outcome) (m : Member) → slice_get w.members u ≡ Some m → m.up ≡ true → at_up w u f ≡ f m
 unfolding at_up
 at_up_found w u f m e up = at_unit_found w u _ m e ∙ unless_pass w (is_down m ∷ []) (f m) (ap not up, tt)
 

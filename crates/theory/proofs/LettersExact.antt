@@ -19,7 +19,7 @@ use Rattle.theory.proofs.Sending.{turns_length}
 
 -- ---- sends
 
-sends_length : {S : Type 0} (M : Meaning S) (nodes : List Node) → length (execution M nodes).sends ≡ length nodes
+pub sends_length : {S : Type 0} (M : Meaning S) (nodes : List Node) → length (execution M nodes).sends ≡ length nodes
 sends_length M [] = refl
 sends_length M (n ∷ older) = ap suc (sends_length M older)
 

@@ -94,7 +94,7 @@ pub pairs_seconds : {Y : Type 0} (f : ℕ → List Y) (path : List ℕ) → map 
 pairs_seconds f [] = refl
 pairs_seconds {Y} f (x ∷ xs) = map-append (λ (o : ℕ × Y). o.1) (map (λ t. (x, t)) (f x)) (pairs_of f xs) ∙ ap (λ t. t ++ map (λ (o : ℕ × Y). o.1) (pairs_of f xs)) (second_pairs x (f x)) ∙ ap (λ t. f x ++ t) (pairs_seconds f xs)
 
-take_while_drop : {X : Type 0} (p : X → Bool) (k : ℕ) (xs : List X) → k ≤ length (take_while p xs) → take_while p (drop k xs) ≡ drop k (take_while p xs)
+pub take_while_drop : {X : Type 0} (p : X → Bool) (k : ℕ) (xs : List X) → k ≤ length (take_while p xs) → take_while p (drop k xs) ≡ drop k (take_while p xs)
 take_while_drop p zero xs h = refl
 take_while_drop p (suc k) [] h = refl
 take_while_drop p (suc k) (x ∷ xs) h = elim (bool_cases (p x)) [

@@ -67,7 +67,7 @@ drop_append zero xs ys h = refl
 drop_append (suc k) [] ys h = absurd (omega arith)
 drop_append (suc k) (x ∷ xs) ys h = drop_append k xs ys (omega arith)
 
-drop_at : {X : Type 0} (xs : List X) (k : ℕ) (x : X) → slice_get xs k ≡ Some x → drop k xs ≡ x ∷ drop (suc k) xs
+pub drop_at : {X : Type 0} (xs : List X) (k : ℕ) (x : X) → slice_get xs k ≡ Some x → drop k xs ≡ x ∷ drop (suc k) xs
 drop_at [] k x e = cc
 drop_at (y ∷ ys) zero x e = let q = same_Some y x e in rw q refl
 drop_at (y ∷ ys) (suc k) x e = drop_at ys k x e

@@ -20,7 +20,7 @@ use Rattle.theory.proofs.Certificate.{reachable_invariant}
 
 -- ---- marks and tests
 
-row_told : (rows : List Row) (n : Node) → Told rows n → is_told rows n ≡ true
+pub row_told : (rows : List Row) (n : Node) → Told rows n → is_told rows n ≡ true
 row_told rows n (inl e) = or_left (n.incarnation == 0) (list_any (λ r. (r.unit == n.unit) && (r.incarnation == n.incarnation)) rows) (true_eq n.incarnation 0 e)
 row_told rows n (inr t) = or_right (n.incarnation == 0) (list_any (λ r. (r.unit == n.unit) && (r.incarnation == n.incarnation)) rows)
     (at_any (λ r. (r.unit == n.unit) && (r.incarnation == n.incarnation)) rows t.at_place t.row t.found (both_and _ _ (true_eq _ _ t.of_unit) (true_eq _ _ t.same)))

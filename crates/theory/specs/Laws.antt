@@ -1,6 +1,7 @@
 -- The laws of one tenant, each of every world that it can come to.
 use Rattle.std.specs.Prelude.{◌≡◌, ◌≢◌, ◌⊎◌, ℕ, ◌-◌, ◌<◌, ◌≤◌, Bool, true, false, cond, not, ◌||◌, ◌&&◌, ◌==◌, nat_lt, take, List, [], ◌∷◌, ◌++◌, length, Option, Some, None, slice_get}
 use Rattle.std.specs.List.{take_while, flat_map, list_any, filter, fold}
+use Rattle.model.specs.declared.limits.TheConstants.{MAX_INCARNATION}
 use Rattle.model.specs.declared.names.Mark.{Mark}
 use Rattle.model.specs.Records.{vector_of}
 use mathlib.Core.List.{IsPrefix}
@@ -96,7 +97,7 @@ CanGo M w u x = (events : List Event) × OnceEach events × AllRecover events
 -- the node of the first held output can go.
 abbrev pub HeldCanGo : {S : Type 0} → Meaning S → Type 0
 HeldCanGo M = (v w : World) (e : Event) (u : ℕ) (m : Member) → Reachable M v → slice_get v.members u ≡ Some m → m.up ≡ true → e.step ≡ Release u → (step M (Some v) e).world ≡ Some w
-    → ((y : ℕ) → y < length w.members → incarnation_of w.table y ≢ 65535)
+    → ((y : ℕ) → y < length w.members → incarnation_of w.table y ≢ MAX_INCARNATION)
     → (n : Member) → slice_get w.members u ≡ Some n → (x : ℕ) (text : List ℕ) (rest : List (ℕ × List ℕ)) → held M w n ≡ (x, text) ∷ rest → CanGo M w u x
 
 -- ---- vectors
@@ -212,5 +213,5 @@ NumbersAlongPaths M = (w : World) → Reachable M w → (u : ℕ) (m : Member) �
 
 -- a node of a path that is not firm can go, where its unit is up
 abbrev pub LaxCanGo : {S : Type 0} → Meaning S → Type 0
-LaxCanGo M = (w : World) → Reachable M w → ((y : ℕ) → y < length w.members → incarnation_of w.table y ≢ 65535)
+LaxCanGo M = (w : World) → Reachable M w → ((y : ℕ) → y < length w.members → incarnation_of w.table y ≢ MAX_INCARNATION)
     → (u : ℕ) (m : Member) → slice_get w.members u ≡ Some m → m.up ≡ true → (x : ℕ) → has m.path x ≡ true → is_firm w x ≡ false → CanGo M w u x

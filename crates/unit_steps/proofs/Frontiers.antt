@@ -10,16 +10,11 @@ use Rattle.model.proofs.Places.{get_below}
 use Rattle.rollback.specs.Units.{Recovering, places}
 use Rattle.unit_steps.specs.Receipts.{frontier_of}
 use Rattle.compact.proofs.Tails as tails
+use Rattle.theory.proofs.Simulation.{drop_at}
 
 -- a vector is firm where none of its entries is counted as unstable
 pub firm_by_count : FirmByCount
 firm_by_count rows stable_lengths vector = tails.firm_by_count rows stable_lengths vector
-
--- the element at a place stands before those behind it
-drop_at : {X : Type 0} (xs : List X) (k : ℕ) (x : X) → slice_get xs k ≡ Some x → drop k xs ≡ x ∷ drop (suc k) xs
-drop_at [] k x e = cc
-drop_at (y ∷ ys) zero x e = let q = same_Some y x e in rw q refl
-drop_at (y ∷ ys) (suc k) x e = drop_at ys k x e
 
 drop_past : {X : Type 0} (xs : List X) (k : ℕ) → length xs ≤ k → drop k xs ≡ []
 drop_past [] zero h = refl

@@ -1,5 +1,6 @@
 -- What the steps of a tenant compute at one unit, by what its recovery unit keeps.
 use Rattle.std.specs.Prelude.{◌≡◌, ◌≤◌, ℕ, ◌+◌, ◌-◌, Bool, true, not, nat_lt, nat_le, List, [], ◌∷◌, ◌++◌, length, drop, take, map, slice_get, Option, Some, None, is_some, slice_set, slice_index_or}
+use Rattle.model.specs.declared.limits.TheConstants.{MAX_INDEX}
 use Rattle.model.specs.declared.names.Mark.{Mark}
 use Rattle.model.specs.declared.names.Quota.{Quota}
 use Rattle.model.specs.declared.names.Row.{Row}
@@ -24,7 +25,7 @@ use Rattle.rollback.specs.Units.{Recovering, places, unknown}
 -- whether the unit has room for one more receipt
 abbrev pub room_tests : {S : Type 0} → ℕ → Recovering S → List ℕ → List (Bool × Refusal)
 room_tests volatile_quota r text =
-    (nat_le 4294967295 (places r - 1), Limit)
+    (nat_le MAX_INDEX (places r - 1), Limit)
     ∷ (nat_le volatile_quota (length r.volatile), OverQuota)
     ∷ (is_long text, TooMuch)
     ∷ []

@@ -15,7 +15,8 @@ use rollback::RecoveryUnit;
 /// Whether all that an interval of this vector depends on is stable. A vector of more units than there are is not firm.
 #[tactic(auto, using(crate::proofs::Frontiers::firm_by_count))]
 fn is_firm(table: &StartTable, stable_lengths: &[u64], vector: &DepVector) -> bool
-    ensures { length vector.now ≤ length stable_lengths.now → result ≡ is_firm_by table.now stable_lengths.now vector.now }
+    ensures { length vector.now ≤ length stable_lengths.now
+        → result ≡ is_firm_by table.now stable_lengths.now vector.now }
 {
     vector.len() <= stable_lengths.len() && unstable_units(vector, table, stable_lengths) == 0
 }
@@ -29,7 +30,9 @@ fn is_firm_at<H: Handler>(
 ) -> bool
     requires base { recovering.now.base ≤ index }
     requires path { index < places recovering.now }
-    ensures { NoLonger (length stable_lengths.now) recovering.now.intervals → (x : IntervalOf) → slice_get recovering.now.intervals (index - recovering.now.base) ≡ Some x → result ≡ is_firm_by table.now stable_lengths.now x.vector }
+    ensures { NoLonger (length stable_lengths.now) recovering.now.intervals → (x : IntervalOf)
+        → slice_get recovering.now.intervals (index - recovering.now.base) ≡ Some x
+        → result ≡ is_firm_by table.now stable_lengths.now x.vector }
 {
     let interval = recovering.interval(index);
     is_firm(table, stable_lengths, &interval.vector)
@@ -43,7 +46,8 @@ pub fn frontier_after<H: Handler>(
     recovering: &RecoveryUnit<H>,
     frontier: u64,
 ) -> u64
-    ensures { IsFrontier (length stable_lengths.now) recovering.now frontier → result ≡ frontier_of table.now stable_lengths.now recovering.now frontier }
+    ensures { IsFrontier (length stable_lengths.now) recovering.now frontier
+        → result ≡ frontier_of table.now stable_lengths.now recovering.now frontier }
 {
     if frontier < u64::from(recovering.base()) {
         return frontier;

@@ -52,7 +52,14 @@ fn letter_of(
     text: Text,
     number: u64,
 ) -> Result<SentLetter, NoMemory>
-    ensures { IfOk result (λ l. l ≡ record { source = unit; receiver = receiver; number = number; content = Some (record { text = text; vector = vector.now }) }) }
+    ensures { IfOk result (λ l.
+        l ≡ record {
+          source = unit;
+          receiver = receiver;
+          number = number;
+          content = Some
+              (record { text = text; vector = vector.now });
+        }) }
 {
     let vector = vector.copy()?;
     Ok(SentLetter {
@@ -75,13 +82,14 @@ fn letters_from(
 ) -> Result<Vec<SentLetter>, NoMemory>
     requires within { width ≤ length counts.old.units }
     requires room { (u : ℕ) → sent_to counts.old u + length sends.now < 2 ^ 64 }
-    ensures { IfOk result (λ made. made.items ≡ letters_of unit vector.now counts.old (filter (λ s. nat_lt s.0 width) sends.now)) }
+    ensures { IfOk result (λ made.
+        made.items ≡ letters_of unit vector.now counts.old (filter (λ s. nat_lt s.0 width) sends.now)) }
 {
     let mut made = Vec::new(alloc);
     for send in sends {
         if usize::from(send.0.number()) < width {
             let number = counts.number_to(send.0);
-            let text = send.1.copy(alloc)?;
+            let text = send.1.copy()?;
             made.push(letter_of(unit, vector, send.0, text, number)?)?;
             counts.sent(send.0);
         }
@@ -118,7 +126,9 @@ pub fn letters_by(
     sends: &[(Unit, Text)],
     width: usize,
 ) -> Result<Vec<SentLetter>, NoMemory>
-    ensures { IfOk result (λ made. made.items ≡ letters_of unit vector.now (advanced sessions.now source) (filter (λ s. nat_lt s.0 width) sends.now)) }
+    ensures { IfOk result (λ made.
+        made.items ≡ letters_of unit vector.now (advanced sessions.now source) (filter (λ s.
+        nat_lt s.0 width) sends.now)) }
 {
     if sends.is_empty() {
         return Ok(Vec::new(alloc));

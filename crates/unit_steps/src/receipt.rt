@@ -9,7 +9,6 @@ use handler::Handler;
 use incarnation::StartTable;
 use model::{Letter, Mark, NoMemory, Record, Source, TenantName, Text, Unit};
 use rollback::RecoveryUnit;
-use std::alloc::Global;
 
 /// The mark of the interval that a receipt makes, where the path isn't full.
 pub fn mark_upon<H: Handler>(table: &StartTable, unit: Unit, recovering: &RecoveryUnit<H>) -> Mark
@@ -43,7 +42,8 @@ pub fn vector_upon<H: Handler>(
     letter: &DepVector,
 ) -> Result<DepVector, NoMemory>
     requires { width ≤ 256 }
-    ensures { IfOk result (λ v. places recovering.now < 2 ^ 32 → v ≡ vector_upon_of table.now width unit recovering.now letter.now) }
+    ensures { IfOk result (λ v. places recovering.now < 2 ^ 32
+        → v ≡ vector_upon_of table.now width unit recovering.now letter.now) }
 {
     let mut vector = last_vector(recovering).copy()?;
     vector.widen(width)?;
@@ -62,9 +62,8 @@ pub fn vector_upon<H: Handler>(
 ///
 /// # Errors
 ///
-/// `NoMemory` where name, text or vector find no memory.
+/// `NoMemory` where the vector finds no memory.
 pub fn record_upon(
-    alloc: Global,
     tenant: &TenantName,
     unit: Unit,
     mark: Mark,
@@ -74,10 +73,19 @@ pub fn record_upon(
     text: &Text,
     vector: &DepVector,
 ) -> Result<Record, NoMemory>
-    ensures { IfOk result (λ r. r ≡ record { tenant = tenant.now; unit = unit; mark = mark; source = source; letter = letter; number = number; text = text.now; vector = vector.now }) }
+    ensures { IfOk result (λ r. r ≡ record {
+      tenant = tenant.now;
+      unit = unit;
+      mark = mark;
+      source = source;
+      letter = letter;
+      number = number;
+      text = text.now;
+      vector = vector.now;
+    }) }
 {
-    let tenant = tenant.copy(alloc)?;
-    let text = text.copy(alloc)?;
+    let tenant = tenant.copy();
+    let text = text.copy()?;
     let vector = vector.to_marks()?;
     Ok(Record {
         tenant,

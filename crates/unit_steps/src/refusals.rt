@@ -18,7 +18,7 @@ use crate::letters::{Content, SentLetter};
 use depvector::DepVector;
 use handler::{Handler, Turn};
 use incarnation::StartTable;
-use model::{Quota, Refusal, Source, Text, Unit};
+use model::{MAX_INDEX, MAX_TEXT_BYTES, MAX_TURN_EFFECTS, Quota, Refusal, Source, Text, Unit};
 use orphan::{is_blind, is_orphan, unstable_units};
 use rollback::{Progress, RecoveryUnit};
 
@@ -33,7 +33,7 @@ pub struct Known<'a> {
 fn is_long(text: &Text) -> bool
     ensures { result ≡ is_long_text text.now }
 {
-    text.len() > 4096
+    text.len() > MAX_TEXT_BYTES
 }
 
 fn any_long(texts: &[Text]) -> bool
@@ -48,11 +48,11 @@ fn any_long_send(sends: &[(Unit, Text)]) -> bool
     sends.iter().any(|s| is_long(&s.1))
 }
 
-/// Whether these are more than 64 together.
+/// Whether these are more together than a turn may have.
 fn are_many(sends: usize, outputs: usize) -> bool
-    ensures { result ≡ nat_lt 64 (sends + outputs) }
+    ensures { result ≡ nat_lt MAX_TURN_EFFECTS (sends + outputs) }
 {
-    outputs > 64 || sends > 64 - outputs
+    outputs > MAX_TURN_EFFECTS || sends > MAX_TURN_EFFECTS - outputs
 }
 
 fn is_large<S>(turn: &Turn<S>) -> bool
@@ -126,7 +126,8 @@ fn arrival_refusal_up<H: Handler>(
     number: u64,
     text: &Text,
 ) -> Option<Refusal>
-    ensures refusal { result ≡ first_refusal (tests_of_number (taken_from progress.now.sessions source) number ++ room_tests volatile_quota unit.now text.now) }
+    ensures refusal { result ≡ first_refusal (tests_of_number (taken_from progress.now.sessions source) number
+        ++ room_tests volatile_quota unit.now text.now) }
     ensures room { IfNone result (places unit.now < 2 ^ 32) }
 {
     let count = progress.sessions.taken(source);
@@ -134,7 +135,7 @@ fn arrival_refusal_up<H: Handler>(
         Some(Refusal::Repeat)
     } else if count < number {
         Some(Refusal::Gap)
-    } else if unit.places().saturating_sub(1) >= 4294967295 {
+    } else if unit.places().saturating_sub(1) >= u64::from(MAX_INDEX) {
         Some(Refusal::Limit)
     } else if unit.volatile_count() >= volatile_quota as usize {
         Some(Refusal::Quota)
@@ -161,7 +162,8 @@ pub fn post_refusal<H: Handler>(
 /// Whether a letter depends on more unstable units than the optimism lets through, or on more units than there are.
 fn is_pending(known: &Known<'_>, optimism: u32, vector: &DepVector) -> bool
     ensures within { OnFalse result (length vector.now ≤ length known.now.stable_lengths.now) }
-    ensures value { length vector.now ≤ length known.now.stable_lengths.now → result ≡ nat_lt optimism (unstable_count known.now.table.now known.now.stable_lengths.now vector.now) }
+    ensures value { length vector.now ≤ length known.now.stable_lengths.now
+        → result ≡ nat_lt optimism (unstable_count known.now.table.now known.now.stable_lengths.now vector.now) }
 {
     vector.len() > known.stable_lengths.len()
         || unstable_units(vector, known.table, known.stable_lengths) > optimism
@@ -176,7 +178,13 @@ fn past_refusal<H: Handler>(
     vector: &DepVector,
 ) -> Option<Refusal>
     ensures within { IfNone result (length vector.now ≤ length known.now.stable_lengths.now) }
-    ensures refusal { length vector.now ≤ length known.now.stable_lengths.now → result ≡ first_refusal (past_tests (record { table = known.now.table.now; rows = known.now.rows; stable_lengths = known.now.stable_lengths.now }) optimism unit.now vector.now) }
+    ensures refusal { length vector.now ≤ length known.now.stable_lengths.now
+        → result ≡ first_refusal (past_tests (record {
+          table = known.now.table.now;
+          rows = known.now.rows;
+          stable_lengths = known.now.stable_lengths.now;
+        })
+        optimism unit.now vector.now) }
 {
     if !unit.is_up() {
         Some(Refusal::Down)
@@ -200,7 +208,13 @@ pub fn letter_refusal<H: Handler>(
     unit: &RecoveryUnit<H>,
     letter: &SentLetter,
 ) -> Option<Refusal>
-    ensures refusal { IsWithin (length known.now.stable_lengths.now) letter.now.content → result ≡ letter_refused (record { table = known.now.table.now; rows = known.now.rows; stable_lengths = known.now.stable_lengths.now }) optimism volatile_quota unit.now letter.now.source letter.now.number letter.now.content }
+    ensures refusal { IsWithin (length known.now.stable_lengths.now) letter.now.content
+        → result ≡ letter_refused (record {
+          table = known.now.table.now;
+          rows = known.now.rows;
+          stable_lengths = known.now.stable_lengths.now;
+        })
+        optimism volatile_quota unit.now letter.now.source letter.now.number letter.now.content }
     ensures content { IfNone result (is_some letter.now.content ≡ true) }
     ensures within { IfNone result (IsWithin (length known.now.stable_lengths.now) letter.now.content) }
     ensures room { IfNone result (places unit.now < 2 ^ 32) }

@@ -9,5 +9,5 @@ pub record Log : Type 0 where
   pub room : ℕ
 
 -- the records at the front that are of intervals below the index
-abbrev pub below : List Record → ℕ → List Record
-below records index = take_while (λ r. nat_lt r.mark.index index) records
+abbrev pub records_below : List Record → ℕ → List Record
+records_below records index = take_while (λ r. nat_lt r.mark.index index) records

@@ -2,7 +2,7 @@
 
 ghost use Rattle.std.specs.Prelude.{◌≡◌, ◌+◌, ◌-◌, ◌<◌, ◌≤◌, ◌∷◌, [], ◌++◌, IfOk, MatchOption, OnErr, Some, length, drop, nat_lt, slice_get};
 ghost use Rattle.std.specs.List.{prefix_len};
-ghost use Rattle.volatile_log.specs.Logs.{below};
+ghost use Rattle.volatile_log.specs.Logs.{records_below};
 ghost use Rattle.std.specs.VecDeque.{deque_capacity};
 
 use model::{NoMemory, Record};
@@ -107,7 +107,7 @@ impl VolatileLog {
     /// Gives up the records from the first one on whose interval is not below the index. Takes no
     /// memory. Indices rise along a path, so these are all that are not below it.
     pub fn cut(&mut self, index: u32)
-        ensures records { self.new.records ≡ below self.old.records index }
+        ensures records { self.new.records ≡ records_below self.old.records index }
         ensures room { self.old.room ≤ self.new.room }
     {
         let kept = count_below(&self.records, index);

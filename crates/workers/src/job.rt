@@ -127,9 +127,8 @@ impl<'a, H: Handler, S: Store, G: Gate> Job<'a, H, S, G> {
             return;
         };
         if let Reply::Accepted { .. } = reply {
-            if let Ok(tenant) = step.tenant().copy(self.alloc) {
-                let _ = self.nudges.send(rt, Nudge { tenant, unit });
-            }
+            let tenant = step.tenant().copy();
+            let _ = self.nudges.send(rt, Nudge { tenant, unit });
         }
     }
 }

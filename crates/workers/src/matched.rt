@@ -12,7 +12,8 @@ use model::{Entry, Reply, Step, Who};
 fn after_entry(entry: &Entry, feed: u32, next: usize, steps: &[Step]) -> Option<usize>
     requires { next ≤ length steps.now }
     ensures within { IfSome result (λ n. n ≤ length steps.now) }
-    ensures rest { IfSome result (λ n. step_by feed entry.now.who entry.now.step ++ numbered n (drop n steps.now) ≡ numbered next (drop next steps.now)) }
+    ensures rest { IfSome result (λ n. step_by feed entry.now.who entry.now.step ++ numbered n (drop n steps.now)
+        ≡ numbered next (drop next steps.now)) }
 {
     let Who::Feed { feed: by, at } = entry.who else {
         return Some(next);
@@ -72,7 +73,9 @@ fn all_expected(history: &[Entry], feeds: usize) -> bool
 /// Whether the history has each feed's steps in order.
 fn all_feeds(history: &[Entry], feeds: &[Vec<Step>]) -> bool
     requires { length feeds.now < 2 ^ 32 }
-    ensures { IsTrue result → ((f : ℕ) → f < length feeds.now → steps_by f history.now ≡ numbered 0 (slice_index_or (map (λ v. v.items) feeds.now) f [])) }
+    ensures { IsTrue result
+        → ((f : ℕ) → f < length feeds.now
+        → steps_by f history.now ≡ numbered 0 (slice_index_or (map (λ v. v.items) feeds.now) f [])) }
 {
     for feed in 0..feeds.len() {
         if !has_feed(history, feed as u32, feeds[feed].as_slice()) {
@@ -95,7 +98,8 @@ pub(crate) fn is_matched(history: &[Entry], feeds: &[Vec<Step>]) -> bool
 fn after_reply(entry: &Entry, feed: u32, next: usize, receipts: &[Reply]) -> Option<usize>
     requires { next ≤ length receipts.now }
     ensures within { IfSome result (λ n. n ≤ length receipts.now) }
-    ensures rest { IfSome result (λ n. reply_by feed entry.now.who entry.now.reply ++ drop n receipts.now ≡ drop next receipts.now) }
+    ensures rest { IfSome result (λ n.
+        reply_by feed entry.now.who entry.now.reply ++ drop n receipts.now ≡ drop next receipts.now) }
 {
     if !is_by(entry.who, feed) {
         return Some(next);
@@ -124,7 +128,9 @@ fn has_receipts(history: &[Entry], feed: u32, receipts: &[Reply]) -> bool
 /// Whether the replies to each feed's steps are its receipts, in order.
 fn all_receipts(history: &[Entry], receipts: &[Vec<Reply>]) -> bool
     requires { length receipts.now < 2 ^ 32 }
-    ensures { IsTrue result → ((f : ℕ) → f < length receipts.now → replies_by f history.now ≡ slice_index_or (map (λ v. v.items) receipts.now) f []) }
+    ensures { IsTrue result
+        → ((f : ℕ) → f < length receipts.now
+        → replies_by f history.now ≡ slice_index_or (map (λ v. v.items) receipts.now) f []) }
 {
     for feed in 0..receipts.len() {
         if !has_receipts(history, feed as u32, receipts[feed].as_slice()) {

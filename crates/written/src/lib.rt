@@ -12,7 +12,8 @@
 //! /// Writes all of the bytes, or a beginning of them.
 //! pub(crate) fn put(&mut self, bytes: &[u8]) -> Result<(), Failed>
 //!     ensures ok { OnOk result (Appends (W.contents self.old.inner) (W.contents self.new.inner) bytes.now) }
-//!     ensures err { OnErr result (AppendsBeginning (W.contents self.old.inner) (W.contents self.new.inner) bytes.now) }
+//!     ensures err { OnErr result
+//!         (AppendsBeginning (W.contents self.old.inner) (W.contents self.new.inner) bytes.now) }
 //!     ensures risen { OnErr result (HasRisen self.old.failed self.new.failed) }
 //!     ensures same { OnOk result (self.new.failed ≡ self.old.failed) }
 //! {

@@ -23,7 +23,7 @@ returns-in-None-clause-names g c =
 pub returns-in_ok-put-in-Some-clause-opened : goal.returns-in_ok-put-in-Some-clause-opened
 returns-in_ok-put-in-Some-clause-opened g c =
     let a = c.args in
-    let here : get bytes_eq c.put.new.tenants a.name.now ≡ Some c.in-Some.tenant = rw c.in_ok-own_name.ensures at c.in_ok-put-in-Some.ensures.here in
+    let here : get bytes_eq c.put.new.tenants a.name.now ≡ Some c.in-Some.tenant = rw c.copy-own_name.ensures at c.in_ok-put-in-Some.ensures.here in
     subst (IsOpened g.H.Handler.meaning a.kinds.now a.quota a.optimism c.in_ok-answer.answer.reply) (c.in-Some.is ∙ sym here) c.in_ok-answer.ensures.opened
 
 pub returns-in_ok-put-in-Some-clause-names : goal.returns-in_ok-put-in-Some-clause-names
@@ -33,13 +33,13 @@ returns-in_ok-put-in-Some-clause-names g c =
     let is = subst (IsOpened M a.kinds.now a.quota a.optimism c.in_ok-answer.answer.reply) c.in-Some.is c.in_ok-answer.ensures.opened in
     let says = opened-some M a.kinds.now a.quota a.optimism a.name.now c.in_ok-answer.answer.reply c.in-Some.tenant is in
     c.in_ok-put-in-Some.ensures.names
-    ∙ ap (λ (l : List (List ℕ)). l ++ c.in_ok-own_name.own_name ∷ []) (ap keys_of c.reserve.ensures.entries)
-    ∙ ap (λ (n : List ℕ). keys a.tenants.now ++ n ∷ []) c.in_ok-own_name.ensures
+    ∙ ap (λ (l : List (List ℕ)). l ++ c.copy-own_name.result ∷ []) (ap keys_of c.reserve.ensures.entries)
+    ∙ ap (λ (n : List ℕ). keys a.tenants.now ++ n ∷ []) c.copy-own_name.ensures
     ∙ ap (λ (l : List (List ℕ)). keys a.tenants.now ++ l) (sym says)
 
 pub returns-in_ok-put-in-Some-clause-others : goal.returns-in_ok-put-in-Some-clause-others
 returns-in_ok-put-in-Some-clause-others g c t apart =
-    c.put.ensures.others t (subst (λ n. bytes_eq t n ≡ false) (sym c.in_ok-own_name.ensures) apart)
+    c.put.ensures.others t (subst (λ n. bytes_eq t n ≡ false) (sym c.copy-own_name.ensures) apart)
     ∙ ap (lookup (bytes_eq t)) c.reserve.ensures.entries
 
 pub returns-in_ok-put-in-Some-clause-keeps : goal.returns-in_ok-put-in-Some-clause-keeps
@@ -49,6 +49,6 @@ returns-in_ok-put-in-Some-clause-keeps g c =
     let answer = c.in_ok-answer.answer in
     let is = subst (IsOpened M a.kinds.now a.quota a.optimism answer.reply) c.in-Some.is c.in_ok-answer.ensures.opened in
     let past = subst (λ t. IfSome t (OpensPast answer.reply)) c.in-Some.is c.in_ok-answer.ensures.past in
-    let here : get bytes_eq c.put.new.tenants a.name.now ≡ Some c.in-Some.tenant = rw c.in_ok-own_name.ensures at c.in_ok-put-in-Some.ensures.here in
+    let here : get bytes_eq c.put.new.tenants a.name.now ≡ Some c.in-Some.tenant = rw c.copy-own_name.ensures at c.in_ok-put-in-Some.ensures.here in
     subst (KeepsOnAt M None None (record { step = Open a.kinds.now a.quota a.optimism; said = answer.said })) (sym here)
     (keeps_opened M a.kinds.now a.quota a.optimism answer.reply (Some c.in-Some.tenant) answer.said is past)

@@ -1,6 +1,6 @@
 use Rattle.std.proofs.Common.{◌≡◌, ◌≤◌, List, ℕ, vec_capacity}
 use Rattle.std.specs.Io.KnownBytes.{Consumes}
-use Rattle.ident.specs.declared.limits.TheConstants.{MAX_LINE_BYTES}
+use Rattle.model.specs.declared.limits.TheConstants.{MAX_LINE_BYTES}
 use Rattle.lines.specs.Lines.{IsPart, Holds}
 use Rattle.lines.proofs.feed.feed_line.Given as goal
 

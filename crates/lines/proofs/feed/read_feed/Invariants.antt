@@ -1,5 +1,5 @@
 use Rattle.std.proofs.Common.{◌≡◌, ◌≤◌, List, ℕ, vec_capacity}
-use Rattle.ident.specs.declared.limits.TheConstants.{MAX_LINE_BYTES}
+use Rattle.model.specs.declared.limits.TheConstants.{MAX_LINE_BYTES}
 use Rattle.lines.specs.Lines.{LinesRead}
 use Rattle.lines.specs.Feeds.{AreReadings}
 use Rattle.lines.proofs.feed.read_feed.Given as goal

@@ -12,19 +12,19 @@ returns-in_default-clause-some g c =
 pub returns-in_err-serve_line-clause-some : goal.returns-in_err-serve_line-clause-some
 returns-in_err-serve_line-clause-some g c =
     let p = err_from_is_err_and c.from_residual.result c.from_residual.ensures.1 in
-    let so_far = c.loop-scratch.invariant.served in
+    let so_far = c.loop-text.invariant.served in
     rw p.1 (stops _ _ _ _ _ _ _ _ _ so_far.0 so_far.1 so_far.2 so_far.3 so_far.4 c.in_err-serve_line.ensures.err)
 
-pub loop-scratch-preserved : goal.loop-scratch-preserved
-loop-scratch-preserved g c =
-    let so_far = c.loop-scratch.invariant.served in
+pub loop-text-preserved : goal.loop-text-preserved
+loop-text-preserved g c =
+    let so_far = c.loop-text.invariant.served in
     let test = c.if-not-branch.false in
     let found = c.in_ok-serve_line.ensures.took in
     let took = rw test at found in
     record {
       room = c.serve_line.ensures.room;
-      read_same = c.in_ok-serve_line.ensures.read_same (λ e. cc) ∙ c.loop-scratch.invariant.read_same;
-      write_same = c.in_ok-serve_line.ensures.write_same (λ e. cc) ∙ c.loop-scratch.invariant.write_same;
-      within = omega (arith, c.loop-scratch.invariant.within, c.in_ok-serve_line.ensures.fewer);
+      read_same = c.in_ok-serve_line.ensures.read_same (λ e. cc) ∙ c.loop-text.invariant.read_same;
+      write_same = c.in_ok-serve_line.ensures.write_same (λ e. cc) ∙ c.loop-text.invariant.write_same;
+      within = omega (arith, c.loop-text.invariant.within, c.in_ok-serve_line.ensures.fewer);
       served = goes_on _ _ _ _ _ _ _ _ _ so_far.0 so_far.1 so_far.2 so_far.3 so_far.4 _ so_far.5 took;
     }

@@ -1,15 +1,15 @@
 use Rattle.std.proofs.Common.{◌≡◌, ◌<◌, ◌≤◌, ◌+◌, ◌^◌, List, ℕ, length, vec_capacity}
 use Rattle.std.specs.Prelude.{flat_map}
 use Rattle.std.specs.Io.KnownBytes.{Appends}
-use Rattle.ident.specs.declared.limits.TheConstants.{MAX_LINE_BYTES}
+use Rattle.model.specs.declared.limits.TheConstants.{MAX_LINE_BYTES}
 use Rattle.model.specs.declared.replies.Reply.{Reply}
 use Rattle.lines.specs.Lines.{LinesRead}
 use Rattle.lines.specs.Serving.{Serves, reply_line}
 use Rattle.lines.proofs.serving.serve.Given as goal
 
 -- the lines so far are answered, and each took one of the calls that may still be made
-abbrev pub invariant-loop-scratch : goal.invariant-loop-scratch
-invariant-loop-scratch g l = record {
+abbrev pub invariant-loop-text : goal.invariant-loop-text
+invariant-loop-text g l = record {
   room : MAX_LINE_BYTES ≤ vec_capacity l.held;
   read_same : l.reader.failed ≡ l.fn.reader.failed;
   write_same : l.writer.failed ≡ l.fn.writer.failed;
@@ -22,5 +22,5 @@ invariant-loop-scratch g l = record {
 }
 
 -- each line takes one of the calls that may still be made
-abbrev pub decreases-loop-scratch : goal.decreases-loop-scratch
-decreases-loop-scratch g l = l.reader.left
+abbrev pub decreases-loop-text : goal.decreases-loop-text
+decreases-loop-text g l = l.reader.left

@@ -1,4 +1,4 @@
-use Rattle.std.proofs.Common.{rules, ◌≡◌, [], ◌∷◌, ◌++◌, codes, decimal}
+use Rattle.std.proofs.Common.{rules, ◌≡◌, [], ◌∷◌, ◌++◌}
 use Rattle.json.specs.Token as spec
 use Rattle.quick_forms.proofs.Lists.{pieces_4}
 use Rattle.quick_forms.proofs.replies.flushed.Goals as goal
@@ -6,7 +6,5 @@ use Rattle.quick_forms.proofs.replies.flushed.Goals as goal
 pub returns-clause-tokens : goal.returns-clause-tokens
 returns-clause-tokens c =
     let p : c.begin_object.new.self.tokens ≡ c.args.w.now.tokens ++ spec.begin_object ∷ [] = search rules in
-    let q : c.number.new.w.tokens ≡ c.begin_object.new.self.tokens ++ spec.key (codes "count") ∷ spec.number (decimal c.args.count) ∷ [] = search rules in
-    let r : c.text.new.w.tokens ≡ c.number.new.w.tokens ++ spec.key (codes "ok") ∷ spec.string (codes "flush") ∷ [] = search rules in
     let s : c.end_object.new.self.tokens ≡ c.text.new.w.tokens ++ spec.end_object ∷ [] = search rules in
-    pieces_4 _ _ _ _ _ _ _ _ _ p q r s
+    pieces_4 _ _ _ _ _ _ _ _ _ p c.in_ok-number.ensures.tokens c.in_ok-text.ensures.tokens s

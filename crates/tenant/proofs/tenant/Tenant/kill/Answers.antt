@@ -3,7 +3,7 @@ use Rattle.std.proofs.lemmas.Option.{slice_get_within}
 use Rattle.tenant.specs.Kept.{Member}
 use Rattle.tenant.proofs.Killing.{kill_done, kill_refused}
 use Rattle.std.proofs.Common.{ap, refl}
-use Rattle.tenant.specs.Kept.{Kept, killed_member}
+use Rattle.tenant.specs.Kept.{TenantState, killed_member}
 use Rattle.tenant.proofs.Keeping.{no_letters, one_same}
 use Rattle.tenant.proofs.tenant.Tenant.kill.Goals as goal
 
@@ -24,7 +24,7 @@ pub returns-clause-shelves : goal.returns-clause-shelves
 returns-clause-shelves g c =
     let m : Member g.row.H-State.Denot = c.in-Ok.field-0.now in
     let found = c.in-Ok.ensures.found in
-    let t : Kept g.row.H-State.Denot = c.args.self.now in
-    let v : Kept g.row.H-State.Denot = c.kill_at-lost.new.self in
+    let t : TenantState g.row.H-State.Denot = c.args.self.now in
+    let v : TenantState g.row.H-State.Denot = c.kill_at-lost.new.self in
     let new = c.kill_at-lost.ensures.tenant m found in
-    one_same t c.args.unit m found (killed_member m) v (ap (λ (z : Kept g.row.H-State.Denot). z.members) new) refl (no_letters t v (ap (λ (z : Kept g.row.H-State.Denot). z.letters) new))
+    one_same t c.args.unit m found (killed_member m) v (ap (λ (z : TenantState g.row.H-State.Denot). z.members) new) refl (no_letters t v (ap (λ (z : TenantState g.row.H-State.Denot). z.letters) new))

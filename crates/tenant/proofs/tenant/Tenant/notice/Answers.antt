@@ -8,7 +8,7 @@ use Rattle.tenant.proofs.Results.{if_ok}
 use Rattle.tenant.proofs.Standing.{opened}
 use Rattle.std.proofs.Common.{ap, refl, inr}
 use Rattle.model.specs.declared.names.Start.{Start}
-use Rattle.tenant.specs.Kept.{Kept}
+use Rattle.tenant.specs.Kept.{TenantState}
 use Rattle.tenant.proofs.Keeping.{no_letters, one_same, returned_shelves}
 use Rattle.tenant.proofs.tenant.Tenant.notice.Goals as goal
 
@@ -61,10 +61,10 @@ pub returns-then-is_last-clause-shelves : goal.returns-then-is_last-clause-shelv
 returns-then-is_last-clause-shelves g c =
     let m : Member g.row.H-State.Denot = c.in-Ok.field-0.now in
     let found = c.in-Ok.ensures.found in
-    let t : Kept g.row.H-State.Denot = c.args.self.now in
-    let v : Kept g.row.H-State.Denot = c.learn_rows.new.self in
+    let t : TenantState g.row.H-State.Denot = c.args.self.now in
+    let v : TenantState g.row.H-State.Denot = c.learn_rows.new.self in
     let new = c.learn_rows.ensures m found in
-    rw (c.twice.ensures.reply) (one_same t c.args.unit m found (record m { known = length t.table }) v (ap (λ (z : Kept g.row.H-State.Denot). z.members) new) refl (no_letters t v (ap (λ (z : Kept g.row.H-State.Denot). z.letters) new)))
+    rw (c.twice.ensures.reply) (one_same t c.args.unit m found (record m { known = length t.table }) v (ap (λ (z : TenantState g.row.H-State.Denot). z.members) new) refl (no_letters t v (ap (λ (z : TenantState g.row.H-State.Denot). z.letters) new)))
 
 pub returns-clause-shelves : goal.returns-clause-shelves
 returns-clause-shelves g c =

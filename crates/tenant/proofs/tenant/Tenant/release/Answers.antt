@@ -2,7 +2,7 @@ use Rattle.std.proofs.Common.{◌∙◌}
 use Rattle.std.proofs.lemmas.Option.{slice_get_within}
 use Rattle.tenant.proofs.Outgoing.{release_done, release_refused}
 use Rattle.std.proofs.Common.{ap, refl}
-use Rattle.tenant.specs.Kept.{Kept, Member, released_member}
+use Rattle.tenant.specs.Kept.{TenantState, Member, released_member}
 use Rattle.tenant.specs.Stands.{live_in}
 use Rattle.tenant.proofs.Follow.{keeps}
 use Rattle.tenant.proofs.Keeping.{no_letters, none_changed, one_same}
@@ -31,8 +31,8 @@ pub returns-clause-shelves : goal.returns-clause-shelves
 returns-clause-shelves g c = λ name w records s.
     let m : Member g.row.H-State.Denot = c.in-Ok.field-0.now in
     let found = c.in-Ok.ensures.found in
-    let t : Kept g.row.H-State.Denot = c.args.self.now in
-    let v : Kept g.row.H-State.Denot = c.release_at.new.self in
+    let t : TenantState g.row.H-State.Denot = c.args.self.now in
+    let v : TenantState g.row.H-State.Denot = c.release_at.new.self in
     let x = keeps t (live_in name records) (opened s).stands.0 (opened s).stands.1 c.args.unit m found in
     let new = c.in_ok-release_at.ensures.ok m x.unit.frontier x.unit.released found x.is.own x.is.frontier x.is.released in
-    one_same t c.args.unit m found (released_member m x.unit.frontier) v (ap (λ (z : Kept g.row.H-State.Denot). z.members) new) refl (no_letters t v (ap (λ (z : Kept g.row.H-State.Denot). z.letters) new))
+    one_same t c.args.unit m found (released_member m x.unit.frontier) v (ap (λ (z : TenantState g.row.H-State.Denot). z.members) new) refl (no_letters t v (ap (λ (z : TenantState g.row.H-State.Denot). z.letters) new))
