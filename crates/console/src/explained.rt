@@ -163,7 +163,14 @@ fn waits_for<S: Store>(
 /// The letter that a line delivers.
 fn delivered(alloc: Global, line: &[u8]) -> Option<(TenantName, Letter)> {
     match read_step(alloc, line) {
-        Ok(Step::Deliver { tenant, letter }) => Some((tenant, letter)),
+        Ok(step) => letter_of(&step),
+        Err(_) => None,
+    }
+}
+
+fn letter_of(step: &Step) -> Option<(TenantName, Letter)> {
+    match step {
+        Step::Deliver { tenant, letter } => Some((tenant.copy(), *letter)),
         _ => None,
     }
 }
