@@ -13,6 +13,11 @@ def post(number=b"0", unit=b"0", tenant=b"a", more=b""):
     return b'{"do":"post","number":%s,"tenant":"%s","text":"x","unit":%s%s}' % (number, tenant, unit, more)
 
 
+def saying(text):
+    """A post to a unit that isn't there, with this in place of its text."""
+    return post(unit=b"255").replace(b'"x"', text)
+
+
 def opening(units):
     return b'{"do":"open","tenant":"b","units":%s}' % units
 
@@ -81,6 +86,18 @@ LINES = [
     ("an open of nothing", opening(b'[],"quota":{"held":0,"letters":0,"volatile":0},"optimism":0'), b'{"no":"bad-open"}'),
     ("the greatest letter", b'{"do":"deliver","letter":4294967295,"tenant":"a"}', b'{"no":"no-letter"}'),
     ("a text of 4,097 bytes", post().replace(b'"x"', b'"%s"' % (b"x" * 4097)), b'{"no":"too-much"}'),
+    ("a number with a plus", post(number=b"+0"), BAD),
+    ("a number of no digit", post(number=b""), BAD),
+    ("a unit with a leading zero", post(unit=b"00"), BAD),
+    ("a number of ten digits", post(number=b"4294967295", unit=b"255"), NO_UNIT),
+    ("a brace too many", post() + b"}", BAD),
+    ("a blank behind a key", post(unit=b"255").replace(b'"unit"', b'"unit" '), NO_UNIT),
+    ("a text without its end", saying(b'"x'), BAD),
+    ("a tab in a text", saying(b'"\t"'), BAD),
+    ("an escape that is none", saying(b'"\\x"'), BAD),
+    ("escapes in a text", saying(b'"\\"\\\\\\u0000"'), NO_UNIT),
+    ("no ASCII in a text", saying('"\u00e9\u20ac\x7f"'.encode()), NO_UNIT),
+    ("a text of 500 bytes", saying(b'"%s"' % (b"x" * 500)), NO_UNIT),
 ]
 
 

@@ -6,6 +6,7 @@ ghost use Rattle.lines.specs.Lines.{IsPart, Holds};
 ghost use Rattle.lines.specs.Parts.{Takes};
 
 use ident::MAX_LINE_BYTES;
+use memchr::memchr;
 use std::io;
 use std::io::BufRead;
 use written::is_interrupted;
@@ -65,14 +66,7 @@ fn part_len(bytes: &[u8]) -> usize
     ensures before { IsPart (take result bytes.now) }
     ensures at { result < length bytes.now → slice_index bytes.now result ≡ 10 }
 {
-    let mut i = 0;
-    while i < bytes.len() {
-        if bytes[i] == b'\n' {
-            return i;
-        }
-        i += 1;
-    }
-    i
+    memchr(b'\n', bytes).unwrap_or(bytes.len())
 }
 
 // The room is there from the start, so that a line's bytes take no memory.

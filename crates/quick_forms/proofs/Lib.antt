@@ -1,3 +1,5 @@
 mod NoStep
 mod Turns
 mod Lists
+mod Parts
+mod Compact

@@ -9,6 +9,7 @@ ghost use Rattle.forms.specs.Reading.{Gives, step_of, step_of_line};
 ghost use Rattle.forms.specs.declared.fault.LineFault as LineFault;
 ghost use Rattle.quick_forms.specs.Seen.{seen_members, read_tokens, step_of_tokens, whole_data, post_data, deliver_data, join_data, place_data};
 
+use crate::shortest::shortest;
 use fast_float::Numeral;
 use forms::LineFault;
 use ident::{Letter, NoMemory, TenantName, Text, Unit};
@@ -38,6 +39,9 @@ pub fn read_step(alloc: Global, scratch: &mut Scratch, line: &[u8]) -> Result<St
     let Ok(text) = simdutf8::compat::from_utf8(line) else {
         return Err(LineFault::Bad);
     };
+    if let Some(step) = shortest(alloc, text)? {
+        return Ok(step);
+    }
     let mut reader = Reader::new(text, scratch)?;
     match quick(alloc, &mut reader) {
         Ok(Some(step)) => Ok(step),
@@ -248,7 +252,7 @@ fn step(alloc: Global, seen: Seen<'_>) -> Result<Option<Step>, LineFault>
 }
 
 #[tactic(auto, unfolding(forms::specs::Reading::step_of, forms::specs::Reading::post_of))]
-fn post(
+pub(crate) fn post(
     alloc: Global,
     verb: &str,
     number: u64,
@@ -275,7 +279,7 @@ fn post(
 }
 
 #[tactic(auto, unfolding(forms::specs::Reading::step_of, forms::specs::Reading::deliver_of))]
-fn deliver(verb: &str, letter: u64, tenant: &str) -> Option<Step>
+pub(crate) fn deliver(verb: &str, letter: u64, tenant: &str) -> Option<Step>
     ensures { IfSome result (λ s. step_of (deliver_data verb.now letter tenant.now) ≡ Some s) }
 {
     if verb != "deliver" || letter > 4_294_967_295 {
@@ -304,7 +308,7 @@ fn join(alloc: Global, verb: &str, kind: &str, tenant: &str) -> Result<Option<St
 }
 
 #[tactic(auto, unfolding(forms::specs::Reading::step_of, forms::specs::Reading::place_of))]
-fn place(verb: &str, tenant: &str, unit: u64) -> Option<Step>
+pub(crate) fn place(verb: &str, tenant: &str, unit: u64) -> Option<Step>
     ensures { IfSome result (λ s. step_of (place_data verb.now tenant.now unit) ≡ Some s) }
 {
     if unit > 255 {

@@ -26,3 +26,15 @@ pub(crate) fn push_reply(alloc: Global, text: &mut String, reply: &Reply) -> any
     text.push('\n')?;
     Ok(())
 }
+
+/// One more line of text for each of these replies.
+pub(crate) fn push_replies(
+    alloc: Global,
+    text: &mut String,
+    replies: &[Reply],
+) -> anyhow::Result<()> {
+    for reply in replies {
+        push_reply(alloc, text, reply)?;
+    }
+    Ok(())
+}

@@ -31,7 +31,10 @@ pub(crate) fn step_with(book: &mut Books, step: Step, worked: Done<Sample>) -> C
     book.step_with(Who::Caller, step, worked)
 }
 
-pub(crate) fn run(book: &mut Books, steps: &[Step]) -> anyhow::Result<Vec<Reply>> {
+pub(crate) fn run<S: Store>(
+    book: &mut Book<Sample, S>,
+    steps: &[Step],
+) -> anyhow::Result<Vec<Reply>> {
     Ok(book.run(steps)?)
 }
 
@@ -39,11 +42,14 @@ pub(crate) fn history(book: &Books) -> &[Entry] {
     book.history()
 }
 
-pub(crate) fn tenants(book: &Books) -> anyhow::Result<Vec<TenantName>> {
+pub(crate) fn tenants<S: Store>(book: &Book<Sample, S>) -> anyhow::Result<Vec<TenantName>> {
     Ok(book.tenants()?)
 }
 
-pub(crate) fn replies_of(book: &Books, name: &TenantName) -> anyhow::Result<Vec<Reply>> {
+pub(crate) fn replies_of<S: Store>(
+    book: &Book<Sample, S>,
+    name: &TenantName,
+) -> anyhow::Result<Vec<Reply>> {
     Ok(book.replies_of(name)?)
 }
 

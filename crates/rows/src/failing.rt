@@ -5,10 +5,12 @@
 //! N bytes. All other lines are steps.
 
 use crate::answers::{answer, push_reply};
+use crate::at_once::at_once;
+use crate::calls::step_of;
 use crate::kept::push_kept;
 use book::Book;
 use handler::Sample;
-use model::{Refusal, Reply};
+use model::{Refusal, Reply, Step};
 use stable_log::{FuseStore, FuseWriter, Store, WriterStore};
 use std::alloc::Global;
 
@@ -38,29 +40,54 @@ fn is_step(line: &str) -> bool {
     !line.ends_with(" fails")
 }
 
-/// The replies of a new book over a store that fails as the row tells.
-pub(crate) fn failed(alloc: Global, lines: &str) -> anyhow::Result<String> {
+/// The steps of a row.
+pub(crate) fn steps_of(alloc: Global, lines: &str) -> anyhow::Result<Vec<Step>> {
+    let mut steps = Vec::new(alloc);
+    for line in lines.lines() {
+        if is_step(line) {
+            steps.push(step_of(alloc, line)?)?;
+        }
+    }
+    Ok(steps)
+}
+
+/// How the steps of a row are given to a book.
+#[derive(Clone, Copy, Drop)]
+pub(crate) enum Way {
+    OneByOne,
+    AtOnce,
+}
+
+/// What a new book over a store that fails as the row tells comes to.
+pub(crate) fn failed(alloc: Global, lines: &str, way: Way) -> anyhow::Result<String> {
     if let Some(room) = numbers_in(alloc, lines, "write past ")?.as_slice().first() {
         let writer = FuseWriter::new(alloc, *room as usize);
-        let book = Book::new(alloc, Sample, WriterStore::new(alloc, writer));
-        return replies(alloc, book, lines);
+        return told_over(alloc, WriterStore::new(alloc, writer), lines, way);
     }
     let appends = numbers_in(alloc, lines, "append ")?;
     let fetches = numbers_in(alloc, lines, "fetch ")?;
-    let book: Books = Book::new(alloc, Sample, FuseStore::new(alloc, appends, fetches));
-    replies(alloc, book, lines)
+    told_over(alloc, FuseStore::new(alloc, appends, fetches), lines, way)
 }
 
-/// The replies of a new book to the steps of a row.
-fn replies<S: Store>(
+/// What a new book over this store tells of the steps of a row.
+fn told_over<S: Store>(alloc: Global, store: S, lines: &str, way: Way) -> anyhow::Result<String> {
+    let mut book = Book::new(alloc, Sample, store);
+    match way {
+        Way::OneByOne => one_by_one(alloc, &mut book, lines),
+        Way::AtOnce => at_once(alloc, &mut book, steps_of(alloc, lines)?.as_slice()),
+    }
+}
+
+/// The replies of the book to the steps of a row, one by one.
+fn one_by_one<S: Store>(
     alloc: Global,
-    mut book: Book<Sample, S>,
+    book: &mut Book<Sample, S>,
     lines: &str,
 ) -> anyhow::Result<String> {
     let mut text = String::new(alloc);
     for line in lines.lines() {
         if is_step(line) {
-            push_reply(alloc, &mut text, &answer(alloc, &mut book, line)?)?;
+            push_reply(alloc, &mut text, &answer(alloc, book, line)?)?;
         }
     }
     Ok(text)

@@ -6,7 +6,8 @@
 //! and where the store fails any one append or fetch and the step that it refused is given again.
 //!
 //! For a name that begins with `turns-` the lines also tell which turns are worked beside
-//! the book, and for one that begins with `fails-` which calls of the store fail. Those of
+//! the book, and for one that begins with `fails-` which calls of the store fail: there the replies to
+//! all steps by one call, and what the book then tells of each tenant, must be the same. Those of
 //! `certified-` show seats, moves and audits, those of `told-` what a book tells of its tenants and
 //! entries, those of `kept-` how much of a unit's past is kept, and those of `audited-` are audits of
 //! lists from anywhere.
@@ -16,6 +17,7 @@
 #![tactic(auto)]
 
 mod answers;
+mod at_once;
 mod audited;
 mod beside;
 mod calls;
@@ -26,11 +28,12 @@ mod reading;
 mod told;
 mod turned;
 
+use at_once::with_own;
 use audited::audited;
 use beside::{every, with_noise};
 use calls::{new_book, serve_all};
 use certified::certified;
-use failing::{failed, once, survives_each};
+use failing::{Way, failed, once, steps_of, survives_each};
 use lines::Counted;
 use reading::answers_up_to_each;
 use std::alloc::Global;
@@ -109,11 +112,14 @@ fn turned_verdict(alloc: Global, steps: &str, replies: &str) -> anyhow::Result<&
 }
 
 fn failed_verdict(alloc: Global, steps: &str, replies: &str) -> anyhow::Result<&'static str> {
-    Ok(if failed(alloc, steps)?.as_str() == replies {
-        "the replies are as they must be over a store that fails"
-    } else {
-        "the replies over a store that fails differ"
-    })
+    if failed(alloc, steps, Way::OneByOne)?.as_str() != replies {
+        return Ok("the replies over a store that fails differ");
+    }
+    let told = with_own(alloc, steps_of(alloc, steps)?.as_slice(), replies)?;
+    if failed(alloc, steps, Way::AtOnce)?.as_str() != told.as_str() {
+        return Ok("the replies to all steps at once over a store that fails differ");
+    }
+    Ok("the replies are as they must be over a store that fails, one by one and at once")
 }
 
 fn certified_verdict(alloc: Global, steps: &str, replies: &str) -> anyhow::Result<&'static str> {

@@ -5,7 +5,7 @@
 //! its units released, its rows, and the audit; then who gave each entry and how many records the store took of it; and
 //! the replies of a new book that runs the same steps at once.
 
-use crate::answers::push_reply;
+use crate::answers::push_replies;
 use crate::calls::{self, Books, name_of, new_book, outcome_line, step_of};
 use anyhow::Context;
 use model::{Entry, TenantName, Who};
@@ -65,9 +65,8 @@ fn add_tenant(
     text: &mut String,
 ) -> anyhow::Result<()> {
     text.push_str(format!(in alloc; "{}:\n", name.as_str())?.as_str())?;
-    for reply in calls::replies_of(book, name)?.iter() {
-        push_reply(alloc, text, reply)?;
-    }
+    let replies = calls::replies_of(book, name)?;
+    push_replies(alloc, text, replies.as_slice())?;
     add_released(book, name, text)?;
     add_rows(alloc, book, name, text)?;
     let outcome = calls::audit_of(alloc, book, name);
@@ -135,8 +134,6 @@ fn add_run(alloc: Global, lines: &str, text: &mut String) -> anyhow::Result<()> 
         steps.push(step_of(alloc, step)?)?;
     }
     let mut book = new_book(alloc);
-    for reply in calls::run(&mut book, steps.as_slice())?.iter() {
-        push_reply(alloc, text, reply)?;
-    }
-    Ok(())
+    let replies = calls::run(&mut book, steps.as_slice())?;
+    push_replies(alloc, text, replies.as_slice())
 }

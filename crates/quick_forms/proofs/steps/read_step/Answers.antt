@@ -20,3 +20,8 @@ returns-in-Err c =
     let line = c.args.line.now in
     let same : c.in_ok-reader.reader ≡ tokens line = c.in_ok-reader.ensures.ok ∙ ap tokens c.in-Ok.ensures.cases.0 in
     gives_fault c.in-Err.fault _ (λ bad. line_step line c.in-Ok.ensures.cases.1 ∙ ap step_of_tokens (sym same) ∙ c.in-Err.ensures.bad (ap Err bad))
+
+pub returns-in-Some : goal.returns-in-Some
+returns-in-Some c =
+    let line = c.args.line.now in
+    line_step line c.in-Ok.ensures.cases.1 ∙ ap (λ text. step_of_tokens (tokens text)) (sym c.in-Ok.ensures.cases.0) ∙ subst (λ o. IfSome o (λ s. step_of_tokens (tokens c.in-Ok.text.now) ≡ Some s)) c.in-Some.is c.in_ok-step.ensures

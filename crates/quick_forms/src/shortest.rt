@@ -1,0 +1,183 @@
+//! The step of a line in its shortest form: the keys in the order of their bytes, with no space and no escape.
+//!
+//! Such a line is compared with its form, and no token of it is made.
+
+ghost use Rattle.std.specs.Prelude.{◌≡◌, ◌≤◌, ◌++◌, ◌∷◌, [], IfOk, IfSome, IsTrue, Some, length, take, decimal, codes};
+ghost use Rattle.json.specs.Lex.{tokens};
+ghost use Rattle.json.specs.Print.{escape, escape_byte, quoted as quoted_text};
+ghost use Rattle.serde_json.specs.Written.{compact_text};
+ghost use Rattle.quick_forms.specs.Seen.{step_of_tokens, post_data, deliver_data, place_data};
+ghost use Rattle.forms.specs.Reading.{step_of};
+
+use crate::steps::{deliver, place, post};
+use ident::NoMemory;
+use model::Step;
+use std::alloc::Global;
+
+/// How long a line may be that is compared byte by byte. The tokens of a longer one are found faster.
+const MOST_BYTES: usize = 512;
+
+/// The step, where the line is one of the quick ones in its shortest form.
+pub(crate) fn shortest(alloc: Global, line: &str) -> Result<Option<Step>, NoMemory>
+    ensures { IfOk result (λ o. IfSome o (λ s. step_of_tokens (tokens line.now) ≡ Some s)) }
+{
+    if line.len() > MOST_BYTES {
+        return Ok(None);
+    }
+    let Some((verb, rest)) = head(line) else {
+        return Ok(None);
+    };
+    if verb == "post" {
+        let Some((number, tenant, text, unit)) = post_parts(rest) else {
+            return Ok(None);
+        };
+        Ok(post(alloc, verb, number, tenant, text, unit)?)
+    } else if verb == "deliver" {
+        let Some((letter, tenant)) = deliver_parts(rest) else {
+            return Ok(None);
+        };
+        Ok(deliver(verb, letter, tenant))
+    } else {
+        let Some((tenant, unit)) = place_parts(rest) else {
+            return Ok(None);
+        };
+        Ok(place(verb, tenant, unit))
+    }
+}
+
+/// The verb, and what stands behind it.
+fn head(line: &str) -> Option<(&str, &str)>
+    ensures { IfSome result (λ p. line.now ≡ codes "{\"do\":" ++ (quoted_text p.0.now ++ p.1.now)) }
+{
+    string_behind(line, "{\"do\":")
+}
+
+/// What a post says behind its verb: its number, tenant, text and unit.
+fn post_parts(rest: &str) -> Option<(u64, &str, &str, u64)>
+    ensures { IfSome result (λ p. rest.now
+        ≡ codes ",\"number\":" ++ (decimal p.0 ++ (codes ",\"tenant\":" ++ (quoted_text p.1.now ++ (codes ",\"text\":"
+        ++ (quoted_text p.2.now ++ (codes ",\"unit\":" ++ (decimal p.3 ++ codes "}")))))))) }
+{
+    let (number, rest) = number_behind(rest, ",\"number\":")?;
+    let (tenant, rest) = string_behind(rest, ",\"tenant\":")?;
+    let (text, rest) = string_behind(rest, ",\"text\":")?;
+    let (unit, rest) = number_behind(rest, ",\"unit\":")?;
+    if rest == "}" {
+        Some((number, tenant, text, unit))
+    } else {
+        None
+    }
+}
+
+/// What a delivery says behind its verb: its letter and tenant.
+fn deliver_parts(rest: &str) -> Option<(u64, &str)>
+    ensures { IfSome result (λ p. rest.now
+        ≡ codes ",\"letter\":" ++ (decimal p.0 ++ (codes ",\"tenant\":" ++ (quoted_text p.1.now ++ codes "}")))) }
+{
+    let (letter, rest) = number_behind(rest, ",\"letter\":")?;
+    let (tenant, rest) = string_behind(rest, ",\"tenant\":")?;
+    if rest == "}" {
+        Some((letter, tenant))
+    } else {
+        None
+    }
+}
+
+/// What a step says behind its verb that names a tenant and a unit alone.
+fn place_parts(rest: &str) -> Option<(&str, u64)>
+    ensures { IfSome result (λ p. rest.now
+        ≡ codes ",\"tenant\":" ++ (quoted_text p.0.now ++ (codes ",\"unit\":" ++ (decimal p.1 ++ codes "}")))) }
+{
+    let (tenant, rest) = string_behind(rest, ",\"tenant\":")?;
+    let (unit, rest) = number_behind(rest, ",\"unit\":")?;
+    if rest == "}" {
+        Some((tenant, unit))
+    } else {
+        None
+    }
+}
+
+/// The string behind these words, and what stands behind it, where the text begins so.
+fn string_behind<'a>(text: &'a str, words: &str) -> Option<(&'a str, &'a str)>
+    ensures { IfSome result (λ p. text.now ≡ words.now ++ (quoted_text p.0.now ++ p.1.now)) }
+{
+    quoted(after(text, words)?)
+}
+
+/// The number behind these words, and what stands behind it, where the text begins so.
+fn number_behind<'a>(text: &'a str, words: &str) -> Option<(u64, &'a str)>
+    ensures { IfSome result (λ p. text.now ≡ words.now ++ (decimal p.0 ++ p.1.now)) }
+{
+    whole(after(text, words)?)
+}
+
+/// What stands behind these words, where the text begins with them.
+fn after<'a>(text: &'a str, words: &str) -> Option<&'a str>
+    ensures { IfSome result (λ rest. text.now ≡ words.now ++ rest.now) }
+{
+    text.strip_prefix(words)
+}
+
+/// The string that the text begins with, where it needs no escape, and what stands behind it.
+fn quoted(text: &str) -> Option<(&str, &str)>
+    ensures { IfSome result (λ p. text.now ≡ quoted_text p.0.now ++ p.1.now) }
+{
+    let inner = after(text, "\"")?;
+    let (string, rest) = inner.split_at_checked(plain_len(inner.as_bytes()))?;
+    let rest = after(rest, "\"")?;
+    Some((string, rest))
+}
+
+/// How many bytes stand there that a string can have without an escape.
+fn plain_len(bytes: &[u8]) -> usize
+    ensures within { result ≤ length bytes.now }
+    ensures plain { escape (take result bytes.now) ≡ take result bytes.now }
+{
+    let mut at = 0;
+    while at < bytes.len() && is_plain(bytes[at]) {
+        at += 1;
+    }
+    at
+}
+
+/// Whether a byte needs no escape in a string.
+fn is_plain(byte: u8) -> bool
+    ensures { IsTrue result → escape_byte byte ≡ byte ∷ [] }
+{
+    byte >= 32 && byte != b'"' && byte != b'\\'
+}
+
+/// The whole number that the text begins with, and what stands behind it. None is given for one with a zero ahead, or
+/// of 2^32 and more.
+fn whole(text: &str) -> Option<(u64, &str)>
+    ensures { IfSome result (λ p. text.now ≡ decimal p.0 ++ p.1.now) }
+{
+    let (digits, rest) = text.split_at_checked(digits_len(text.as_bytes()))?;
+    let number = number_of_digits(digits)?;
+    Some((number, rest))
+}
+
+/// How many bytes stand there that are digits.
+fn digits_len(bytes: &[u8]) -> usize
+    ensures { result ≤ length bytes.now }
+{
+    let mut at = 0;
+    while at < bytes.len() && bytes[at].is_ascii_digit() {
+        at += 1;
+    }
+    at
+}
+
+/// The number whose shortest digits these are.
+fn number_of_digits(digits: &str) -> Option<u64>
+    ensures { IfSome result (λ n. digits.now ≡ decimal n) }
+{
+    let bytes = digits.as_bytes();
+    if bytes.is_empty() || bytes[0] == b'+' || (bytes[0] == b'0' && bytes.len() > 1) {
+        return None;
+    }
+    match digits.parse::<u32>() {
+        Ok(number) => Some(u64::from(number)),
+        Err(_) => None,
+    }
+}
