@@ -62,16 +62,22 @@ pub(crate) enum Way {
 pub(crate) fn failed(alloc: Global, lines: &str, way: Way) -> anyhow::Result<String> {
     if let Some(room) = numbers_in(alloc, lines, "write past ")?.as_slice().first() {
         let writer = FuseWriter::new(alloc, *room as usize);
-        return told_over(alloc, WriterStore::new(alloc, writer), lines, way);
+        let book = Book::new(alloc, Sample, WriterStore::new(alloc, writer));
+        return told_by(alloc, book, lines, way);
     }
     let appends = numbers_in(alloc, lines, "append ")?;
     let fetches = numbers_in(alloc, lines, "fetch ")?;
-    told_over(alloc, FuseStore::new(alloc, appends, fetches), lines, way)
+    let book: Books = Book::new(alloc, Sample, FuseStore::new(alloc, appends, fetches));
+    told_by(alloc, book, lines, way)
 }
 
-/// What a new book over this store tells of the steps of a row.
-fn told_over<S: Store>(alloc: Global, store: S, lines: &str, way: Way) -> anyhow::Result<String> {
-    let mut book = Book::new(alloc, Sample, store);
+/// What a new book tells of the steps of a row.
+fn told_by<S: Store>(
+    alloc: Global,
+    mut book: Book<Sample, S>,
+    lines: &str,
+    way: Way,
+) -> anyhow::Result<String> {
     match way {
         Way::OneByOne => one_by_one(alloc, &mut book, lines),
         Way::AtOnce => at_once(alloc, &mut book, steps_of(alloc, lines)?.as_slice()),
