@@ -81,7 +81,7 @@ class Host:
     def _write(self, steps):
         try:
             for step in steps:
-                self._process.stdin.write(json.dumps(step).encode() + b"\n")
+                self._process.stdin.write(json.dumps(step, sort_keys=True, separators=(",", ":")).encode() + b"\n")
             self._process.stdin.flush()
         except (BrokenPipeError, ValueError):
             pass  # (the replies that are missing tell of it)

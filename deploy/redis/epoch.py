@@ -43,7 +43,7 @@ class Copy:
 
     def ask(self, do, tenant, **keys):
         self.lease.renew()
-        line = json.dumps({"do": do, "tenant": tenant, **keys}).encode()
+        line = json.dumps({"do": do, "tenant": tenant, **keys}, sort_keys=True, separators=(",", ":")).encode()
         self.run.give([(None, {b"line": line})])
         return json.loads(self.run.reply())
 

@@ -1,14 +1,12 @@
 -- Lines in their shortest form are steps by their tokens.
-use Rattle.std.proofs.Common.{◌≡◌, ℕ, ◌<◌, ◌^◌, List, Some, None, Option, ap, sym, subst, ◌∙◌, refl, decimal, codes, ◌++◌}
-use Rattle.json.specs.Token.{Token}
+use Rattle.std.proofs.Common.{◌≡◌, ℕ, ◌<◌, ◌^◌, List, Some, None, Option, ap, sym, ◌∙◌, refl, decimal, codes, ◌++◌}
 use Rattle.json.specs.Lex.{tokens}
-use Rattle.json.specs.Print.{print, ArePrintable, quoted, escape_byte}
+use Rattle.json.specs.Print.{ArePrintable, quoted, escape_byte}
 use Rattle.json.specs.Json.{value, members}
 use Rattle.json.specs.Tree.{json_tokens}
 use Rattle.json.proofs.Printed.Tokens.{tokens-print}
 use Rattle.json.proofs.Printed.Decimals.{IsNumber-decimal}
-use Rattle.serde_json.specs.Data.{Data, Num, unsigned}
-use Rattle.serde_json.specs.Read.{number_of}
+use Rattle.serde_json.specs.Data.{Data}
 use Rattle.serde_json.specs.Written.{outline, compact_text}
 use Rattle.serde_json.proofs.Texts.{print-outline}
 use Rattle.serde_json.proofs.Numbers.{number_of-decimal}

@@ -1,12 +1,8 @@
 -- Lines in their shortest form: what their parts are.
-use Rattle.std.proofs.Common.{◌≡◌, IsTrue, not, nat_eq, Result, Ok, ℕ, ◌+◌, ◌<◌, ◌^◌, ◌++◌, ◌∷◌, [], List, length, take, get_or, ap, sym, subst, ◌∙◌, refl, decimal, Some, rules, arith}
+use Rattle.std.proofs.Common.{◌≡◌, IsTrue, not, nat_eq, Result, Ok, ℕ, ◌<◌, ◌^◌, List, length, get_or, ap, sym, subst, ◌∙◌, refl, decimal, rules, arith}
 use Rattle.std.specs.Str.Parse.{AllDigits, digits_value, IsNumeral, ParsesUnsigned, without_leading_plus}
 use Rattle.std.proofs.lemmas.Str.Parse.{IsNumeralModel}
 use Rattle.std.proofs.lemmas.Fmt.{decimal-digits_value}
-use Rattle.std.proofs.lemmas.List.{take_more}
-use Rattle.std.proofs.lemmas.Grind.{flat_map-append}
-use Rattle.std.proofs.lemmas.List.Concat.{flat_map-cons}
-use Rattle.json.specs.Print.{escape, escape_byte}
 
 pub differs : (m n : ℕ) → IsTrue (not (nat_eq m n)) → m ≡ n → ⊥
 differs m n p = search rules

@@ -5,9 +5,7 @@
 ghost use Rattle.std.specs.Prelude.{◌≡◌, ◌≤◌, ◌++◌, ◌∷◌, [], IfOk, IfSome, IsTrue, Some, length, take, decimal, codes};
 ghost use Rattle.json.specs.Lex.{tokens};
 ghost use Rattle.json.specs.Print.{escape, escape_byte, quoted as quoted_text};
-ghost use Rattle.serde_json.specs.Written.{compact_text};
-ghost use Rattle.quick_forms.specs.Seen.{step_of_tokens, post_data, deliver_data, place_data};
-ghost use Rattle.forms.specs.Reading.{step_of};
+ghost use Rattle.quick_forms.specs.Seen.{step_of_tokens};
 
 use crate::steps::{deliver, place, post};
 use ident::NoMemory;

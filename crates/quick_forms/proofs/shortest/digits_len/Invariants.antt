@@ -1,4 +1,4 @@
-use Rattle.std.proofs.Common.{length, ◌-◌, ◌≤◌, ℕ}
+use Rattle.std.proofs.Common.{length, ◌-◌, ◌≤◌}
 use Rattle.quick_forms.proofs.shortest.digits_len.Given as goal
 
 abbrev pub invariant-loop-at : goal.invariant-loop-at

@@ -1,4 +1,3 @@
-use Rattle.std.proofs.Common.{◌≡◌, IsTrue, ◌∷◌, [], rules}
 use Rattle.json.proofs.Printed.Strings.{escape_byte_plain}
 use Rattle.quick_forms.proofs.Parts.{differs}
 use Rattle.quick_forms.proofs.shortest.is_plain.Goals as goal

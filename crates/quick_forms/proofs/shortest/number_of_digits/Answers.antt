@@ -1,4 +1,4 @@
-use Rattle.std.proofs.Common.{◌≡◌, ap, sym, subst, ◌∙◌, get_or, length, decimal, rules, arith}
+use Rattle.std.proofs.Common.{◌≡◌, ap, sym, ◌∙◌, get_or, length, decimal, rules}
 use Rattle.quick_forms.proofs.Parts.{number_written}
 use Rattle.quick_forms.proofs.shortest.number_of_digits.Goals as goal
 
