@@ -1,4 +1,4 @@
 pub mod LeftLaws
 mod Lists
 pub mod PlacesLaws
-pub mod Tables
+mod Places

@@ -262,17 +262,20 @@ append_lists (Err x) before after records now r count k n own others same e f t 
 pub undone : (before mid after : Lists) (tenant : List ℕ) (unit place : ℕ)
     → mid tenant unit ≡ before tenant unit ++ place ∷ []
     → ((t : List ℕ) (u : ℕ) → Differs t u tenant unit → mid t u ≡ before t u)
-    → after tenant unit ≡ take (length (before tenant unit)) (mid tenant unit)
+    → after tenant unit ≡ take (length (mid tenant unit) - 1) (mid tenant unit)
     → ((t : List ℕ) (u : ℕ) → Differs t u tenant unit → after t u ≡ mid t u)
     → (t : List ℕ) (u : ℕ) → after t u ≡ before t u
 undone before mid after tenant unit place own others own_after others_after =
     everywhere (λ t u. after t u ≡ before t u) tenant unit
-    (own_after ∙ (ap (take (length (before tenant unit))) own ∙ take_all (before tenant unit) place))
+    (own_after ∙ (ap (λ ps. take (length ps - 1) ps) own ∙ take_all (before tenant unit) place))
     (λ t u other. others_after t u other ∙ others t u other)
   where
-    take_all : (ps : List ℕ) (p : ℕ) → take (length ps) (ps ++ p ∷ []) ≡ ps
-    take_all [] p = refl
-    take_all (x ∷ ps) p = ap (λ (qs : List ℕ). x ∷ qs) (take_all ps p)
+    take_each : (ps : List ℕ) (p : ℕ) → take (length ps) (ps ++ p ∷ []) ≡ ps
+    take_each [] p = refl
+    take_each (x ∷ ps) p = ap (λ (qs : List ℕ). x ∷ qs) (take_each ps p)
+
+    take_all : (ps : List ℕ) (p : ℕ) → take (length (ps ++ p ∷ []) - 1) (ps ++ p ∷ []) ≡ ps
+    take_all ps p = let e : length (ps ++ p ∷ []) - 1 ≡ length ps = rw (length-append) omega arith in rw (e) (take_each ps p)
 
 -- the lists after some of a unit's records went
 lost_lists : (before after : Lists) (records : List (Option Record)) (tenant : List ℕ) (unit first count : ℕ) → Indexes before records

@@ -180,9 +180,10 @@ pub(crate) fn add(
     ensures others { OtherLists tenant.now unit index.old index.new }
     ensures err { OnErr result (SameLists index.old index.new) }
 {
-    if index.get(tenant).is_none() {
-        enter(alloc, index, tenant)?;
+    if let Some(units) = index.get_mut(tenant) {
+        return units.add(alloc, unit, place);
     }
+    enter(alloc, index, tenant)?;
     match index.get_mut(tenant) {
         Some(units) => units.add(alloc, unit, place),
         None => Err(NoMemory),

@@ -156,7 +156,6 @@ fn append_to<S: Store>(
     let Some(next) = count.checked_add(1) else {
         return Err(StoreFault::NoMemory);
     };
-    let had = index::of(index, &logged.tenant, logged.unit).len();
     index::add(alloc, index, &logged.tenant, logged.unit, *count)?;
     match store.append(logged) {
         Ok(()) => {
@@ -164,6 +163,7 @@ fn append_to<S: Store>(
             Ok(())
         }
         Err(fault) => {
+            let had = index::of(index, &logged.tenant, logged.unit).len() - 1;
             index::cut(index, &logged.tenant, logged.unit, had);
             Err(fault)
         }

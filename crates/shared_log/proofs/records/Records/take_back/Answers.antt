@@ -1,10 +1,13 @@
-use Rattle.std.proofs.Common.{◌≡◌, ◌+◌, nat_eq, arith}
-use Rattle.indexmap.specs.IndexMap.{get}
-use Rattle.shared_log.proofs.Tables.{tabled_back, differs}
+use Rattle.std.proofs.Common.{◌-◌, arith}
+use Rattle.shared_log.proofs.Places.{last_gone, last_taken}
 use Rattle.shared_log.proofs.records.Records.take_back.Goals as goal
 
-pub returns-in-Some : goal.returns-in-Some
-returns-in-Some c =
-    let last : c.self.inside.count ≡ c.in-Some.last + 1 = grind (arith, c.in-Some.ensures) in
-    tabled_back (get nat_eq c.self.inside.kept) (get nat_eq c.swap_remove.new.self) c.self.inside.count c.in-Some.last c.args.self.now last
-    (λ i d. c.swap_remove.ensures.updates.2 i (differs c.in-Some.last i d)) c.self.view_is
+pub returns-then-is_empty : goal.returns-then-is_empty
+returns-then-is_empty c =
+    last_gone c.self.inside.gone c.saturating_sub-self-inside.result c.self.inside.places.items c.args.self.now
+    (grind (arith, c.if-is_empty.ensures)) c.saturating_sub-self-inside.ensures c.self.view_is
+
+pub returns : goal.returns
+returns c =
+    last_taken c.self.inside.gone (c.len-last.result - 1) c.self.inside.places.items c.truncate.new.self.items c.args.self.now
+    (grind (arith, c.if-is_empty.ensures, c.len-last.ensures)) c.truncate.ensures.items c.self.view_is
