@@ -40,7 +40,8 @@ IsPart-append a b p q = All-append (λ x. x ≢ 10) a b p q
 pub LinesRead-ended : (a c : Option (List ℕ)) (text : List ℕ) → IsPart text → Consumes a c (text ++ 10 ∷ []) → LinesRead a c (text ∷ [])
 LinesRead-ended None c text part h = tt
 LinesRead-ended (Some x) None text part h = absurd h
-LinesRead-ended (Some x) (Some y) text part h = ap lines_of (h ∙ append_assoc text (10 ∷ []) y) ∙ lines_of-ended text y part
+LinesRead-ended (Some x) (Some y) text part h =
+    (ap lines_of (h ∙ append_assoc text (10 ∷ []) y) ∙ lines_of-ended text y part, (text ++ 10 ∷ [], h))
 
 -- what was read up to the end is the last line
 pub LinesRead-last : (a b c : Option (List ℕ)) (text : List ℕ) → IsPart text → 0 < length text → Consumes a b text → IsAtEnd b → Keeps b c → LinesRead a c (text ∷ [])
@@ -48,8 +49,10 @@ LinesRead-last None b c text part some h e k = tt
 LinesRead-last (Some x) None c text part some h e k = absurd h
 LinesRead-last (Some x) (Some y) None text part some h e k = absurd k
 LinesRead-last (Some x) (Some y) (Some z) text part some h e k =
-    let none : z ≡ [] = k ∙ e in
-    ap lines_of (h ∙ ap (λ l. text ++ l) e ∙ append-nil text) ∙ lines_of-last text part some ∙ sym (ap (λ l. text ∷ lines_of l) none)
+    let none : z ≡ [] = k ∙ e in (
+      ap lines_of (h ∙ ap (λ l. text ++ l) e ∙ append-nil text) ∙ lines_of-last text part some ∙ sym (ap (λ l. text ∷ lines_of l) none),
+      (text, h ∙ ap (λ l. text ++ l) (sym k)),
+    )
 
 -- an input of which nothing was read before its end
 pub IsAtEnd-unread : (a b : Option (List ℕ)) → Consumes a b [] → IsAtEnd b → IsAtEnd a
@@ -103,15 +106,18 @@ heard_last false held text a b c h part taken ended kept =
 
 pub LinesRead-nil : (a : Option (List ℕ)) → LinesRead a a []
 LinesRead-nil None = tt
-LinesRead-nil (Some x) = refl
+LinesRead-nil (Some x) = (refl, ([], refl))
 
 pub LinesRead-more : (a b c : Option (List ℕ)) (ls : List (List ℕ)) (l : List ℕ) → LinesRead a b ls → LinesRead b c (l ∷ []) → LinesRead a c (ls ++ l ∷ [])
 LinesRead-more None b c ls l p q = tt
 LinesRead-more (Some x) None c ls l p q = absurd p
 LinesRead-more (Some x) (Some y) None ls l p q = absurd q
-LinesRead-more (Some x) (Some y) (Some z) ls l p q = p ∙ ap (λ r. ls ++ r) q ∙ sym (append_assoc ls (l ∷ []) (lines_of z))
+LinesRead-more (Some x) (Some y) (Some z) ls l p q = (
+  p.0 ∙ ap (λ r. ls ++ r) q.0 ∙ sym (append_assoc ls (l ∷ []) (lines_of z)),
+  (p.1.0 ++ q.1.0, p.1.1 ∙ ap (λ r. p.1.0 ++ r) q.1.1 ∙ sym (append_assoc p.1.0 q.1.0 z)),
+)
 
 pub LinesRead-all : (a b : Option (List ℕ)) (ls : List (List ℕ)) → LinesRead a b ls → IsAtEnd b → IfSome a (λ all. lines_of all ≡ ls)
 LinesRead-all None b ls p e = tt
 LinesRead-all (Some x) None ls p e = absurd p
-LinesRead-all (Some x) (Some y) ls p e = p ∙ ap (λ r. ls ++ lines_of r) e ∙ append-nil ls
+LinesRead-all (Some x) (Some y) ls p e = p.0 ∙ ap (λ r. ls ++ lines_of r) e ∙ append-nil ls

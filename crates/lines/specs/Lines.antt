@@ -21,8 +21,8 @@ abbrev pub Holds : List ℕ → Bool → List ℕ → Type 0
 Holds held false text = (held ≡ text) × (length text ≤ MAX_LINE_BYTES)
 Holds held true text = MAX_LINE_BYTES < length text
 
--- The known bytes began with these lines, and the others are left.
+-- The known bytes began with these lines, and what is left of them has the others.
 abbrev pub LinesRead : Option (List ℕ) → Option (List ℕ) → List (List ℕ) → Type 0
 LinesRead None new lines = ⊤
 LinesRead (Some all) None lines = ⊥
-LinesRead (Some all) (Some rest) lines = lines_of all ≡ lines ++ lines_of rest
+LinesRead (Some all) (Some rest) lines = (lines_of all ≡ lines ++ lines_of rest) × ((read : List ℕ) × (all ≡ read ++ rest))

@@ -1,6 +1,14 @@
-use Rattle.std.proofs.Common.{◌≡◌, ◌++◌, ◌∷◌, [], arith, rules}
+use Rattle.std.proofs.Common.{◌≡◌, ◌++◌, ◌∷◌, [], arith, refl, rules}
 use Rattle.lines.proofs.Feeds.{feed_goes_on}
+use Rattle.lines.proofs.Parts.{LinesRead-nil}
 use Rattle.lines.proofs.feed.read_feed.Goals as goal
+
+pub loop-found-init : goal.loop-found-init
+loop-found-init g c = record {
+  room = search rules;
+  same = refl;
+  read = ([], LinesRead-nil _, search rules);
+}
 
 pub loop-found-preserved : goal.loop-found-preserved
 loop-found-preserved g c =

@@ -1,4 +1,4 @@
-use Rattle.std.proofs.Common.{◌∙◌, [], refl, arith}
+use Rattle.std.proofs.Common.{◌∙◌, [], refl, arith, rules}
 use Rattle.std.proofs.lemmas.Result.{err_from_is_err_and}
 use Rattle.std.proofs.KnownBytes.{Appends-nil, Keeps-refl}
 use Rattle.lines.proofs.Parts.{LinesRead-nil, TakesPart-none}
@@ -14,6 +14,15 @@ returns-in_err-serve_line-clause-some g c =
     let p = err_from_is_err_and c.from_residual.result c.from_residual.ensures.1 in
     let so_far = c.loop-text.invariant.served in
     rw p.1 (stops _ _ _ _ _ _ _ _ _ so_far.0 so_far.1 so_far.2 so_far.3 so_far.4 c.in_err-serve_line.ensures.err)
+
+pub loop-text-init : goal.loop-text-init
+loop-text-init g c = record {
+  room = search rules;
+  read_same = refl;
+  write_same = refl;
+  within = search rules;
+  served = ([], [], LinesRead-nil _, (refl, refl), Appends-nil _, refl);
+}
 
 pub loop-text-preserved : goal.loop-text-preserved
 loop-text-preserved g c =
