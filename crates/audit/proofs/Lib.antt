@@ -2,3 +2,4 @@ pub mod Queues
 pub mod Orders
 pub mod Making
 pub mod Beginning
+pub mod Taking

@@ -44,49 +44,49 @@ module _ {S : Type 0} (M : Meaning S) (net : Network S) (u : ℕ) (source : Sour
 -- ---- what a move keeps
 
 -- the units are in order, and n more
-abbrev pub Kept : {S : Type 0} → ℕ → Network S → Network S → Type 0
-Kept n net next = AreInOrder next.workers × (length next.workers ≡ length net.workers + n)
+abbrev pub StayInOrder : {S : Type 0} → ℕ → Network S → Network S → Type 0
+StayInOrder n net next = AreInOrder next.workers × (length next.workers ≡ length net.workers + n)
 
 module _ {S : Type 0} (M : Meaning S) (net next : Network S) (order : AreInOrder net.workers) where
   works_kept : (packets : List Packet) (u : ℕ) (a : Worker S) (source : Source) (text : List ℕ) → slice_get net.workers u ≡ Some a
-      → (let made : Result (Network S) Flaw = Ok (works_on M (record net { packets = packets }) a source text) in made) ≡ Ok next → Kept 0 net next
+      → (let made : Result (Network S) Flaw = Ok (works_on M (record net { packets = packets }) a source text) in made) ≡ Ok next → StayInOrder 0 net next
   works_kept packets u a source text found e =
       let it : works_on M (record net { packets = packets }) a source text ≡ next = cc in
       let there : slice_get net.workers a.seat.unit ≡ Some a = subst (λ (n : ℕ). slice_get net.workers n ≡ Some a) (sym (unit_at net.workers u a order found)) found in
       let worker : Worker S = after_turn a source text (M.handle a.seat a.state source text) in
       let len = length_set net.workers a.seat.unit worker in
-      subst (λ n. Kept 0 net n) it
+      subst (λ n. StayInOrder 0 net n) it
       (numbered_set (λ b. b.seat.unit) net.workers a.seat.unit a worker there refl ∙ order ∙ ap (numbers_from 0) (sym len), omega (arith, len))
 
-  text_kept : (u : ℕ) (text : List ℕ) (o : Option (Worker S)) → slice_get net.workers u ≡ o → takes_text M net u text o ≡ Ok next → Kept 0 net next
+  text_kept : (u : ℕ) (text : List ℕ) (o : Option (Worker S)) → slice_get net.workers u ≡ o → takes_text M net u text o ≡ Ok next → StayInOrder 0 net next
   text_kept u text None found e = cc
   text_kept u text (Some a) found e = works_kept net.packets u a Outside text found e
 
   next_kept : (packets : List Packet) (to source : ℕ) (a : Worker S) (o : Option (List ℕ)) → slice_get net.workers to ≡ Some a
-      → takes_next M (record net { packets = packets }) a to source o ≡ Ok next → Kept 0 net next
+      → takes_next M (record net { packets = packets }) a to source o ≡ Ok next → StayInOrder 0 net next
   next_kept packets to source a None found e = cc
   next_kept packets to source a (Some text) found e = works_kept packets to a (FromUnit source) text found e
 
   there_kept : (to source : ℕ) (a : Worker S) (b : Bool) → slice_get net.workers to ≡ Some a
-      → cond b (takes_next M (record net { packets = without_next source to net.packets }) a to source (next_text source to net.packets)) (Err (NoUnit source)) ≡ Ok next → Kept 0 net next
+      → cond b (takes_next M (record net { packets = without_next source to net.packets }) a to source (next_text source to net.packets)) (Err (NoUnit source)) ≡ Ok next → StayInOrder 0 net next
   there_kept to source a true found e = next_kept (without_next source to net.packets) to source a (next_text source to net.packets) found e
   there_kept to source a false found e = cc
 
-  letter_kept : (to source : ℕ) (o : Option (Worker S)) → slice_get net.workers to ≡ o → takes_letter M net to source o ≡ Ok next → Kept 0 net next
+  letter_kept : (to source : ℕ) (o : Option (Worker S)) → slice_get net.workers to ≡ o → takes_letter M net to source o ≡ Ok next → StayInOrder 0 net next
   letter_kept to source None found e = cc
   letter_kept to source (Some a) found e = there_kept to source a (nat_lt source (length net.workers)) found e
 
   join_kept : (seat : Seat) (b : Bool) → seat.unit ≡ length net.workers
-      → cond b (Err (NoUnit 16)) (Ok (record net { workers = net.workers ++ new_worker M seat ∷ [] })) ≡ Ok next → Kept 1 net next
+      → cond b (Err (NoUnit 16)) (Ok (record net { workers = net.workers ++ new_worker M seat ∷ [] })) ≡ Ok next → StayInOrder 1 net next
   join_kept seat true u e = cc
   join_kept seat false u e =
       let workers : List (Worker S) = net.workers ++ new_worker M seat ∷ [] in
       let it : (let made : Network S = record net { workers = workers } in made) ≡ next = cc in
       let len = length_more net.workers (new_worker M seat) in
-      subst (λ n. Kept 1 net n) it
+      subst (λ n. StayInOrder 1 net n) it
       (numbered_more (λ b. b.seat.unit) 0 net.workers (new_worker M seat) order (u ∙ sym (zero-add (length net.workers))), omega (arith, len))
 
-  pub move_kept : (m : Move) → moved M net m ≡ Ok next → Kept (joins (m ∷ [])) net next
+  pub move_kept : (m : Move) → moved M net m ≡ Ok next → StayInOrder (joins (m ∷ [])) net next
   move_kept (Takes u text) e = text_kept u text (slice_get net.workers u) refl e
   move_kept (TakesLetter to source) e = letter_kept to source (slice_get net.workers to) refl e
   move_kept (Joins kind) e = join_kept (record { unit = length net.workers; kind = kind; home = length net.workers + 1 }) (nat_le 16 (length net.workers)) refl e
@@ -116,15 +116,15 @@ joins_more (Takes u text) moves = omega arith
 joins_more (TakesLetter to source) moves = omega arith
 joins_more (Joins kind) moves = omega arith
 
-pub all_kept : {S : Type 0} (M : Meaning S) (net : Network S) (moves : List Move) (last : Network S) → AreInOrder net.workers → run_from M net moves ≡ Ok last → Kept (joins moves) net last
+pub all_kept : {S : Type 0} (M : Meaning S) (net : Network S) (moves : List Move) (last : Network S) → AreInOrder net.workers → run_from M net moves ≡ Ok last → StayInOrder (joins moves) net last
 all_kept {S} M net [] last order e =
     let it : net ≡ last = cc in
-    subst (λ (n : Network S). Kept 0 net n) it (order, omega arith)
+    subst (λ (n : Network S). StayInOrder 0 net n) it (order, omega arith)
 all_kept {S} M net (m ∷ moves) last order e = by (moved M net m) refl e (λ next order' q. all_kept M next moves last order' q)
   where
     by : (r : Result (Network S) Flaw) → moved M net m ≡ r → if_moved r (λ next. run_from M next moves) ≡ Ok last
-        → ((next : Network S) → AreInOrder next.workers → run_from M next moves ≡ Ok last → Kept (joins moves) next last)
-        → Kept (joins (m ∷ moves)) net last
+        → ((next : Network S) → AreInOrder next.workers → run_from M next moves ≡ Ok last → StayInOrder (joins moves) next last)
+        → StayInOrder (joins (m ∷ moves)) net last
     by (Err flaw) made q rest = cc
     by (Ok next) made q rest =
         let one = move_kept M net next order m made in

@@ -18,7 +18,9 @@ fn take_text<H: Handler>(handler: &H, net: Network<H::State>, unit: Unit, text: 
     if !is_within(unit, net.workers.len()) {
         return Err(Flaw::NoUnit(unit));
     }
-    let own = text.copy().map_err(|_| Flaw::NoMemory)?;
+    let Ok(own) = text.copy() else {
+        return Err(Flaw::NoMemory);
+    };
     work(handler, net, unit, (Source::Outside, own)).map_err(|_| Flaw::NoMemory)
 }
 

@@ -1,10 +1,10 @@
 -- The text of an outcome.
 use Rattle.std.specs.Prelude.{ℕ, List, codes, Result, Ok, Err}
 use Rattle.serde_json.specs.Data.{Data, number, unsigned, string, object, no_members, member}
-use Rattle.serde_json.specs.Written.{compact_text}
 use Rattle.model.specs.declared.moves.Flaw.{Flaw}
 use Rattle.model.specs.declared.moves.Flaw.TheVariants.{NoUnit, NothingToReceive, OutputsDiffer, NoMemory}
 use Rattle.audit.specs.declared.verdict.Verdict.{Verdict}
+use Rattle.forms.specs.Writing.{data_text}
 
 -- a flaw of this name, at this unit: the keys are in the order of their bytes
 abbrev pub flaw_data : List ℕ → List ℕ → ℕ → Data
@@ -19,10 +19,6 @@ outcome_data tenant (Err (NoUnit u)) = flaw_data tenant (codes "no-unit") u
 outcome_data tenant (Err (NothingToReceive u)) = flaw_data tenant (codes "nothing-to-receive") u
 outcome_data tenant (Err (OutputsDiffer u)) = flaw_data tenant (codes "outputs-differ") u
 outcome_data tenant (Err NoMemory) = object (member (codes "audit") (string (codes "memory")) (member (codes "tenant") (string tenant) no_members))
-
--- the compact text of a value
-unfoldable pub data_text : Data → List ℕ
-data_text d = compact_text d
 
 -- the text of the outcome of a tenant's audit, without a line feed
 abbrev pub outcome_text : List ℕ → Result Verdict Flaw → List ℕ

@@ -8,13 +8,12 @@ ghost use Rattle.auditor.specs.Lists.{IsClear, lists_at};
 use audit::{Verdict, check};
 use book::Book;
 use handler::Handler;
-use ident::MAX_UNITS;
-use model::{Flaw, NoMemory, TenantName, Text, Texts, Unit};
+use model::{Flaw, MAX_UNITS, NoMemory, TenantName, Text, Texts, Unit};
 use shared_log::Store;
 use std::alloc::Global;
 
 /// Equal texts.
-fn texts_of(alloc: Global, texts: &[Text]) -> Result<Texts, NoMemory>
+fn copy_texts(alloc: Global, texts: &[Text]) -> Result<Texts, NoMemory>
     ensures { IfOk result (λ copies. copies ≡ texts.now) }
 {
     let mut copies = Vec::new(alloc);
@@ -36,7 +35,7 @@ fn all_released<H: Handler, S: Store>(
     let mut lists = Vec::new(alloc);
     for number in 0..MAX_UNITS as u8 {
         if let Some(released) = book.released(tenant, Unit::new(number)) {
-            lists.push(texts_of(alloc, released)?)?;
+            lists.push(copy_texts(alloc, released)?)?;
         }
     }
     Ok(lists)

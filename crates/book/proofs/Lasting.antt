@@ -12,7 +12,7 @@ use Rattle.model.specs.World.{Member, World}
 use Rattle.model.specs.declared.moves.Flaw.{Flaw}
 use Rattle.model.specs.declared.replies.Entry.{Entry}
 use Rattle.theory.proofs.Certificate.{certificate_law}
-use Rattle.theory.proofs.Courses.{courses_reach, released_stay, stays_open}
+use Rattle.theory.proofs.Courses.{courses_reach, released_stay, open_after}
 use Rattle.theory.proofs.Released.{prefix_trans}
 use Rattle.book.specs.Certificates.{BeginsRun, StaysReleased}
 use Rattle.book.specs.History.{released_at, world_of}
@@ -49,16 +49,9 @@ module _ {S : Type 0} (M : Meaning S) where
 
   -- ---- a tenant that is open is open at the end
 
-  stays_on : (events : List Event) (v : World) → (w : World) × ((course_from M (Some v) events).world ≡ Some w)
-  stays_on [] v = (v, refl)
-  stays_on (e ∷ events) v =
-      let o = stays_open M v e in
-      let r = stays_on events o.0 in
-      (r.0, ap (λ z. (course_from M z events).world) o.1 ∙ r.1)
-
   ends_open : (before after : List Event) (o : Option World) (v : World) → (course_from M o before).world ≡ Some v
       → (w : World) × ((course_from M o (before ++ after)).world ≡ Some w)
-  ends_open [] after o v e = let r = stays_on after v in (r.0, ap (λ z. (course_from M z after).world) e ∙ r.1)
+  ends_open [] after o v e = let r = open_after M after v in (r.0, ap (λ z. (course_from M z after).world) e ∙ r.1)
   ends_open (x ∷ before) after o v e = ends_open before after (step M o x).world v e
 
   -- ---- what is released

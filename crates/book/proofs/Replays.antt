@@ -36,8 +36,11 @@ name_of e = (addressed e.step).0
 abbrev pub pair_of : Entry → Step × Said
 pair_of e = (e.step, e.said)
 
-abbrev event_of_pair : Step × Said → Event
+abbrev pub event_of_pair : Step × Said → Event
 event_of_pair p = record { step = (addressed p.0).1; said = p.1 }
+
+pub same_name : (t u : List ℕ) → bytes_eq t u ≡ true → t ≡ u
+same_name t u p = (bytes_eq-Decides t u).0 p
 
 -- ---- more entries in the lists of a tenant
 
@@ -100,7 +103,7 @@ module _ {S : Type 0} (M : Meaning S) where
   course_from-push w (x ∷ events) e =
       ap (λ (c : Course). record { replies = (step M w x).reply ∷ c.replies; world = c.world }) (course_from-push (step M w x).world events e)
 
-  world_of-named : (t : List ℕ) (h : List Entry) (e : Entry) → names t e.step ≡ true
+  pub world_of-named : (t : List ℕ) (h : List Entry) (e : Entry) → names t e.step ≡ true
       → world_of M t (h ++ e ∷ []) ≡ (step M (world_of M t h) (event_of e)).world
   world_of-named t h e is =
       ap (λ (events : List Event). (alone M events).world) (own-named t h e is)
@@ -144,9 +147,6 @@ module _ {S : Type 0} (M : Meaning S) where
   )
 
   -- ---- the book
-
-  same_name : (t u : List ℕ) → bytes_eq t u ≡ true → t ≡ u
-  same_name t u p = (bytes_eq-Decides t u).0 p
 
   module _ (before after : Holding (TenantState S)) (h : List Entry) (e : Entry)
       (replay : IsReplay M before h) (answered : IsAnswered M e.step e.said e.reply before after) where

@@ -6,7 +6,7 @@ ghost use Rattle.std.specs.Option.{option_copied, option_map_or};
 ghost use Rattle.checkpoint.specs.Shelves.{based_at, cut_at, has_index, is_at, is_within, later_of as later_by, nearest_of, put_on, tops, with_room, AllAbove, IsNearest, IsTop, Rises};
 
 use crate::snapshot::Snapshot;
-use ident::{MAX_CHECKPOINTS, NoMemory};
+use model::{MAX_CHECKPOINTS, NoMemory};
 use std::alloc::Global;
 use std::marker::Model;
 

@@ -3,10 +3,9 @@
 use book::Book;
 use diagram::{Untold, why_waits};
 use handler::Sample;
-use ident::MAX_LINE_BYTES;
 use lines::{Counted, ServeFault, read_step, serve};
 use log::{Log, warn};
-use model::{Entry, Letter, NoMemory, Row, Step, TenantName};
+use model::{Entry, Letter, MAX_LINE_BYTES, NoMemory, Row, Step, TenantName};
 use reasons::{reason, refusal_in, wait_reason};
 use stable_log::Store;
 use std::alloc::Global;

@@ -3,15 +3,15 @@
 use crate::audits::audit_all;
 use crate::progress::{Bar, Counting};
 use crate::run::BLOCK;
+use crate::words::FeedsWords;
 use forms::LineFault;
 use handler::Sample;
-use ident::MAX_FEEDS;
 use lines::{Counted, ServeFault, fault_reply, put_reply, read_feed};
 use log::{Log, error};
-use model::{NoMemory, Reply, Step};
+use model::{MAX_FEEDS, NoMemory, Reply, Step};
 use stable_log::MemoryStore;
 use std::alloc::Global;
-use std::io::{BufReader, BufWriter, Read, Write};
+use std::io::{self, BufReader, BufWriter, Read, Write};
 use std::sync::Wait;
 use std::thread::Threads;
 use std::time::Clock;
@@ -27,17 +27,17 @@ struct Feeds {
     faults: Vec<Faults>,
 }
 
-/// Runs each input as a feed, all at once over a store in memory, and then writes the reply lines,
-/// feed by feed in the order of the inputs. Tells the status to end with: 0 where all lines are
-/// answered, 1 after a fault of input, output, memory or threads; where the feeds can't be read or
-/// run, nothing is written. With `audit`, audits each open tenant after the last reply; 1 too where
-/// an audit doesn't say yes. Where it `shows`, a bar tells how far the steps are.
+/// Runs each input as a feed, all at once over a store in memory, and then writes the reply lines to standard
+/// output, feed by feed in the order of the inputs. Tells the status to end with: 0 where all lines are answered, 1
+/// after a fault of input, output, memory or threads; where the feeds can't be read or run, nothing is written. Where
+/// the words ask for audits, audits each open tenant after the last reply; 1 too where an audit doesn't say yes. Where
+/// it `shows`, a bar tells how far the steps are.
 pub(crate) fn feeds_on<
-    R: Threads + Wait + Sync + Eprint + Clock,
+    R: Threads + Wait + Sync + Print + Eprint + Clock + AllocGlobal,
     L: Log,
     I: Read + Drop,
-    W: Write + Drop,
->(rt: &R, told: &L, alloc: Global, inputs: Vec<I>, output: W, audit: bool, shows: bool) -> u8 {
+>(rt: &R, told: &L, inputs: Vec<I>, words: &FeedsWords<'_>, shows: bool) -> u8 {
+    let alloc = rt.alloc();
     let read = match read_all(alloc, inputs) {
         Ok(read) => read,
         Err(fault) => {
@@ -62,7 +62,10 @@ pub(crate) fn feeds_on<
     );
     bar.clear();
     match ran {
-        Ok(closed) => write_all(told, alloc, output, &closed, faults.as_slice(), audit),
+        Ok(closed) => {
+            let output = io::writer(rt);
+            write_all(told, alloc, output, &closed, faults.as_slice(), words.audit)
+        }
         Err(fault) => {
             tell_run(told, fault);
             1

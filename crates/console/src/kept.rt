@@ -3,9 +3,8 @@
 use crate::complaints::Talk;
 use book::{Book, Kept};
 use handler::Sample;
-use ident::MAX_UNITS;
 use log::{Log, info};
-use model::{NoMemory, TenantName, Unit};
+use model::{MAX_UNITS, NoMemory, TenantName, Unit};
 use stable_log::Store;
 
 /// Tells the sums over all units of all tenants, where so much is told.

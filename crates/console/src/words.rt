@@ -4,7 +4,7 @@ use crate::complaints::Talk;
 use clap::error::ErrorKind;
 use clap::{Arg, ArgAction, ArgMatches, Command, Error, value_parser};
 use diagram::Window;
-use ident::MAX_FEEDS;
+use model::MAX_FEEDS;
 use std::alloc::Global;
 
 /// What the words ask for.

@@ -1,8 +1,9 @@
 -- Laws of joined and widened vectors.
-use Rattle.std.proofs.Common.{◌≡◌, refl, ap, ℕ, zero, suc, ◌+◌, ◌<◌, ◌≤◌, List, [], ◌∷◌, length, take, set, get_or, arith, add-one}
+use Rattle.std.proofs.Common.{◌≡◌, refl, ap, ℕ, zero, suc, ◌+◌, ◌<◌, ◌≤◌, List, [], ◌∷◌, length, take, set, get_or, arith, add-one, ◌++◌, ◌-◌, ◌∙◌, length-append, replicate, inl, inr}
 use Rattle.model.specs.declared.names.Mark.{Mark}
-use Rattle.model.specs.World.{greater_mark}
-use Rattle.depvector.specs.Vectors.{joined}
+use Rattle.model.specs.World.{greater_mark, no_mark}
+use Rattle.std.specs.List.{AllClonesOf, AppendsClonesOf}
+use Rattle.depvector.specs.Vectors.{joined, widened}
 
 -- a joined vector is as long as the first
 pub length-joined : (own other : List Mark) → length (joined own other) ≡ length own
@@ -25,3 +26,24 @@ joined_more (x ∷ own) (y ∷ other) (suc i) d h k = ap (λ r. greater_mark x y
 pub joined_step : (own other now : List Mark) (i : ℕ) (d : Mark) → now ≡ joined own (take i other) → i < length other → length other ≤ length own
     → set now i (greater_mark (get_or now i d) (get_or other i d)) ≡ joined own (take (i + 1) other)
 joined_step own other now i d is h k = rw (add-one i, is) (joined_more own other i d h k)
+
+-- the first of a list that has no more
+take_whole : {X : Type 0} (xs : List X) (n : ℕ) → length xs ≤ n → take n xs ≡ xs
+take_whole [] zero h = refl
+take_whole [] (suc n) h = refl
+take_whole (x ∷ xs) zero h = absurd (omega arith)
+take_whole (x ∷ xs) (suc n) h = ap (λ ys. x ∷ ys) (take_whole xs n (omega arith))
+
+-- clones that are equal to what they are of
+same_clones : {X : Type 0} (x : X) (ys : List X) → AllClonesOf (λ a b. b ≡ a) x ys → ys ≡ replicate (length ys) x
+same_clones x [] all = refl
+same_clones x (y ∷ ys) (inl e, all) = rw (e) (ap (λ zs. x ∷ zs) (same_clones x ys all))
+same_clones x (y ∷ ys) (inr e, all) = rw (e) (ap (λ zs. x ∷ zs) (same_clones x ys all))
+
+-- a shorter vector that grew to n entries
+pub widened_by_clones : (own new : List Mark) (n : ℕ) → length own < n → AppendsClonesOf (λ a b. b ≡ a) (take n own) new no_mark → length new ≡ n → new ≡ widened own n
+widened_by_clones own new n h (ys, e, all) l =
+    let t : take n own ≡ own = take_whole own n (omega arith) in
+    let k : length own + length ys ≡ n = rw (e, t, length-append) at l in
+    let m : length ys ≡ n - length own = omega (arith, k) in
+    rw (e, t) (ap (λ zs. own ++ zs) (same_clones no_mark ys all ∙ ap (λ j. replicate j no_mark) m))

@@ -4,7 +4,8 @@ ghost use Rattle.std.specs.Prelude.{◌≡◌, ◌<◌, ◌≤◌, IfOk, OnErr, 
 ghost use Rattle.depvector.specs.Vectors.{begun_vector, joined, mark_for, widened};
 
 use crate::marks::{beginning, join_marks};
-use model::{Mark, Marks, NoMemory, Unit};
+use model::{MAX_INLINE_MARKS, Mark, Marks, NoMemory, Unit};
+use smallvec::SmallVec;
 use std::alloc::Global;
 use std::marker::Model;
 
@@ -16,7 +17,7 @@ use std::marker::Model;
 /// constant time.
 #[derive(Drop)]
 pub struct DepVector {
-    marks: Vec<Mark>,
+    marks: SmallVec<Mark, MAX_INLINE_MARKS>,
 }
 
 impl Model for DepVector {
@@ -40,7 +41,7 @@ impl DepVector {
         requires { n ≤ 256 }
         ensures { IfOk result (λ v. v ≡ begun_vector n) }
     {
-        let marks = vec![in alloc; beginning(); n]?;
+        let marks = SmallVec::from_elem(alloc, beginning(), n)?;
         Ok(DepVector { marks })
     }
 
@@ -49,7 +50,22 @@ impl DepVector {
         requires { length marks.items ≤ 256 }
         ensures { result ≡ marks.items }
     {
-        DepVector { marks }
+        DepVector {
+            marks: SmallVec::from_vec(marks),
+        }
+    }
+
+    /// A vector of its own of these marks.
+    ///
+    /// # Errors
+    ///
+    /// `NoMemory` where the entries find no memory.
+    pub fn of(alloc: Global, marks: &[Mark]) -> Result<DepVector, NoMemory>
+        requires { length marks.now ≤ 256 }
+        ensures { IfOk result (λ v. v ≡ marks.now) }
+    {
+        let marks = SmallVec::from_slice(alloc, marks)?;
+        Ok(DepVector { marks })
     }
 
     /// The marks, unit 0 first.
@@ -72,7 +88,7 @@ impl DepVector {
     pub fn get(&self, unit: Unit) -> Mark
         ensures { result ≡ mark_for self.now unit }
     {
-        match self.marks.get(usize::from(unit.number())) {
+        match self.as_slice().get(usize::from(unit.number())) {
             Some(mark) => *mark,
             None => beginning(),
         }
@@ -94,7 +110,7 @@ impl DepVector {
         requires { unit < length self.old }
         ensures { self.new ≡ slice_set self.old unit mark }
     {
-        self.marks[usize::from(unit.number())] = mark;
+        self.marks.as_mut_slice()[usize::from(unit.number())] = mark;
     }
 
     /// Adds the beginnings of units that joined, up to `n` units in all. A vector that has as many
@@ -122,8 +138,7 @@ impl DepVector {
     pub fn copy(&self) -> Result<DepVector, NoMemory>
         ensures { IfOk result (λ v. v ≡ self.now) }
     {
-        let marks = self.marks.clone()?;
-        Ok(DepVector { marks })
+        DepVector::of(*self.marks.allocator(), self.as_slice())
     }
 
     /// The marks as a record holds them.
@@ -134,6 +149,6 @@ impl DepVector {
     pub fn to_marks(&self) -> Result<Marks, NoMemory>
         ensures { IfOk result (λ m. m ≡ self.now) }
     {
-        Ok(Marks::new(self.marks.clone()?))
+        Marks::of(*self.marks.allocator(), self.as_slice())
     }
 }

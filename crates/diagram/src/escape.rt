@@ -3,7 +3,7 @@
 ghost use Rattle.std.specs.Prelude.{◌≡◌, false, IfOk, MatchOption, string_bytes};
 ghost use Rattle.diagram.specs.Escaped.{IsEscaped, IsPiece, is_markup};
 
-use ident::NoMemory;
+use model::NoMemory;
 use std::alloc::Global;
 
 /// What stands for a character that may not stand in XML as it is; none where it may. A character

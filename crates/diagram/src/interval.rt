@@ -1,7 +1,7 @@
 //! What a picture is made of, as plain values.
 
 use depvector::DepVector;
-use ident::{Letter, Mark, Seat, Start, Text, Unit};
+use model::{Letter, Mark, Seat, Start, Text, Unit};
 
 /// Why an interval began.
 #[derive(Clone, Copy)]

@@ -2,7 +2,7 @@
 
 use crate::picture::Picture;
 use crate::window::{Columns, Window};
-use ident::{Mark, Unit};
+use model::{Mark, Unit};
 
 /// Left of the first column stand the labels of the units.
 const LEFT: usize = 112;

@@ -4,7 +4,7 @@ use crate::interval::{Interval, Sent};
 use crate::layout::Layout;
 use crate::notes::add_letter_note;
 use crate::picture::Picture;
-use ident::NoMemory;
+use model::NoMemory;
 use std::alloc::Global;
 
 /// Adds an arrow for each receipt of a letter, and a short one for each letter that no interval on a

@@ -8,7 +8,7 @@ use crate::style::{
     CHECKPOINT, CUT, FIRM, FLUSH, HELD, KILL, LOST, NOTICE, RELEASE, RELEASED, RESTART, ROLLBACK,
     STABLE, VOLATILE,
 };
-use ident::{NoMemory, Start};
+use model::{NoMemory, Start};
 use std::alloc::Global;
 
 /// Adds a mark for each interval in a column that is drawn.

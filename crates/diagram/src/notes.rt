@@ -3,7 +3,7 @@
 use crate::escape::escape;
 use crate::interval::{Cause, Event, Interval, Sent, Sign, Status};
 use crate::picture::Picture;
-use ident::{Mark, NoMemory, Start};
+use model::{Mark, NoMemory, Start};
 use std::alloc::Global;
 use std::fmt;
 

@@ -10,8 +10,7 @@ use crate::replay::picture_of;
 use crate::style::{LEGEND, STYLE};
 use crate::window::Window;
 use handler::Handler;
-use ident::{NoMemory, TenantName};
-use model::{Entry, Reply};
+use model::{Entry, NoMemory, Reply, TenantName};
 use std::alloc::Global;
 
 /// The page that is drawn where no tenant is open.

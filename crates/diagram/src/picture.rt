@@ -1,7 +1,7 @@
 //! The picture of one tenant as a plain value, and what can be read off it.
 
 use crate::interval::{Cause, Downtime, Interval, Lane, Removal, Sent, Sign, Status};
-use ident::{Letter, Mark, NoMemory, Seat, Source, Unit};
+use model::{Letter, Mark, NoMemory, Seat, Source, Unit};
 use std::alloc::Global;
 
 /// All that is drawn of one tenant.

@@ -2,8 +2,7 @@
 
 use crate::interval::{Downtime, Event, Lane, Removal, Sign};
 use crate::picture::Picture;
-use ident::{NoMemory, Start, Unit};
-use model::Reply;
+use model::{NoMemory, Reply, Start, Unit};
 
 impl<'a> Picture<'a> {
     /// What the reply to a step of one unit alone tells.

@@ -4,8 +4,7 @@ use crate::interval::{Cause, Interval, Sent};
 use crate::picture::Picture;
 use depvector::DepVector;
 use handler::{Handler, Turn};
-use ident::{Kind, Letter, Mark, NoMemory, Seat, TenantName, Text, Unit};
-use model::{Entry, Reply, Step};
+use model::{Entry, Kind, Letter, Mark, NoMemory, Reply, Seat, Step, TenantName, Text, Unit};
 use std::alloc::Global;
 
 /// Units that a vector can have an entry for.

@@ -3,8 +3,7 @@
 use crate::picture::Picture;
 use crate::replay::picture_of;
 use handler::Handler;
-use ident::{Letter, Mark, NoMemory, Row, TenantName, Unit};
-use model::Entry;
+use model::{Entry, Letter, Mark, NoMemory, Row, TenantName, Unit};
 use std::alloc::Global;
 
 /// The receiver of a letter, and the first unit with a restart or rollback that the letter rests on and the receiver

@@ -5,7 +5,7 @@ use Rattle.serde_json.specs.Data.{Data, Items, no_items, item, Members}
 use Rattle.serde_json.specs.Events.{members_len}
 use Rattle.serde_json.specs.Read.{read}
 use Rattle.serde_json.specs.Find.{get, as_str, as_number, as_u64, as_array, as_object}
-use Rattle.model.specs.declared.limits.TheConstants.{MAX_VOLATILE_QUOTA, MAX_HELD_QUOTA, MAX_LETTERS_QUOTA, MAX_OPTIMISM}
+use Rattle.model.specs.declared.limits.TheConstants.{MAX_VOLATILE_QUOTA, MAX_HELD_QUOTA, MAX_INDEX, MAX_LETTERS_QUOTA, MAX_OPTIMISM}
 use Rattle.model.specs.Names.{is_tenant_name}
 use Rattle.model.specs.declared.names.Quota.{Quota}
 use Rattle.model.specs.declared.steps.Step.{Step}
@@ -49,7 +49,7 @@ greatest_byte = 255
 
 -- the greatest of all other numbers
 abbrev pub greatest_word : ℕ
-greatest_word = 4294967295
+greatest_word = MAX_INDEX
 
 -- the number of a unit
 abbrev pub byte_at : List ℕ → Data → Option ℕ

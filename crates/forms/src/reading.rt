@@ -8,11 +8,10 @@ ghost use Rattle.serde_json.specs.View.{view, items_view};
 ghost use Rattle.forms.specs.Reading.{Gives, greatest_byte, greatest_word, text_at, name_at, byte_at, word_at, whole_at, texts_of, texts_at, has_keys, one_if_has, quota_of, quota_at, optimism_at, place_of, open_of, join_of, post_of, deliver_of, flush_of, checkpoint_of, kill_of, restart_of, notice_of, release_of, status_of, step_of, step_of_line};
 
 use crate::fault::LineFault;
-use ident::{
-    Letter, MAX_HELD_QUOTA, MAX_LETTERS_QUOTA, MAX_OPTIMISM, MAX_VOLATILE_QUOTA, Quota, TenantName,
-    Text, Texts, Unit,
+use model::{
+    Letter, MAX_HELD_QUOTA, MAX_LETTERS_QUOTA, MAX_OPTIMISM, MAX_VOLATILE_QUOTA, Quota, Step,
+    TenantName, Text, Texts, Unit,
 };
-use model::Step;
 use serde_json::Value;
 use std::alloc::Global;
 

@@ -5,8 +5,7 @@ ghost use Rattle.serde_json.specs.Data.{array};
 ghost use Rattle.serde_json.specs.View.{view};
 ghost use Rattle.forms.specs.Writing.{from_data, letter_data, mark_data, marks, record_data, record_text};
 
-use ident::{Letter, Mark, NoMemory, Source};
-use model::Record;
+use model::{Letter, Mark, NoMemory, Record, Source};
 use serde_json::{Value, json};
 use std::alloc::{AllocError, Global};
 

@@ -6,8 +6,7 @@ ghost use Rattle.serde_json.specs.Read.{read};
 ghost use Rattle.serde_json.specs.View.{view};
 ghost use Rattle.forms.specs.Writing.{IsStatus, wholes, texts, accepted_data, checkpointed_data, restarted_data, noticed_data, released_data, reply_data, reply_text};
 
-use ident::{Letter, Mark, NoMemory, Start, Text};
-use model::Reply;
+use model::{Letter, Mark, NoMemory, Reply, Start, Text};
 use serde_json::{Value, json};
 use std::alloc::{AllocError, Global};
 

@@ -5,7 +5,7 @@ ghost use Rattle.handler.specs.Inputs.{Worked, turn_upon_input};
 
 use crate::handler::Handler;
 use crate::turn::Turn;
-use ident::{NoMemory, Seat, Source, Text};
+use model::{NoMemory, Seat, Source, Text};
 use std::alloc::Global;
 use std::marker::Model;
 

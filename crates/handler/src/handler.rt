@@ -3,7 +3,7 @@
 ghost use Rattle.std.specs.Prelude.{◌≡◌, IfOk, true};
 
 use crate::turn::Turn;
-use ident::{Kind, NoMemory, Seat, Source};
+use model::{Kind, NoMemory, Seat, Source};
 use std::alloc::Global;
 
 /// What handles the messages of units (deterministic within an interval, Strom and Yemini 1985).

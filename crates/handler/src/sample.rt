@@ -9,7 +9,7 @@ ghost use Rattle.model.specs.Sample.{State, kind_named, sample, echo, relay, tee
 
 use crate::handler::Handler;
 use crate::turn::Turn;
-use ident::{Kind, NoMemory, Seat, Source, Text, Unit};
+use model::{Kind, NoMemory, Seat, Source, Text, Unit};
 use std::alloc::Global;
 
 /// The sample handler. A unit that counts or adds has a number for its state, any other none.

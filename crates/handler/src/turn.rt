@@ -2,7 +2,7 @@
 
 ghost use Rattle.std.specs.Prelude.{◌≡◌, length};
 
-use ident::{Text, Unit};
+use model::{Text, Unit};
 use std::marker::Model;
 
 /// What a unit does upon one receipt: its next state, what it sends to which units, and what it

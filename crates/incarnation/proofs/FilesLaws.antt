@@ -49,12 +49,12 @@ incarnation_of-append (q ∷ rows) r unit = go _ _ (q.unit == unit) (r.unit == u
 
 -- ---- a row is filed where its unit is
 
-pub record Found (rows : List Row) (k unit i : ℕ) (r : Row) : Type 0 where
+pub record RowIsFiled (rows : List Row) (k unit i : ℕ) (r : Row) : Type 0 where
   pub at : ℕ
   pub has_row : slice_get (rows_of rows unit) at ≡ Some r
   pub has_place : slice_get (places_from k rows unit) at ≡ Some (k + i)
 
-pub row_filed : (rows : List Row) (k unit i : ℕ) (r : Row) → slice_get rows i ≡ Some r → r.unit ≡ unit → Found rows k unit i r
+pub row_filed : (rows : List Row) (k unit i : ℕ) (r : Row) → slice_get rows i ≡ Some r → r.unit ≡ unit → RowIsFiled rows k unit i r
 row_filed [] k unit i r e own = cc
 row_filed (q ∷ rows) k unit zero r e own =
     let is : q ≡ r = same_Some q r e in
@@ -70,7 +70,7 @@ row_filed (q ∷ rows) k unit (suc i) r e own =
     ]
 
 -- and what is filed is a row
-pub record Placed (rows : List Row) (k unit j p : ℕ) : Type 0 where
+pub record FiledIsRow (rows : List Row) (k unit j p : ℕ) : Type 0 where
   pub i : ℕ
   pub row : Row
   pub is : p ≡ k + i
@@ -78,16 +78,16 @@ pub record Placed (rows : List Row) (k unit j p : ℕ) : Type 0 where
   pub own : row.unit ≡ unit
   pub has_row : slice_get (rows_of rows unit) j ≡ Some row
 
-placed_later : {rows : List Row} {k unit j p : ℕ} (q : Row) (at : ℕ) (b : Bool) → (q.unit == unit) ≡ b → Placed rows (k + 1) unit j p
-    → slice_get (cond b (q ∷ rows_of rows unit) (rows_of rows unit)) at ≡ slice_get (rows_of rows unit) j → Placed (q ∷ rows) k unit at p
+placed_later : {rows : List Row} {k unit j p : ℕ} (q : Row) (at : ℕ) (b : Bool) → (q.unit == unit) ≡ b → FiledIsRow rows (k + 1) unit j p
+    → slice_get (cond b (q ∷ rows_of rows unit) (rows_of rows unit)) at ≡ slice_get (rows_of rows unit) j → FiledIsRow (q ∷ rows) k unit at p
 placed_later q at b e t same = let a = t.is in record { i = suc t.i; row = t.row; is = omega arith; found = t.found; own = t.own; has_row = rw e (same ∙ t.has_row) }
 
-placed_here : (q : Row) (rows : List Row) (k unit p : ℕ) → (q.unit == unit) ≡ true → ((j : ℕ) → slice_get (places_from (k + 1) rows unit) j ≡ Some p → Placed rows (k + 1) unit j p)
-    → (j : ℕ) → slice_get (k ∷ places_from (k + 1) rows unit) j ≡ Some p → Placed (q ∷ rows) k unit j p
+placed_here : (q : Row) (rows : List Row) (k unit p : ℕ) → (q.unit == unit) ≡ true → ((j : ℕ) → slice_get (places_from (k + 1) rows unit) j ≡ Some p → FiledIsRow rows (k + 1) unit j p)
+    → (j : ℕ) → slice_get (k ∷ places_from (k + 1) rows unit) j ≡ Some p → FiledIsRow (q ∷ rows) k unit j p
 placed_here q rows k unit p b further zero e = let h : k ≡ p = same_Some k p e in record { i = 0; row = q; is = omega arith; found = refl; own = eq_true _ _ b; has_row = rw b refl }
 placed_here q rows k unit p b further (suc j) e = placed_later q (suc j) true b (further j e) refl
 
-pub filed_row : (rows : List Row) (k unit j p : ℕ) → slice_get (places_from k rows unit) j ≡ Some p → Placed rows k unit j p
+pub filed_row : (rows : List Row) (k unit j p : ℕ) → slice_get (places_from k rows unit) j ≡ Some p → FiledIsRow rows k unit j p
 filed_row [] k unit j p e = cc
 filed_row (q ∷ rows) k unit j p e = elim (bool_cases (q.unit == unit)) [
   | inl b ↦ placed_here q rows k unit p b (λ i h. filed_row rows (k + 1) unit i p h) j (rw b at e)

@@ -11,7 +11,7 @@
 //! /// Begins a unit's next incarnation at this length of its path, where it has one left.
 //! pub fn begin_next(table: &mut StartTable, unit: Unit, start: u64) -> Result<bool, NoMemory> {
 //!     let latest = table.latest(unit);
-//!     if latest >= 65_535 {
+//!     if latest >= MAX_INCARNATION {
 //!         return Ok(false);
 //!     }
 //!     let incarnation = latest + 1;

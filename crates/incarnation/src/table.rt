@@ -6,7 +6,7 @@ ghost use Rattle.incarnation.specs.Filed.{filed_at, filed_of, nothing_filed, wit
 ghost use Rattle.incarnation.specs.Rows.{rows_of as rows_of_unit, incarnation_at as incarnation_by};
 
 use crate::filed::UnitRows;
-use model::{Mark, NoMemory, Row, Unit};
+use model::{MAX_INCARNATION, Mark, NoMemory, Row, Unit};
 use std::alloc::Global;
 use std::marker::Model;
 
@@ -136,7 +136,7 @@ impl StartTable {
     #[tactic(auto, using(crate::proofs::FilesLaws::files_same, crate::proofs::FilesLaws::files_append))]
     pub fn append(&mut self, row: Row) -> Result<(), NoMemory>
         requires next { row.incarnation ≡ incarnation_of self.old row.unit + 1 }
-        requires limit { row.incarnation ≤ 65535 }
+        requires limit { row.incarnation ≤ MAX_INCARNATION }
         ensures ok { IfOk result (λ _. self.new ≡ self.old ++ row ∷ []) }
         ensures err { OnErr result (self.new ≡ self.old) }
     {

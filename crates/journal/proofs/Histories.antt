@@ -1,6 +1,6 @@
 -- Two histories of the same steps, whose replies are promises, have the same replies.
 use Rattle.std.proofs.Common.{◌≡◌, ℕ, List, [], ◌∷◌, ◌++◌, map, Bool, true, false, cond, refl, sym, ap, subst, ◌∙◌, All}
-use Rattle.std.specs.Prelude.{Option, None, bytes_eq}
+use Rattle.std.specs.Prelude.{Option, bytes_eq}
 use Rattle.std.specs.List.{filter}
 use Rattle.std.proofs.lemmas.Slice.Eq.{bytes_eq-Decides}
 use Rattle.std.proofs.lemmas.List.Elements.{filter-append, All-head, All-tail}
@@ -19,20 +19,7 @@ use Rattle.model.specs.declared.steps.Step.{Step}
 use Rattle.book.specs.History.{world_of, IsHonestAt, IsHonestAfter, RecordedAfter}
 use Rattle.journal.specs.GoingOn.{IsPromise}
 use Rattle.journal.proofs.Outcomes.{same_outcome}
-use Rattle.book.proofs.Replays.{own-push}
-
--- what an entry is to its tenant
-abbrev event_of : Entry → Event
-event_of e = record { step = (addressed e.step).1; said = e.said }
-
-abbrev name_of : Entry → List ℕ
-name_of e = (addressed e.step).0
-
-abbrev pair_of : Entry → Step × Said
-pair_of e = (e.step, e.said)
-
-abbrev event_of_pair : Step × Said → Event
-event_of_pair p = record { step = (addressed p.0).1; said = p.1 }
+use Rattle.book.proofs.Replays.{event_of, event_of_pair, name_of, own-push, pair_of, same_name, world_of-named}
 
 abbrev step_of : Entry → Step
 step_of e = e.step
@@ -42,23 +29,10 @@ reply_of e = e.reply
 
 -- ---- one more entry, for a tenant
 
-same_name : (t u : List ℕ) → bytes_eq t u ≡ true → t ≡ u
-same_name t u p = (bytes_eq-Decides t u).0 p
-
 is_own_name : (t : List ℕ) → bytes_eq t t ≡ true
 is_own_name t = (bytes_eq-Decides t t).1 refl
 
 module _ {S : Type 0} (M : Meaning S) where
-  course_from-push : (w : Option World) (events : List Event) (e : Event) → (course_from M w (events ++ e ∷ [])).world ≡ (step M (course_from M w events).world e).world
-  course_from-push w [] e = refl
-  course_from-push w (x ∷ events) e = course_from-push (step M w x).world events e
-
-  world_of-named : (t : List ℕ) (h : List Entry) (e : Entry) → names t e.step ≡ true
-      → world_of M t (h ++ e ∷ []) ≡ (step M (world_of M t h) (event_of e)).world
-  world_of-named t h e is =
-      ap (λ (events : List Event). (alone M events).world) (own-push t h e ∙ ap (λ b. own t (pairs h) ++ map event_of_pair (cond b (pair_of e ∷ []) [])) is)
-      ∙ course_from-push None (own t (pairs h)) (event_of e)
-
   world_of-apart : (t : List ℕ) (h : List Entry) (e : Entry) → names t e.step ≡ false → world_of M t (h ++ e ∷ []) ≡ world_of M t h
   world_of-apart t h e is =
       ap (λ (events : List Event). (alone M events).world)
@@ -100,7 +74,7 @@ module _ {S : Type 0} (M : Meaning S) where
       → replies_to t rest ≡ (course_from M (world_of M t (before ++ e ∷ [])) (own t (pairs rest))).replies
   legal_at t true before rest e is legal =
       (legal-head t before rest e is legal).1
-      ∙ ap (λ w. (course_from M w (own t (pairs rest))).replies) (sym (world_of-named t before e is))
+      ∙ ap (λ w. (course_from M w (own t (pairs rest))).replies) (sym (world_of-named M t before e is))
   legal_at t false before rest e is legal =
       legal-apart t before rest e is legal
       ∙ ap (λ w. (course_from M w (own t (pairs rest))).replies) (sym (world_of-apart t before e is))
@@ -146,11 +120,11 @@ module _ {S : Type 0} (M : Meaning S) where
         let is' = sym (ap (names t) steps) ∙ is in
         let here : t ≡ name_of e = same_name t (name_of e) is in
         let there : t ≡ name_of e' = same_name t (name_of e') is' in
-        world_of-named t before e is
+        world_of-named M t before e is
         ∙ ap (λ u. (step M (world_of M u before) (event_of e)).world) here
         ∙ ap (λ (o : Outcome). o.world) outcomes
         ∙ ap (λ u. (step M (world_of M u before') (event_of e')).world) (sym there)
-        ∙ sym (world_of-named t before' e' is')
+        ∙ sym (world_of-named M t before' e' is')
     world_at t false is =
         world_of-apart t before e is ∙ same t ∙ sym (world_of-apart t before' e' (sym (ap (names t) steps) ∙ is))
 

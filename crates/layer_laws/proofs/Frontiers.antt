@@ -36,7 +36,7 @@ frontier_tells w s u i x m found e = same_bools (nat_lt i (frontier w m)) (is_fi
         true_lt i (frontier w m) (slice_get_within (take_while (is_firm w) m.path) i x kept)
 
 -- an output with the mark of its node
-abbrev marked : World → (ℕ × List ℕ) → Held
+abbrev pub marked : World → (ℕ × List ℕ) → Held
 marked w o = record { mark = mark_of (node_at w.nodes o.0); text = o.1 }
 
 texts_marked : (w : World) (os : List (ℕ × List ℕ)) → map (λ (h : Held). h.text) (map (marked w) os) ≡ map (λ o. o.1) os

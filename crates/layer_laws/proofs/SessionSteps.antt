@@ -1,5 +1,5 @@
 -- The sessions along a path are made by the calls that count receipts and sends.
-use Rattle.std.proofs.Common.{◌≡◌, ◌≢◌, inl, inr, refl, sym, ◌∙◌, ap, ℕ, zero, suc, ◌+◌, ◌<◌, false, cond, List, [], ◌∷◌, ◌++◌, length, take, arith, map, replicate, add-zero, length-set}
+use Rattle.std.proofs.Common.{◌≡◌, inl, inr, refl, sym, ◌∙◌, ap, ℕ, zero, suc, ◌+◌, ◌<◌, cond, List, [], ◌∷◌, ◌++◌, length, take, arith, map, replicate, add-zero, length-set}
 use Rattle.std.specs.Prelude.{Option, Some, None, slice_get, ◌==◌, nat_lt}
 use Rattle.std.specs.List.{filter}
 use Rattle.std.proofs.lemmas.List.{ext_get_or, get_or-set_same, get_or-set_other, length-map}
@@ -10,7 +10,7 @@ use Rattle.model.specs.Handler.{Meaning}
 use Rattle.model.specs.Lists.{from_end, numbers_from}
 use Rattle.model.specs.Nodes.{Node, Cause, began, outside, letter, node_at, execution, begun, count_to, count_along, place_before}
 use Rattle.model.specs.World.{World, executed, source_of, is_from, taken}
-use Rattle.theory.proofs.ListLaws.{bool_cases, eq_true, lt_true, has_sender, filtered_at}
+use Rattle.theory.proofs.ListLaws.{bool_cases, eq_true, lt_true, has_sender, filtered_at, different}
 use Rattle.theory.proofs.FirmVector.{units_within}
 use Rattle.theory.proofs.LettersExact.{sends_are}
 use Rattle.theory.proofs.Certificate.{Invariant, reachable_invariant}
@@ -19,9 +19,6 @@ use Rattle.session.specs.Counts.{Counts, nothing, exchanged, sent_one}
 use Rattle.layer_laws.specs.Laws.{sessions_along, taken_one, sent_all, IsCountedOne, SessionsGoOn}
 use Rattle.layer_laws.proofs.Numbers.{length-numbers}
 use Rattle.layer_laws.proofs.Sessions.{exchange_along, entry_along}
-
-different : (a b : ℕ) → (a == b) ≡ false → b ≢ a
-different a b e is = grind arith
 
 -- ---- one receipt
 

@@ -9,7 +9,7 @@ ghost use Rattle.lines.specs.Parts.{Takes};
 ghost use Rattle.written.specs.Beginnings.{AppendsBeginning};
 
 use crate::part::{Part, read_part};
-use ident::MAX_LINE_BYTES;
+use model::MAX_LINE_BYTES;
 use std::io::{BufRead, Write};
 use std::marker::Model;
 use written::{Failed, flush_all, put_all};

@@ -8,7 +8,7 @@ ghost use Rattle.lines.specs.Parts.{Takes, TakesPart, Hears};
 use crate::counted::Counted;
 use crate::fault::ServeFault;
 use crate::part::Part;
-use ident::MAX_LINE_BYTES;
+use model::MAX_LINE_BYTES;
 use std::io::{BufRead, Write};
 
 /// What was read.

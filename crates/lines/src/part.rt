@@ -5,8 +5,8 @@ ghost use Rattle.std.specs.Io.KnownBytes.{Keeps};
 ghost use Rattle.lines.specs.Lines.{IsPart, Holds};
 ghost use Rattle.lines.specs.Parts.{Takes};
 
-use ident::MAX_LINE_BYTES;
 use memchr::memchr;
+use model::MAX_LINE_BYTES;
 use std::io;
 use std::io::BufRead;
 use written::is_interrupted;

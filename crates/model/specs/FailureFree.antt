@@ -39,16 +39,19 @@ is_between source target p = (p.source == source) && (p.target == target)
 -- the text of the first packet from one unit to the other, if there is one
 abbrev pub next_text : ℕ → ℕ → List Packet → Option (List ℕ)
 next_text source target [] = None
-next_text source target (p ∷ packets) = cond (is_between source target p) (Some p.text) (next_text source target packets)
+next_text source target (p ∷ packets) =
+    cond (is_between source target p) (Some p.text) (next_text source target packets)
 
 -- the packets without that one
 abbrev pub without_next : ℕ → ℕ → List Packet → List Packet
 without_next source target [] = []
-without_next source target (p ∷ packets) = cond (is_between source target p) packets (p ∷ without_next source target packets)
+without_next source target (p ∷ packets) =
+    cond (is_between source target p) packets (p ∷ without_next source target packets)
 
 -- what a unit sends to units that are there
 abbrev pub packets_of : {S : Type 0} → ℕ → ℕ → Turn S → List Packet
-packets_of u units turn = map (λ s. record { source = u; target = s.0; text = s.1 }) (filter (λ s. nat_lt s.0 units) turn.sends)
+packets_of u units turn =
+    map (λ s. record { source = u; target = s.0; text = s.1 }) (filter (λ s. nat_lt s.0 units) turn.sends)
 
 -- a unit works on one receipt
 abbrev pub works_on : {S : Type 0} → Meaning S → Network S → Worker S → Source → List ℕ → Network S
@@ -65,7 +68,8 @@ works_on M net a source text =
     }
 
 -- a unit takes a letter, if there is one; the network is without it
-abbrev pub takes_next : {S : Type 0} → Meaning S → Network S → Worker S → ℕ → ℕ → Option (List ℕ) → Result (Network S) Flaw
+abbrev pub takes_next : {S : Type 0} → Meaning S → Network S → Worker S → ℕ → ℕ → Option (List ℕ)
+    → Result (Network S) Flaw
 takes_next M net a to source None = Err (NothingToReceive to)
 takes_next M net a to source (Some text) = Ok (works_on M net a (FromUnit source) text)
 
@@ -94,7 +98,8 @@ moved M net (Joins kind) =
     cond (nat_le MAX_UNITS units) (Err (NoUnit MAX_UNITS))
     (Ok (record net { workers = net.workers ++ new_worker M (record { unit = units; kind = kind; home = units + 1 }) ∷ [] }))
 
-abbrev pub if_moved : {S : Type 0} → Result (Network S) Flaw → (Network S → Result (Network S) Flaw) → Result (Network S) Flaw
+abbrev pub if_moved : {S : Type 0} → Result (Network S) Flaw → (Network S → Result (Network S) Flaw)
+    → Result (Network S) Flaw
 if_moved (Err flaw) rest = Err flaw
 if_moved (Ok net) rest = rest net
 

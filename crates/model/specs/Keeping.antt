@@ -76,7 +76,8 @@ last_index (Some m) = length m.path - 1
 
 -- a checkpoint of the last interval is put, and then the bases move
 abbrev pub after_checkpoint : World → ℕ → Reply → List Shelf → List Shelf
-after_checkpoint z u (Checkpointed at) shelves = all_based z z.members (changed (put (last_index (slice_get z.members u))) u shelves)
+after_checkpoint z u (Checkpointed at) shelves =
+    all_based z z.members (changed (put (last_index (slice_get z.members u))) u shelves)
 after_checkpoint z u _ shelves = shelves
 
 -- the bases move where records were added

@@ -13,3 +13,4 @@ pub mod Records
 pub mod Sample
 pub mod Failures
 pub mod Keeping
+pub mod Storage

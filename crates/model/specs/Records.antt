@@ -62,7 +62,8 @@ abbrev pub IsQuiet : Said → List Record → Type 0
 IsQuiet said grown = (said.appended ≡ 0) × (said.end ≡ Whole) × (grown ≡ [])
 
 -- a flush of a unit that is up: the store took the first of its volatile records, and the end is whole just where it took all; where there was no memory for the first, the flush is not entered
-pub record IsFlushed {S : Type 0} (M : Meaning S) (tenant : List ℕ) (w : World) (m : Member) (said : Said) (grown : List Record) : Type 0 where
+pub record IsFlushed {S : Type 0} (M : Meaning S) (tenant : List ℕ) (w : World) (m : Member) (said : Said)
+    (grown : List Record) : Type 0 where
   pub first : grown ≡ take said.appended (volatile_records M tenant w m)
   pub within : said.appended ≤ length (volatile_records M tenant w m)
   pub whole : (said.end ≡ Whole) ↔ (said.appended ≡ length (volatile_records M tenant w m))
@@ -70,7 +71,8 @@ pub record IsFlushed {S : Type 0} (M : Meaning S) (tenant : List ℕ) (w : World
 
 abbrev pub FlushesUnit : {S : Type 0} → Meaning S → List ℕ → World → Said → List Record → Option Member → Type 0
 FlushesUnit M tenant w said grown None = IsQuiet said grown
-FlushesUnit M tenant w said grown (Some m) = ((m.up ≡ true) → IsFlushed M tenant w m said grown) × (¬ (m.up ≡ true) → IsQuiet said grown)
+FlushesUnit M tenant w said grown (Some m) =
+    ((m.up ≡ true) → IsFlushed M tenant w m said grown) × (¬ (m.up ≡ true) → IsQuiet said grown)
 
 -- whether the unit has an incarnation left
 abbrev pub has_incarnation_left : World → ℕ → Bool
@@ -101,7 +103,8 @@ IsHonest M tenant w (Deliver l) said grown = IsQuiet said grown
 IsHonest M tenant w (Flush unit) said grown = FlushesUnit M tenant w said grown (slice_get w.members unit)
 IsHonest M tenant w (Checkpoint unit) said grown = IsQuiet said grown
 IsHonest M tenant w (Kill unit) said grown = IsQuiet said grown
-IsHonest M tenant w (Restart unit) said grown = IsFetching (restart_fetches w unit (slice_get w.members unit)) said grown
+IsHonest M tenant w (Restart unit) said grown =
+    IsFetching (restart_fetches w unit (slice_get w.members unit)) said grown
 IsHonest M tenant w (Notice unit) said grown = IsFetching (notice_fetches w unit (slice_get w.members unit)) said grown
 IsHonest M tenant w (Release unit) said grown = IsQuiet said grown
 IsHonest M tenant w (Status unit) said grown = IsQuiet said grown

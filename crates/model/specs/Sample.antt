@@ -53,7 +53,8 @@ adder state text =
     else record { state = state; sends = []; outputs = codes "?" ∷ [] }
 
 abbrev pub tee : Seat → State → List ℕ → Turn State
-tee seat state text = record { state = state; sends = if (seat.unit == 255) then [] else (seat.unit + 1, text) ∷ []; outputs = text ∷ [] }
+tee seat state text =
+    record { state = state; sends = if (seat.unit == 255) then [] else (seat.unit + 1, text) ∷ []; outputs = text ∷ [] }
 
 abbrev pub handle : Seat → State → Source → List ℕ → Turn State
 handle seat state source text =

@@ -104,7 +104,8 @@ next_node w u m cause = record {
 
 -- the world after a receipt: one more node, at the end of the unit's path
 abbrev pub with_receipt : World → ℕ → Member → Cause → World
-with_receipt w u m cause = record (with_member w u (with_place m (length w.nodes))) { nodes = next_node w u m cause ∷ w.nodes }
+with_receipt w u m cause =
+    record (with_member w u (with_place m (length w.nodes))) { nodes = next_node w u m cause ∷ w.nodes }
 
 abbrev pub is_long : List ℕ → Bool
 is_long text = nat_lt MAX_TEXT_BYTES (length text)
@@ -224,7 +225,8 @@ start_of r = record { incarnation = r.incarnation; index = r.start }
 
 -- the world after a unit went back to this path: it is up, its row is in the table, and it knows all rows
 abbrev pub gone_back : World → ℕ → Member → List ℕ → World
-gone_back w u m path = record (with_member w u (back_at m path (length w.table + 1))) { table = w.table ++ row_for w u path ∷ [] }
+gone_back w u m path =
+    record (with_member w u (back_at m path (length w.table + 1))) { table = w.table ++ row_for w u path ∷ [] }
 
 abbrev pub is_device : End → Bool
 is_device Whole = false
@@ -233,7 +235,8 @@ is_device NoMemory = false
 
 -- a new incarnation is due, and the store may fail to give the records
 abbrev pub going_back_tests : World → ℕ → Said → List (Bool × Refusal)
-going_back_tests w u said = (nat_le MAX_INCARNATION (incarnation_of w.table u), Limit) ∷ (is_device said.end, Store) ∷ []
+going_back_tests w u said =
+    (nat_le MAX_INCARNATION (incarnation_of w.table u), Limit) ∷ (is_device said.end, Store) ∷ []
 
 abbrev pub restart : World → ℕ → Said → Outcome
 restart w u said = at_unit w u (λ m.
@@ -285,7 +288,8 @@ abbrev pub fresh : Seat → ℕ → ℕ → Member
 fresh seat place known = record { seat = seat; path = place ∷ []; stable = 1; up = true; known = known; released = [] }
 
 abbrev pub beginning : Seat → ℕ → Node
-beginning seat units = record { unit = seat.unit; seat = seat; incarnation = 0; index = 0; before = None; cause = began; units = units }
+beginning seat units =
+    record { unit = seat.unit; seat = seat; incarnation = 0; index = 0; before = None; cause = began; units = units }
 
 -- one unit after another, each at its beginning
 abbrev pub with_unit : ℕ → World → ℕ → World
@@ -310,7 +314,8 @@ abbrev pub within : ℕ → ℕ → ℕ → Bool
 within low x high = nat_le low x && nat_le x high
 
 abbrev pub is_quota : Quota → Bool
-is_quota q = within 1 q.volatile MAX_VOLATILE_QUOTA && (within 1 q.held MAX_HELD_QUOTA && within 1 q.letters MAX_LETTERS_QUOTA)
+is_quota q =
+    within 1 q.volatile MAX_VOLATILE_QUOTA && (within 1 q.held MAX_HELD_QUOTA && within 1 q.letters MAX_LETTERS_QUOTA)
 
 abbrev pub kind_or_0 : Option ℕ → ℕ
 kind_or_0 None = 0

@@ -137,7 +137,8 @@ text_of letters (letter m sender) = text_of_letter (slice_get letters m)
 
 -- what a node received: from whom, and the text; nothing for a beginning
 abbrev pub receipt_of : List Message → List Node → Cause → List (Source × List ℕ)
-receipt_of letters nodes cause = map (λ source. (source, text_of letters cause)) (option_to_list (source_of nodes cause))
+receipt_of letters nodes cause =
+    map (λ source. (source, text_of letters cause)) (option_to_list (source_of nodes cause))
 
 -- the receipts of the nodes at these places, in order
 abbrev pub receipts : List Message → List Node → List ℕ → List (Source × List ℕ)

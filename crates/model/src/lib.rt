@@ -28,7 +28,7 @@ pub use limits::{
 };
 pub use moves::{Flaw, Move};
 pub use names::{Kind, Letter, Mark, Quota, Row, Seat, Source, Start, Unit};
-pub use records::{Marks, Record};
+pub use records::{MAX_INLINE_MARKS, Marks, Record};
 pub use refusals::Refusal;
 pub use replies::{End, Entry, Reply, Said, Who};
 pub use steps::{Step, TenantStep};

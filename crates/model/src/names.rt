@@ -38,7 +38,7 @@ impl Model for Kind {
 }
 
 /// The number of a letter within its tenant.
-#[derive(Clone, Copy, Debug, PartialEq, Eq, PartialOrd, Ord, Hash)]
+#[derive(Clone, Copy, Debug, Default, PartialEq, Eq, PartialOrd, Ord, Hash)]
 pub struct Letter {
     number: u32,
 }
@@ -114,7 +114,7 @@ pub enum Source {
 }
 
 /// The name of a state interval within its unit. The later incarnation is the greater.
-#[derive(Clone, Copy, Debug, PartialEq, Eq, PartialOrd, Ord)]
+#[derive(Clone, Copy, Debug, Default, PartialEq, Eq, PartialOrd, Ord)]
 pub struct Mark {
     pub incarnation: u32,
     pub index: u32,

@@ -5,13 +5,17 @@ ghost use Rattle.std.specs.Prelude.{◌≡◌, IfOk};
 use crate::fault::NoMemory;
 use crate::names::{Letter, Mark, Source, Unit};
 use crate::text::{TenantName, Text};
+use smallvec::SmallVec;
 use std::alloc::Global;
 use std::marker::Model;
 
-/// A list of marks, seen as such.
+/// How many marks of a list lie in the value itself: as many as most tenants have units.
+pub const MAX_INLINE_MARKS: usize = 4;
+
+/// A list of marks, seen as such. A short one takes no memory.
 #[derive(Debug, Drop)]
 pub struct Marks {
-    marks: Vec<Mark>,
+    marks: SmallVec<Mark, MAX_INLINE_MARKS>,
 }
 
 impl Model for Marks {
@@ -27,7 +31,17 @@ impl Marks {
     pub fn new(marks: Vec<Mark>) -> Marks
         ensures { result ≡ marks.items }
     {
-        Marks { marks }
+        Marks {
+            marks: SmallVec::from_vec(marks),
+        }
+    }
+
+    /// A list of its own of these marks.
+    pub fn of(alloc: Global, marks: &[Mark]) -> Result<Marks, NoMemory>
+        ensures { IfOk result (λ m. m ≡ marks.now) }
+    {
+        let marks = SmallVec::from_slice(alloc, marks)?;
+        Ok(Marks { marks })
     }
 
     pub fn as_slice(&self) -> &[Mark]
@@ -40,8 +54,7 @@ impl Marks {
     pub fn copy(&self, alloc: Global) -> Result<Marks, NoMemory>
         ensures { IfOk result (λ m. m ≡ self.now) }
     {
-        let marks = self.as_slice().to_vec(alloc)?;
-        Ok(Marks { marks })
+        Marks::of(alloc, self.as_slice())
     }
 }
 

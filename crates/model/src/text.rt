@@ -1,67 +1,121 @@
 //! Texts and lists that contracts see by their content.
 
-ghost use Rattle.std.specs.Prelude.{◌≡◌, ℕ, List, Some, None, if◌then◌else◌, IfOk, length, string_bytes};
-ghost use Rattle.std.specs.Arc.{arc_str_bytes};
+ghost use Rattle.std.specs.Prelude.{◌≡◌, ◌+◌, ◌<◌, ◌^◌, ℕ, List, Some, None, if◌then◌else◌, IfOk, IfSome, length, string_bytes};
 ghost use Rattle.std.specs.List.{list_all};
 ghost use Rattle.std.specs.Str.{bytes_eq};
 ghost use Rattle.std.proofs.Common.{rules};
 ghost use Rattle.std.specs.Cmp.Rules.{comparing, hashing};
 ghost use Rattle.std.specs.Hash as fed;
+ghost use Rattle.model.specs.Lists.{numbers_from};
 ghost use Rattle.model.specs.Names.{is_name_byte, is_tenant_name};
+ghost use Rattle.model.specs.Storage.{stored_bytes};
 
 use crate::fault::NoMemory;
 use crate::limits::MAX_NAME_BYTES;
 use crate::names::Letter;
 use arrayvec::ArrayString;
+use smallvec::SmallVec;
 use std::alloc::Global;
 use std::hash::{Hash, Hasher};
 use std::marker::Model;
 use std::sync::ArcStr;
 
-/// A text, seen as its bytes. Its copies share one place in memory, which goes with the last of them.
+/// How many bytes a text may have that lies in the value itself.
+const MAX_INLINE_BYTES: usize = 24;
+
+/// Where the bytes of a text lie.
+#[derive(Debug, Drop)]
+enum Storage {
+    // In the value itself.
+    Inline(ArrayString<MAX_INLINE_BYTES>),
+    // In one place in memory, which goes with the last of its copies.
+    Shared(ArcStr),
+}
+
+impl Storage {
+    /// The characters in the value itself, where they fit.
+    fn inline(text: &str) -> Option<Storage>
+        ensures { IfSome result (λ s. stored_bytes s ≡ text.now) }
+    {
+        match ArrayString::from(text) {
+            Ok(string) => Some(Storage::Inline(string)),
+            Err(_) => None,
+        }
+    }
+
+    fn as_str(&self) -> &str
+        ensures { result.now ≡ stored_bytes self.now }
+    {
+        match self {
+            Storage::Inline(string) => string.as_str(),
+            Storage::Shared(string) => string.as_str(),
+        }
+    }
+
+    fn copy(&self) -> Result<Storage, NoMemory>
+        ensures { IfOk result (λ s. stored_bytes s ≡ stored_bytes self.now) }
+    {
+        match self {
+            Storage::Inline(string) => Ok(Storage::Inline(*string)),
+            Storage::Shared(string) => Ok(Storage::Shared(string.clone()?)),
+        }
+    }
+}
+
+/// A text, seen as its bytes. A short one lies in the value itself; copies of any other share one place in memory,
+/// which goes with the last of them.
 #[derive(Debug, Drop)]
 pub struct Text {
-    shared: ArcStr,
+    storage: Storage,
 }
 
 impl Model for Text {
     ghost use Rattle.std.specs.Prelude.{List, ℕ};
-    ghost use Rattle.std.specs.Arc.{arc_str_bytes};
+    ghost use Rattle.model.specs.Storage.{stored_bytes};
 
     ghost Value = { List ℕ };
 
-    ghost view = { λ t. arc_str_bytes t.shared };
+    ghost view = { λ t. stored_bytes t.storage };
 }
 
 impl Text {
-    /// The string as a text, which takes a few bytes more.
+    /// The string as a text. A long one takes a few bytes more, a short one none.
     pub fn new(string: String) -> Result<Text, NoMemory>
         ensures { IfOk result (λ t. t ≡ string_bytes string) }
     {
+        if let Some(storage) = Storage::inline(string.as_str()) {
+            return Ok(Text { storage });
+        }
         let shared = ArcStr::from_string(string)?;
-        Ok(Text { shared })
+        Ok(Text {
+            storage: Storage::Shared(shared),
+        })
     }
 
-    /// A text of its own with these characters.
+    /// A text of its own with these characters. A short one takes no memory.
     pub fn of(alloc: Global, text: &str) -> Result<Text, NoMemory>
         ensures { IfOk result (λ t. t ≡ text.now) }
     {
+        if let Some(storage) = Storage::inline(text) {
+            return Ok(Text { storage });
+        }
         let shared = ArcStr::from_str(alloc, text)?;
-        Ok(Text { shared })
+        Ok(Text {
+            storage: Storage::Shared(shared),
+        })
     }
 
     pub fn as_str(&self) -> &str
         ensures { result.now ≡ self.now }
     {
-        let text = &self.shared;
-        text.as_str()
+        self.storage.as_str()
     }
 
     /// How many bytes it has.
     pub fn len(&self) -> usize
         ensures { result ≡ length self.now }
     {
-        self.shared.len()
+        self.as_str().len()
     }
 
     /// An equal text, which takes no memory.
@@ -72,8 +126,8 @@ impl Text {
     pub fn copy(&self) -> Result<Text, NoMemory>
         ensures { IfOk result (λ t. t ≡ self.now) }
     {
-        let shared = self.shared.clone()?;
-        Ok(Text { shared })
+        let storage = self.storage.copy()?;
+        Ok(Text { storage })
     }
 }
 
@@ -83,7 +137,7 @@ impl PartialEq for Text {
     ghost laws = { Prim.search (comparing, rules) };
 
     fn eq(&self, other: &Text) -> bool {
-        self.shared.as_str() == other.shared.as_str()
+        self.as_str() == other.as_str()
     }
 }
 
@@ -146,10 +200,13 @@ impl Texts {
     }
 }
 
-/// A list of letters, seen as the list of their numbers.
+/// How many letters of a list lie in the value itself.
+const MAX_INLINE_LETTERS: usize = 4;
+
+/// A list of letters, seen as the list of their numbers. A short one takes no memory.
 #[derive(Debug, Drop)]
 pub struct Letters {
-    letters: Vec<Letter>,
+    letters: SmallVec<Letter, MAX_INLINE_LETTERS>,
 }
 
 impl Model for Letters {
@@ -164,7 +221,21 @@ impl Letters {
     pub fn new(letters: Vec<Letter>) -> Letters
         ensures { result ≡ letters.items }
     {
-        Letters { letters }
+        Letters {
+            letters: SmallVec::from_vec(letters),
+        }
+    }
+
+    /// The `n` letters from `first` on.
+    pub fn from_first(alloc: Global, first: usize, n: usize) -> Result<Letters, NoMemory>
+        requires { first + n < 2 ^ 32 }
+        ensures { IfOk result (λ ls. ls ≡ numbers_from first n) }
+    {
+        let mut letters = SmallVec::new(alloc);
+        for i in 0..n {
+            letters.push(Letter::new((first + i) as u32))?;
+        }
+        Ok(Letters { letters })
     }
 
     pub fn as_slice(&self) -> &[Letter]
@@ -177,7 +248,7 @@ impl Letters {
     pub fn copy(&self, alloc: Global) -> Result<Letters, NoMemory>
         ensures { IfOk result (λ l. l ≡ self.now) }
     {
-        let letters = self.as_slice().to_vec(alloc)?;
+        let letters = SmallVec::from_slice(alloc, self.as_slice())?;
         Ok(Letters { letters })
     }
 }

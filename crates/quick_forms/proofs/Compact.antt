@@ -1,5 +1,5 @@
 -- Lines in their shortest form are steps by their tokens.
-use Rattle.std.proofs.Common.{◌≡◌, ℕ, ◌<◌, ◌^◌, List, Some, None, Option, ap, sym, ◌∙◌, refl, decimal, codes, ◌++◌}
+use Rattle.std.proofs.Common.{◌≡◌, ℕ, ◌<◌, ◌^◌, List, Some, None, Option, ap, sym, ◌∙◌, refl, codes, ◌++◌}
 use Rattle.json.specs.Lex.{tokens}
 use Rattle.json.specs.Print.{ArePrintable, quoted, escape_byte}
 use Rattle.json.specs.Json.{value, members}
@@ -14,6 +14,7 @@ use Rattle.std.specs.Prelude.{IfSome}
 use Rattle.model.specs.declared.steps.Step.{Step}
 use Rattle.forms.specs.Reading.{◌>>=◌, step_of}
 use Rattle.quick_forms.specs.Seen.{step_of_tokens, read_tokens, post_data, deliver_data, place_data}
+use Rattle.quick_forms.specs.Tails.{post_tail, deliver_tail, place_tail}
 
 -- the shortest text of a value reads as its tokens
 text_tokens : (d : Data) → ArePrintable (json_tokens (outline d)) → tokens (compact_text d) ≡ json_tokens (outline d)
@@ -52,17 +53,16 @@ found line text form (Some s) is same has = ap (λ l. step_of_tokens (tokens l))
 
 -- the shortest text of each form, part by part
 pub post_parts : (verb tenant text : List ℕ) (n u : ℕ) → compact_text (post_data verb n tenant text u)
-    ≡ codes "{\"do\":" ++ (quoted verb ++ (codes ",\"number\":" ++ (decimal n ++ (codes ",\"tenant\":" ++ (quoted tenant ++ (codes ",\"text\":"
-    ++ (quoted text ++ (codes ",\"unit\":" ++ (decimal u ++ codes "}")))))))))
+    ≡ codes "{\"do\":" ++ (quoted verb ++ post_tail n tenant text u)
 unfolding escape_byte
 post_parts verb tenant text n u = refl
 
 pub deliver_parts : (verb tenant : List ℕ) (n : ℕ) → compact_text (deliver_data verb n tenant)
-    ≡ codes "{\"do\":" ++ (quoted verb ++ (codes ",\"letter\":" ++ (decimal n ++ (codes ",\"tenant\":" ++ (quoted tenant ++ codes "}")))))
+    ≡ codes "{\"do\":" ++ (quoted verb ++ deliver_tail n tenant)
 unfolding escape_byte
 deliver_parts verb tenant n = refl
 
 pub place_parts : (verb tenant : List ℕ) (u : ℕ) → compact_text (place_data verb tenant u)
-    ≡ codes "{\"do\":" ++ (quoted verb ++ (codes ",\"tenant\":" ++ (quoted tenant ++ (codes ",\"unit\":" ++ (decimal u ++ codes "}")))))
+    ≡ codes "{\"do\":" ++ (quoted verb ++ place_tail tenant u)
 unfolding escape_byte
 place_parts verb tenant u = refl

@@ -95,8 +95,8 @@ pub bad_is_no_step : (ts : List Token) → step_of_tokens (Token.bad ∷ ts) ≡
 bad_is_no_step ts = starting Token.bad ts None (value_is 127 (Token.bad ∷ ts)) refl
 
 -- a token that was read
-pub begun : (old new : List Token) (t u : ReadToken) → old ≡ token_of t ∷ new → t ≡ u → step_of_tokens (token_of u ∷ new) ≡ None → step_of_tokens old ≡ None
-begun old new t u is same none = ap step_of_tokens (is ∙ ap (λ t. token_of t ∷ new) same) ∙ none
+pub read_is_no_step : (old new : List Token) (t u : ReadToken) → old ≡ token_of t ∷ new → t ≡ u → step_of_tokens (token_of u ∷ new) ≡ None → step_of_tokens old ≡ None
+read_is_no_step old new t u is same none = ap step_of_tokens (is ∙ ap (λ t. token_of t ∷ new) same) ∙ none
 
 -- a member behind others
 skipped : (k l : List ℕ) → slice_cmp nat_cmp k l ≡ Less → (o : Option Data) (ms : Members) → get_member k (with_if l o ms) ≡ get_member k ms

@@ -26,9 +26,8 @@ ghost use Rattle.model.specs.declared.replies.Reply.TheVariants.{
   Refused,
 };
 
-use ident::{Letter, Mark, NoMemory, Start, Text, Unit};
 use json::Writer;
-use model::{Refusal, Reply};
+use model::{Letter, Mark, NoMemory, Refusal, Reply, Start, Text, Unit};
 use std::alloc::AllocError;
 
 /// The buffer with the line that tells a reply after what it held, without a line feed at its end: the text that

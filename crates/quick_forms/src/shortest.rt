@@ -6,10 +6,10 @@ ghost use Rattle.std.specs.Prelude.{◌≡◌, ◌≤◌, ◌++◌, ◌∷◌, [
 ghost use Rattle.json.specs.Lex.{tokens};
 ghost use Rattle.json.specs.Print.{escape, escape_byte, quoted as quoted_text};
 ghost use Rattle.quick_forms.specs.Seen.{step_of_tokens};
+ghost use Rattle.quick_forms.specs.Tails.{post_tail, deliver_tail, place_tail};
 
 use crate::steps::{deliver, place, post};
-use ident::NoMemory;
-use model::Step;
+use model::{NoMemory, Step};
 use std::alloc::Global;
 
 /// How long a line may be that is compared byte by byte. The tokens of a longer one are found faster.
@@ -52,9 +52,7 @@ fn head(line: &str) -> Option<(&str, &str)>
 
 /// What a post says behind its verb: its number, tenant, text and unit.
 fn post_parts(rest: &str) -> Option<(u64, &str, &str, u64)>
-    ensures { IfSome result (λ p. rest.now
-        ≡ codes ",\"number\":" ++ (decimal p.0 ++ (codes ",\"tenant\":" ++ (quoted_text p.1.now ++ (codes ",\"text\":"
-        ++ (quoted_text p.2.now ++ (codes ",\"unit\":" ++ (decimal p.3 ++ codes "}")))))))) }
+    ensures { IfSome result (λ p. rest.now ≡ post_tail p.0 p.1.now p.2.now p.3) }
 {
     let (number, rest) = number_behind(rest, ",\"number\":")?;
     let (tenant, rest) = string_behind(rest, ",\"tenant\":")?;
@@ -69,8 +67,7 @@ fn post_parts(rest: &str) -> Option<(u64, &str, &str, u64)>
 
 /// What a delivery says behind its verb: its letter and tenant.
 fn deliver_parts(rest: &str) -> Option<(u64, &str)>
-    ensures { IfSome result (λ p. rest.now
-        ≡ codes ",\"letter\":" ++ (decimal p.0 ++ (codes ",\"tenant\":" ++ (quoted_text p.1.now ++ codes "}")))) }
+    ensures { IfSome result (λ p. rest.now ≡ deliver_tail p.0 p.1.now) }
 {
     let (letter, rest) = number_behind(rest, ",\"letter\":")?;
     let (tenant, rest) = string_behind(rest, ",\"tenant\":")?;
@@ -83,8 +80,7 @@ fn deliver_parts(rest: &str) -> Option<(u64, &str)>
 
 /// What a step says behind its verb that names a tenant and a unit alone.
 fn place_parts(rest: &str) -> Option<(&str, u64)>
-    ensures { IfSome result (λ p. rest.now
-        ≡ codes ",\"tenant\":" ++ (quoted_text p.0.now ++ (codes ",\"unit\":" ++ (decimal p.1 ++ codes "}")))) }
+    ensures { IfSome result (λ p. rest.now ≡ place_tail p.0.now p.1) }
 {
     let (tenant, rest) = string_behind(rest, ",\"tenant\":")?;
     let (unit, rest) = number_behind(rest, ",\"unit\":")?;

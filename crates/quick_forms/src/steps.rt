@@ -12,9 +12,8 @@ ghost use Rattle.quick_forms.specs.Seen.{seen_members, read_tokens, step_of_toke
 use crate::shortest::shortest;
 use fast_float::Numeral;
 use forms::LineFault;
-use ident::{Letter, NoMemory, TenantName, Text, Unit};
 use json::{Invalid, Reader, Scratch, Token};
-use model::Step;
+use model::{Letter, MAX_INDEX, NoMemory, Step, TenantName, Text, Unit};
 use std::alloc::Global;
 
 /// The last value of each key so far.
@@ -263,7 +262,7 @@ pub(crate) fn post(
     ensures { IfOk result (λ o. IfSome o
         (λ s. step_of (post_data verb.now number tenant.now text.now unit) ≡ Some s)) }
 {
-    if verb != "post" || number > 4_294_967_295 || unit > 255 {
+    if verb != "post" || number > u64::from(MAX_INDEX) || unit > 255 {
         return Ok(None);
     }
     let Some(tenant) = TenantName::new(tenant) else {
@@ -282,7 +281,7 @@ pub(crate) fn post(
 pub(crate) fn deliver(verb: &str, letter: u64, tenant: &str) -> Option<Step>
     ensures { IfSome result (λ s. step_of (deliver_data verb.now letter tenant.now) ≡ Some s) }
 {
-    if verb != "deliver" || letter > 4_294_967_295 {
+    if verb != "deliver" || letter > u64::from(MAX_INDEX) {
         return None;
     }
     let tenant = TenantName::new(tenant)?;

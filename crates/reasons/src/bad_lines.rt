@@ -1,7 +1,7 @@
 //! What is wrong with a line that is no step.
 
 use crate::keys::{self, Key, keys_of, wanted};
-use ident::{MAX_LINE_BYTES, NoMemory, TenantName};
+use model::{MAX_LINE_BYTES, NoMemory, TenantName};
 use serde_json::Value;
 use std::alloc::Global;
 

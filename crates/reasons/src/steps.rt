@@ -3,11 +3,10 @@
 use crate::bad_lines::fault_of;
 use forms::{LineFault, read_step};
 use handler::Handler;
-use ident::{
+use model::{
     MAX_INCARNATION, MAX_INDEX, MAX_LETTERS_QUOTA, MAX_OPTIMISM, MAX_TEXT_BYTES, MAX_TURN_EFFECTS,
-    MAX_UNITS, MAX_VOLATILE_QUOTA, NoMemory, Text, Texts, Unit,
+    MAX_UNITS, MAX_VOLATILE_QUOTA, NoMemory, Step, Text, Texts, Unit,
 };
-use model::Step;
 use std::alloc::Global;
 
 /// What would help where there was no memory.

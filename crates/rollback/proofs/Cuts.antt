@@ -20,7 +20,7 @@ take_none : (n : ℕ) → take {A = Record} n [] ≡ []
 take_none zero = refl
 take_none (suc n) = refl
 
-one : (n : ℕ) → 1 + n ≡ suc n
+pub one : (n : ℕ) → 1 + n ≡ suc n
 one n = omega arith
 
 not_below : (m n from : ℕ) → nat_lt m n ≡ false → m ≡ from + 0 → n - from ≡ 0

@@ -1,5 +1,5 @@
 -- What a unit keeps when its base moves.
-use Rattle.std.proofs.Common.{◌≡◌, ◌≢◌, inl, inr, refl, sym, ◌∙◌, ap, ℕ, suc, ◌+◌, ◌-◌, ◌<◌, ◌≤◌, ◌^◌, Bool, true, false, cond, ◌||◌, List, [], ◌∷◌, length, drop, arith}
+use Rattle.std.proofs.Common.{◌≡◌, ◌≢◌, inl, inr, refl, sym, ◌∙◌, ap, ℕ, ◌+◌, ◌-◌, ◌<◌, ◌≤◌, ◌^◌, Bool, true, false, cond, ◌||◌, List, [], ◌∷◌, length, drop, arith}
 use Rattle.std.specs.Prelude.{Option, Some, None, slice_get, option_map, ◌==◌, not}
 use Rattle.std.specs.List.{list_any, position_or_len, prefix_len}
 use Rattle.std.specs.Option.{option_map_or}
@@ -11,6 +11,7 @@ use Rattle.checkpoint.specs.Shelves.{Shelved, Rises, IsShelved, based_at, has_in
 use Rattle.checkpoint.proofs.Rising.{rises_based}
 use Rattle.compact.specs.Compact.{Interval, Progress}
 use Rattle.rollback.specs.Units.{Recovering, IsKept}
+use Rattle.rollback.proofs.Cuts.{one}
 use Rattle.rollback.proofs.Outside.{outside_based}
 
 pub unequal : (a b : ℕ) → a ≢ b → (a == b) ≡ false
@@ -34,9 +35,6 @@ others_have {P} s m n at other has = go s.base at has
 base_below : {P : Type 0} (base : Option (Snapshot P)) (others : List (Snapshot P)) (m i : ℕ) (x : Snapshot P) → option_map (λ (s : Snapshot P). s.index) base ≡ Some m → Rises base others → slice_get others i ≡ Some x → m < x.index
 base_below None others m i x e r f = cc
 base_below (Some b) others m i x e r f = let is : b.index ≡ m = same_Some b.index m e in let h = r.above b i x refl f in omega (arith, is, h)
-
-one : (n : ℕ) → 1 + n ≡ suc n
-one n = omega arith
 
 -- the first that is at the index
 found_at : {P : Type 0} (others : List (Snapshot P)) (n : ℕ) → list_any (is_at n) others ≡ true → (x : Snapshot P) × (slice_get others (position_or_len (is_at n) others) ≡ Some x) × (x.index ≡ n)

@@ -46,7 +46,7 @@ pub(crate) fn append(
     let alloc = *intervals.allocator();
     intervals.reserve(1)?;
     volatile.reserve(1)?;
-    let vector = DepVector::from_marks(logged.vector.as_slice().to_vec(alloc)?);
+    let vector = DepVector::of(alloc, logged.vector.as_slice())?;
     intervals.push_back_reserved(Interval {
         vector,
         letter: logged.letter,

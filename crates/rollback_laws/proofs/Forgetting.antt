@@ -10,12 +10,10 @@ use Rattle.checkpoint.specs.Shelves.{has_index, is_at}
 use Rattle.compact.specs.Compact.{Snapshot, Unit}
 use Rattle.compact.specs.Forgetting.{rebased}
 use Rattle.rollback.specs.Units.{Recovering, IsKept, based_on, forgotten}
+use Rattle.rollback.proofs.Cuts.{one}
 use Rattle.rollback_laws.specs.Seen.{IsSeen, shelved_as}
 use Rattle.rollback_laws.specs.Laws.{ForgettingIsSeen}
 use Rattle.rollback_laws.proofs.Places.{base_is, behind, shelf_low, shelf_there, some_stable, stable_is}
-
-one : (n : ℕ) → 1 + n ≡ suc n
-one n = omega arith
 
 -- the first that is at the index
 found_at : {S : Type 0} (xs : List (Snapshot S)) (n : ℕ) → list_any (is_at n) (map shelved_as xs) ≡ true → (t : Snapshot S) × (slice_get xs (position_or_len (is_at n) (map shelved_as xs)) ≡ Some t) × (t.index ≡ n)

@@ -12,7 +12,7 @@ ghost use Rattle.session.specs.Counts.{advanced};
 use checkpoint::Shelf;
 use depvector::DepVector;
 use incarnation::StartTable;
-use model::{Mark, NoMemory, Record, Row, Source, Unit};
+use model::{MAX_INCARNATION, Mark, NoMemory, Record, Row, Source, Unit};
 use orphan::{is_blind, is_orphan};
 use output_commit::{Hold, Outlet, StableView};
 use session::{Arrival, Sessions};
@@ -82,7 +82,7 @@ pub fn restart_index<S: Drop>(shelf: &Shelf<S>, target: u32) -> u32
 /// Begins a unit's next incarnation at this length of its path, where it has one left.
 pub fn begin_next(table: &mut StartTable, unit: Unit, start: u64) -> Result<bool, NoMemory> {
     let latest = table.latest(unit);
-    if latest >= 65_535 {
+    if latest >= MAX_INCARNATION {
         return Ok(false);
     }
     let incarnation = latest + 1;

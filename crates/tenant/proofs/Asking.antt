@@ -23,7 +23,7 @@ use Rattle.tenant.specs.Kept.{IsAsking, TenantState, Member}
 use Rattle.tenant.specs.Needs.{input_upon}
 use Rattle.tenant.specs.Outcomes.{done}
 use Rattle.tenant.specs.Represents.{Leaves, StandsFor}
-use Rattle.tenant.proofs.Follow.{Keeps, none_kept}
+use Rattle.tenant.proofs.Follow.{KeepsUnit, none_kept}
 
 -- what gives the value of a map is there
 pub mapped_from : {X Y : Type 0} (f : X → Y) (o : Option X) (y : Y) → option_map f o ≡ Some y → (x : X) × (o ≡ Some x) × (f x ≡ y)
@@ -49,7 +49,7 @@ pub record Shown {S : Type 0} (M : Meaning S) (name : List ℕ) (w : World) (log
   pub is : IsUnit M name w log member x
 
 module _ {S : Type 0} (M : Meaning S) (name : List ℕ) (live : ℕ → List ℕ) (t : TenantState S) (w : World) (log : List Record) (s : StandsFor M name live t w log) (u : ℕ) where
-  pub shown : (m : Member S) (x : Keeps t live s.0 u m) → Shown M name w log u x.unit
+  pub shown : (m : Member S) (x : KeepsUnit t live s.0 u m) → Shown M name w log u x.unit
   shown m x =
       let within = slice_get_within s.0.units u x.unit x.at in
       let width = s.2.represents.width in
@@ -70,7 +70,7 @@ module _ {S : Type 0} (M : Meaning S) (name : List ℕ) (live : ℕ → List ℕ
       different x e = cc e
 
   -- the input that is asked for is that of the world
-  pub input_is : (m : Member S) (x : Keeps t live s.0 u m) (f : Shown M name w log u x.unit) (source : Source) (text : List ℕ) (input : Input S) → asking m.recovering source text ≡ Some input → input_upon M w f.member source text ≡ input
+  pub input_is : (m : Member S) (x : KeepsUnit t live s.0 u m) (f : Shown M name w log u x.unit) (source : Source) (text : List ℕ) (input : Input S) → asking m.recovering source text ≡ Some input → input_upon M w f.member source text ≡ input
   input_is m x f source text input asked =
       let a = asked_up m.recovering source text input asked in
       let up : f.member.up ≡ true = sym f.is.up ∙ x.is.seen.up ∙ ap is_some a.1 in

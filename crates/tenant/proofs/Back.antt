@@ -48,7 +48,7 @@ use Rattle.tenant.specs.Stands.{Did, IsStanding, live_in}
 use Rattle.tenant.specs.Represents.{AreLast, IsCompact, IsMember, Leaves}
 use Rattle.tenant.proofs.Touching.{failing_asked, notice_asked, quiet_asked, restart_asked}
 use Rattle.tenant.proofs.Fetching.{whole_fetched}
-use Rattle.tenant.proofs.Follow.{Keeps, is_up, keeps, leaves, no_unit, none_kept, not_up, with_one}
+use Rattle.tenant.proofs.Follow.{KeepsUnit, is_up, keeps, leaves, no_unit, none_kept, not_up, with_one}
 use Rattle.tenant.proofs.Killing.{hold_cut, whole_hold}
 use Rattle.tenant.proofs.Lasts.{last_taken}
 use Rattle.tenant.proofs.Standing.{closed}
@@ -162,7 +162,7 @@ module _ {S : Type 0} (M : Meaning S) (name : List ℕ) (t : TenantState S) (w :
   -- ---- one that is there
 
   module _ (m : Member S) (found : slice_get t.members u ≡ Some m) where
-    pub x : Keeps t live k u m
+    pub x : KeepsUnit t live k u m
     x = keeps t live k is u m found
 
     abbrev r : Recovering S

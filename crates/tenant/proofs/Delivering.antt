@@ -3,6 +3,7 @@ use Rattle.std.proofs.Common.{◌≡◌, refl, sym, ◌∙◌, ap, subst, ℕ, s
 use Rattle.std.specs.Prelude.{Option, Some, None, Result, Ok, Err, IfOk, IfErr, slice_get}
 use Rattle.std.proofs.lemmas.Option.{same_Some, slice_get_past, slice_get_within}
 use native.Mathlib.Decide.{dec_lt}
+use Rattle.model.specs.declared.names.Mark.{Mark}
 use Rattle.model.specs.declared.names.Source.TheVariants.{Unit as FromUnit}
 use Rattle.model.specs.declared.records.Record.{Record}
 use Rattle.model.specs.declared.refusals.Refusal.{Refusal}
@@ -37,7 +38,7 @@ use Rattle.tenant.specs.Needs.{IsAsked, deliver_needs, deliver_to_needs, input_u
 use Rattle.tenant.specs.Plans.{IsPlanned}
 use Rattle.tenant.specs.Represents.{IsCompact, Leaves, StandsFor}
 use Rattle.tenant.proofs.Asking.{Shown, asked_up, input_is, none_shown, refused_first, refused_none, shown}
-use Rattle.tenant.proofs.Follow.{Keeps, keeps, leaves}
+use Rattle.tenant.proofs.Follow.{KeepsUnit, keeps, leaves}
 use Rattle.tenant.proofs.Receiving.{received_is, reply_is, turn_refusal_is}
 
 -- lists as long with the same elements
@@ -129,7 +130,7 @@ module _ {S : Type 0} (M : Meaning S) (name : List ℕ) (live : ℕ → List ℕ
         )
 
     module _ (m : Member S) (found : slice_get t.members c.receiver ≡ Some m) where
-      x : Keeps t live k c.receiver m
+      x : KeepsUnit t live k c.receiver m
       x = keeps t live k s.1 c.receiver m found
 
       f : Shown M name w log c.receiver x.unit
@@ -217,3 +218,12 @@ module _ {S : Type 0} (M : Meaning S) (name : List ℕ) (live : ℕ → List ℕ
               let made = planned.1 p.0 p.1 in
               letter_done (ap (turn_refusal_of t m) (sym e) ∙ planned.0) p.0 p.1 reply (told ∙ made.reply ∙ ap (next_reply_of t c.receiver m) e) v
               (new ∙ (λ i. received_kept M t c.receiver m (made.logged i) ((made.outputs ∙ ap (λ (turn : Turn S). turn.outputs) e) i) ((made.made ∙ (λ j. next_letters_of t c.receiver m q (e j) p.0.sessions)) i)))
+
+-- a content told by its parts
+abbrev content_of : List ℕ → List Mark → Option Content
+content_of text vector = Some (record { text = text; vector = vector })
+
+-- what is there, by what its parts are
+pub content_parts : (sent : Option Content) (content : Content) (text : List ℕ) (vector : List Mark) → sent ≡ Some content → text ≡ content.text → vector ≡ content.vector
+    → sent ≡ Some (record { text = text; vector = vector })
+content_parts sent content text vector is t v = is ∙ (ap (λ x. content_of x content.vector) (sym t) ∙ ap (λ y. content_of text y) (sym v))

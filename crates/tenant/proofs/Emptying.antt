@@ -31,7 +31,7 @@ use Rattle.tenant.specs.Keeping.{IsKeeping, KeepsPast, based_one, shelf_of, shel
 use Rattle.tenant.specs.Kept.{TenantState, Member as MemberOf}
 use Rattle.tenant.specs.Represents.{IsCompact}
 use Rattle.tenant.specs.Stands.{IsStanding, Stands, live_in}
-use Rattle.tenant.proofs.Follow.{Keeps, keeps}
+use Rattle.tenant.proofs.Follow.{KeepsUnit, keeps}
 use Rattle.tenant.proofs.Moving.{next_is}
 use Rattle.tenant.proofs.Lasting.{past_closed, past_opened}
 use Rattle.tenant.proofs.Shelves.{based_is, next_there}
@@ -145,7 +145,7 @@ module _ {S : Type 0} (M : Meaning S) (name : List ℕ) (t : TenantState S) (w :
   abbrev r : Recovering S
   r = m.recovering
 
-  x : Keeps t (live_in name records) k u m
+  x : KeepsUnit t (live_in name records) k u m
   x = keeps t (live_in name records) k is u m found
 
   pub world_unit : (q : Member) × (slice_get w.members u ≡ Some q)

@@ -39,7 +39,7 @@ use Rattle.unit_steps.proofs.Seen.{frontiers_go_on}
 use Rattle.tenant.specs.Kept.{IsFlushed, TenantState, Member, flushed_member, up_refusal}
 use Rattle.tenant.specs.Stands.{Did, IsStanding, live_in}
 use Rattle.tenant.specs.Represents.{AreLast, IsCompact, IsMember}
-use Rattle.tenant.proofs.Follow.{Keeps, is_up, keeps, leaves, not_up}
+use Rattle.tenant.proofs.Follow.{KeepsUnit, is_up, keeps, leaves, not_up}
 use Rattle.tenant.proofs.Lasts.{last_more}
 use Rattle.tenant.proofs.Places.{own_places, other_places, owns, owns_not, places_behind, left_length}
 use Rattle.tenant.proofs.Widths.{widths}
@@ -114,7 +114,7 @@ module _ {S : Type 0} (M : Meaning S) (name : List ℕ) (t : TenantState S) (w :
     abbrev grown : List Record
     grown = take said.appended r.volatile
 
-    x : Keeps t live k u m
+    x : KeepsUnit t live k u m
     x = keeps t live k is u m found
 
     mw : (q : MemberOf) × (slice_get w.members u ≡ Some q)

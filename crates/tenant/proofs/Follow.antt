@@ -39,13 +39,13 @@ leaves M name live log outcome reach done given a same t is = leaves_on M name l
 -- ---- one unit
 
 -- the unit of the compact state that a member keeps
-pub record Keeps {S : Type 0} (t : TenantState S) (live : ℕ → List ℕ) (k : Compact S) (u : ℕ) (m : Member S) : Type 0 where
+pub record KeepsUnit {S : Type 0} (t : TenantState S) (live : ℕ → List ℕ) (k : Compact S) (u : ℕ) (m : Member S) : Type 0 where
   pub unit : Unit S
   pub at : slice_get k.units u ≡ Some unit
   pub is : IsMember t live u m unit
 
 module _ {S : Type 0} (t : TenantState S) (live : ℕ → List ℕ) (k : Compact S) (is : IsCompact t live k) (u : ℕ) where
-  pub keeps : (m : Member S) → slice_get t.members u ≡ Some m → Keeps t live k u m
+  pub keeps : (m : Member S) → slice_get t.members u ≡ Some m → KeepsUnit t live k u m
   keeps m e =
       let within = slice_get_within t.members u m e in
       let width = is.width in
@@ -92,7 +92,7 @@ module _ {S : Type 0} (t : TenantState S) (live : ℕ → List ℕ) (k : Compact
   up done false e = absurd (cc e)
 
   -- and one that is
-  pub is_up : (h : Unit S → Done S) (m : Member S) (x : Keeps t live k u m) → is_some m.recovering.progress ≡ true → at_up_of k h (slice_get k.units u) ≡ h x.unit
+  pub is_up : (h : Unit S → Done S) (m : Member S) (x : KeepsUnit t live k u m) → is_some m.recovering.progress ≡ true → at_up_of k h (slice_get k.units u) ≡ h x.unit
   is_up h m x e = ap (at_up_of k h) x.at ∙ up (h x.unit) x.unit.up (x.is.seen.up ∙ e)
 
   -- what a unit keeps is the same beside other units and where as much is released of it

@@ -36,7 +36,7 @@ use Rattle.tenant.specs.Bases.{IsBeside, LetsGo, emptied_all, emptied_at, emptie
 use Rattle.tenant.specs.Kept.{TenantState, Member}
 use Rattle.tenant.specs.Represents.{AreLast, IsCompact, IsMember}
 use Rattle.tenant.specs.Stands.{Did, IsStanding, Stands, live_in}
-use Rattle.tenant.proofs.Follow.{Keeps, keeps}
+use Rattle.tenant.proofs.Follow.{KeepsUnit, keeps}
 use Rattle.tenant.proofs.Lasts.{last_fits}
 use Rattle.tenant.proofs.Logging.{take_one}
 use Rattle.tenant.proofs.Others.{stands_beside}
@@ -136,7 +136,7 @@ module _ {S : Type 0} (M : Meaning S) (name : List ℕ) (t : TenantState S) (w :
   st : StandsCompact M name k w whole
   st = s.stands.2
 
-  x : Keeps t live k u m
+  x : KeepsUnit t live k u m
   x = keeps t live k is u m found
 
   abbrev r : Recovering S

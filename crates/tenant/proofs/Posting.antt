@@ -30,7 +30,7 @@ use Rattle.tenant.specs.declared.receipts.Plan.{Plan}
 use Rattle.tenant.specs.Plans.{IsPlanned}
 use Rattle.tenant.specs.Represents.{IsCompact, Leaves, StandsFor}
 use Rattle.tenant.proofs.Asking.{Shown, asked_up, input_is, none_shown, refused_first, refused_none, shown}
-use Rattle.tenant.proofs.Follow.{Keeps, keeps, leaves}
+use Rattle.tenant.proofs.Follow.{KeepsUnit, keeps, leaves}
 use Rattle.tenant.proofs.Receiving.{received_is, reply_is, turn_refusal_is}
 
 module _ {S : Type 0} (M : Meaning S) (name : List ℕ) (live : ℕ → List ℕ) (t : TenantState S) (w : World) (log : List Record) (s : StandsFor M name live t w log) (u number : ℕ) (text : List ℕ) where
@@ -49,7 +49,7 @@ module _ {S : Type 0} (M : Meaning S) (name : List ℕ) (live : ℕ → List ℕ
       (ap (post_to_needs M w number text) none, refused_none w u (post_to M w u number text) none)
 
   module _ (m : Member S) (found : slice_get t.members u ≡ Some m) where
-    x : Keeps t live k u m
+    x : KeepsUnit t live k u m
     x = keeps t live k s.1 u m found
 
     f : Shown M name w log u x.unit

@@ -11,7 +11,6 @@ use Rattle.model.specs.Lists.{numbers_from}
 use Rattle.model.specs.Nodes.{sends_within}
 use Rattle.model.specs.Steps.{first_refusal}
 use Rattle.model.specs.World.{World}
-use Rattle.model.proofs.Places.{numbers_first}
 use Rattle.handler.specs.Inputs.{Input, turn_upon_input}
 use Rattle.session.specs.Counts.{Counts, advanced, sent_one}
 use Rattle.output_commit.specs.Holds.{held_of}
@@ -26,18 +25,7 @@ use Rattle.unit_steps.specs.Receipts.{mark_upon, turn_refused, vector_upon}
 use Rattle.unit_steps.proofs.Seen.{vectors_are_made}
 use Rattle.tenant.specs.Kept.{TenantState, Member, next_letters_of, next_mark_of, next_record_of, next_reply_of, next_vector_of, received_kept, received_member, turn_refusal_of}
 use Rattle.tenant.specs.Represents.{IsCompact, IsMember, StandsFor}
-use Rattle.tenant.proofs.Follow.{Keeps, with_one}
-
--- ---- lists
-
--- one number more
-pub numbers_step : (k n i : ℕ) (all more : List ℕ) → i < n → all ++ numbers_from (k + i) (n - i) ≡ numbers_from k n → more ≡ all ++ (k + i) ∷ []
-    → more ++ numbers_from (k + (i + 1)) (n - (i + 1)) ≡ numbers_from k n
-numbers_step k n i all more h e f =
-    let a : k + (i + 1) ≡ (k + i) + 1 = omega arith in
-    let b : n - (i + 1) ≡ (n - i) - 1 = omega arith in
-    let c : 0 < n - i = omega arith in
-    rw (f, a, b, append_assoc) (rw (numbers_first (k + i) (n - i) c) at e)
+use Rattle.tenant.proofs.Follow.{KeepsUnit, with_one}
 
 -- ---- more letters
 
@@ -56,7 +44,7 @@ with_letters t live k is letters others same = record {
 }
 
 module _ {S : Type 0} (M : Meaning S) (name : List ℕ) (live : ℕ → List ℕ) (t : TenantState S) (w : World) (log : List Record) (s : StandsFor M name live t w log) (u : ℕ)
-    (m : Member S) (x : Keeps t live s.0 u m) (q : Receipt) (input : Input S) (asked : asking m.recovering q.source q.text ≡ Some input) where
+    (m : Member S) (x : KeepsUnit t live s.0 u m) (q : Receipt) (input : Input S) (asked : asking m.recovering q.source q.text ≡ Some input) where
   abbrev k : Compact S
   k = s.0
 

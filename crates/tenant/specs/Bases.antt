@@ -64,6 +64,7 @@ pub record LetsGo (name : List ℕ) (unit count : ℕ) (before after : Logged) :
 
 -- It took no record, and the records of other tenants are live as they were.
 pub record IsBeside (name : List ℕ) (before after : Logged) : Type 0 where
-  pub others : (other : List ℕ) (unit : ℕ) → bytes_eq other name ≡ false → places_of other unit after ≡ places_of other unit before
+  pub others : (other : List ℕ) (unit : ℕ) → bytes_eq other name ≡ false
+      → places_of other unit after ≡ places_of other unit before
   pub grows : Grows before.records [] after.records
   pub failures : after.failures ≡ before.failures

@@ -27,7 +27,8 @@ shelves_of t = map (λ m. shelf_of m.recovering) t.members
 -- The tenant's units have these checkpoints, and a letter is without content just where an interval up to its receiver's base received it.
 pub record IsKeeping {S : Type 0} (t : TenantState S) (w : World) (shelves : List Shelf) : Type 0 where
   pub shelved : shelves_of t ≡ shelves
-  pub letters : (l : ℕ) (c : Letter) (m : MemberOf) (s : Shelf) → slice_get t.letters l ≡ Some c → slice_get w.members c.receiver ≡ Some m → slice_get shelves c.receiver ≡ Some s
+  pub letters : (l : ℕ) (c : Letter) (m : MemberOf) (s : Shelf) → slice_get t.letters l ≡ Some c
+      → slice_get w.members c.receiver ≡ Some m → slice_get shelves c.receiver ≡ Some s
       → is_none c.content ≡ received_for_good w m s l
 
 -- The same, closed: whoever stands above passes it on.
@@ -35,9 +36,11 @@ unfoldable pub KeepsPast : {S : Type 0} → TenantState S → World → List She
 KeepsPast t w shelves = IsKeeping t w shelves
 
 -- A step keeps what the rules leave: where it is of this world, and leaves that one.
-abbrev pub KeepsOn : {S : Type 0} → Meaning S → List ℕ → TenantState S → TenantStep → Said → Reply → TenantState S → List (Option Record) → Type 0
+abbrev pub KeepsOn : {S : Type 0} → Meaning S → List ℕ → TenantState S → TenantStep → Said → Reply → TenantState S
+    → List (Option Record) → Type 0
 KeepsOn M name t step said reply v records =
-    (w z : World) (shelves : List Shelf) → Stands M name t w records → step_open M w step said ≡ done reply z → KeepsPast t w shelves → KeepsPast v z (shelves_after z step reply shelves)
+    (w z : World) (shelves : List Shelf) → Stands M name t w records → step_open M w step said ≡ done reply z
+    → KeepsPast t w shelves → KeepsPast v z (shelves_after z step reply shelves)
 
 -- A tenant that was opened with this reply keeps all, whatever checkpoints were said to be there before.
 abbrev pub OpensPast : {S : Type 0} → Reply → TenantState S → Type 0
@@ -65,7 +68,8 @@ based_one w u (Some m) shelves = changed (based (firm_length w m)) u shelves
 
 -- The bases of all units moved as far as they are firm.
 abbrev pub Bases : {S : Type 0} → Meaning S → List ℕ → TenantState S → List (Option Record) → TenantState S → Type 0
-Bases M name t records v = (w : World) (shelves : List Shelf) → Stands M name t w records → KeepsPast t w shelves → KeepsPast v w (all_based w w.members shelves)
+Bases M name t records v = (w : World) (shelves : List Shelf) → Stands M name t w records → KeepsPast t w shelves
+    → KeepsPast v w (all_based w w.members shelves)
 
 -- ---- how much that is
 

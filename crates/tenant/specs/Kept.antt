@@ -71,7 +71,8 @@ abbrev pub unfirm : List Held → ℕ → List Held
 unfirm outputs frontier = drop (length (held_below outputs frontier)) outputs
 
 -- Some of a unit's firm outputs moved to what it released. As many firm outputs are left of them together.
-pub record AreMoved (frontier : ℕ) (outputs : List Held) (texts : List (List ℕ)) (left : List Held) (more : List (List ℕ)) : Type 0 where
+pub record AreMoved (frontier : ℕ) (outputs : List Held) (texts : List (List ℕ)) (left : List Held)
+    (more : List (List ℕ)) : Type 0 where
   pub all : more ++ firm_texts left frontier ≡ texts ++ firm_texts outputs frontier
   pub rest : unfirm left frontier ≡ unfirm outputs frontier
 
@@ -92,7 +93,8 @@ abbrev pub outputs_to : List Held → ℕ → List Held
 outputs_to outputs n = cond (nat_lt n 4294967296) (held_below outputs n) outputs
 
 abbrev pub killed_member : {S : Type 0} → Member S → Member S
-killed_member m = record m { recovering = killed m.recovering; outputs = outputs_to m.outputs (places (killed m.recovering)) }
+killed_member m =
+    record m { recovering = killed m.recovering; outputs = outputs_to m.outputs (places (killed m.recovering)) }
 
 -- ---- checkpoint
 
@@ -103,11 +105,13 @@ checkpointed_member m = record m { recovering = checkpointed m.recovering }
 
 -- a unit at its beginning, in a tenant of so many units, when there are so many rows
 abbrev pub begun_member : {S : Type 0} → Meaning S → ℕ → Seat → ℕ → Member S
-begun_member M width seat known = record { recovering = begun_unit M width seat; unit = seat.unit; outputs = []; known = known }
+begun_member M width seat known =
+    record { recovering = begun_unit M width seat; unit = seat.unit; outputs = []; known = known }
 
 -- one unit more, at its beginning
 abbrev pub with_begun : {S : Type 0} → Meaning S → ℕ → List (Member S) → ℕ → List (Member S)
-with_begun M width members kind = members ++ begun_member M width (record { unit = length members; kind = kind; home = width }) 0 ∷ []
+with_begun M width members kind =
+    members ++ begun_member M width (record { unit = length members; kind = kind; home = width }) 0 ∷ []
 
 -- a tenant with units of these kinds, each at its beginning
 abbrev pub opened_kept : {S : Type 0} → Meaning S → List (List ℕ) → Quota → ℕ → TenantState S
@@ -131,11 +135,13 @@ flushed_member m count = record m { recovering = marked_stable m.recovering coun
 -- Each unit's frontier goes on as far as the vectors behind it are firm.
 abbrev pub GoOn : {S : Type 0} → List Row → List ℕ → List (Member S) → List ℕ → List ℕ → Type 0
 GoOn {S} table stable_lengths members before after =
-    (u : ℕ) (m : Member S) (f : ℕ) → slice_get members u ≡ Some m → slice_get before u ≡ Some f → IsFrontier (length stable_lengths) m.recovering f
+    (u : ℕ) (m : Member S) (f : ℕ) → slice_get members u ≡ Some m → slice_get before u ≡ Some f
+    → IsFrontier (length stable_lengths) m.recovering f
     → slice_get after u ≡ Some (frontier_of table stable_lengths m.recovering f)
 
 -- So many more intervals of the unit are stable, and the frontiers have gone on. All else is as it was.
-pub record IsFlushed {S : Type 0} (before : TenantState S) (u count : ℕ) (m : Member S) (after : TenantState S) : Type 0 where
+pub record IsFlushed {S : Type 0} (before : TenantState S) (u count : ℕ) (m : Member S)
+    (after : TenantState S) : Type 0 where
   pub quota : after.quota ≡ before.quota
   pub optimism : after.optimism ≡ before.optimism
   pub table : after.table ≡ before.table
@@ -181,7 +187,8 @@ kept_before (Some first) all = first
 
 -- how much of a path comes before its first orphan, by these rows
 abbrev pub kept_length : {S : Type 0} → List Row → Recovering S → ℕ
-kept_length rows r = kept_before (option_map (λ i. r.base + i) (position (λ x. is_orphan_by rows x.vector) r.intervals)) (places r)
+kept_length rows r =
+    kept_before (option_map (λ i. r.base + i) (position (λ x. is_orphan_by rows x.vector) r.intervals)) (places r)
 
 -- up to the target, with this progress
 abbrev pub returned : {S : Type 0} → Recovering S → ℕ → Option (Progress S) → Recovering S
@@ -200,7 +207,8 @@ gone_back t u m target incarnation progress = record t {
 
 -- these records are those at these positions of a unit's live ones
 abbrev pub AreFetched : List (Option Record) → List ℕ → ℕ → ℕ → List Record → Type 0
-AreFetched records places first last fetched = map (λ r. Some (Some r)) fetched ≡ map (slice_get records) (take (last - first) (drop first places))
+AreFetched records places first last fetched =
+    map (λ r. Some (Some r)) fetched ≡ map (slice_get records) (take (last - first) (drop first places))
 
 -- how many records of a unit are live: those of its stable intervals behind the base
 abbrev pub live_count : {S : Type 0} → Recovering S → ℕ
@@ -212,7 +220,8 @@ AreNeeded {S} records live r target fetched =
     (s : Snapshot (Progress S)) → nearest_of r.shelf target ≡ Some s → AreFetched records (drop (length live - live_count r) live) (s.index - r.base) (min (target + 1) (stable_places r) - 1 - r.base) fetched
 
 -- the progress at the target is what replay of those records gives
-abbrev pub IsReplayed : {S : Type 0} → Meaning S → List (Option Record) → List ℕ → Recovering S → ℕ → ℕ → Option (Progress S) → Type 0
+abbrev pub IsReplayed : {S : Type 0} → Meaning S → List (Option Record) → List ℕ → Recovering S → ℕ → ℕ
+    → Option (Progress S) → Type 0
 IsReplayed M records live r target width progress = (fetched : List Record) × AreNeeded records live r target fetched × (progress ≡ (restored M r target width fetched).progress)
 
 -- ---- receipts
@@ -223,7 +232,8 @@ pub record Waits : Type 0 where
   pub outputs : List Held
 
 -- The unit's turn upon this text has this input, and no test before the turn refuses the receipt.
-pub record IsAsking {S : Type 0} (refusal : Option Refusal) (r : Recovering S) (source : Source) (text : List ℕ) (input : Input S) : Type 0 where
+pub record IsAsking {S : Type 0} (refusal : Option Refusal) (r : Recovering S) (source : Source) (text : List ℕ)
+    (input : Input S) : Type 0 where
   pub passes : refusal ≡ None
   pub room : places r < 2 ^ 32
   pub asked : asking r source text ≡ Some input
@@ -234,12 +244,14 @@ known_of t m = record { table = t.table; rows = m.known; stable_lengths = t.stab
 
 -- why a letter is refused before its turn
 abbrev pub letter_refusal_of : {S : Type 0} → TenantState S → Member S → Letter → Option Refusal
-letter_refusal_of t m c = letter_refused (known_of t m) t.optimism t.quota.volatile m.recovering c.source c.number c.content
+letter_refusal_of t m c =
+    letter_refused (known_of t m) t.optimism t.quota.volatile m.recovering c.source c.number c.content
 
 -- The letter has a content, upon whose text its receiver's turn has this input, and no test before the turn refuses it.
 abbrev pub IsAskingBy : {S : Type 0} → TenantState S → Member S → Letter → Option Content → Input S → Type 0
 IsAskingBy t m c None input = ⊥
-IsAskingBy t m c (Some content) input = IsAsking (letter_refusal_of t m c) m.recovering (FromUnit c.source) content.text input
+IsAskingBy t m c (Some content) input =
+    IsAsking (letter_refusal_of t m c) m.recovering (FromUnit c.source) content.text input
 
 -- the mark, the vector and the record of the interval that a receipt makes
 abbrev pub next_mark_of : {S : Type 0} → TenantState S → ℕ → Member S → Mark
@@ -262,7 +274,8 @@ next_record_of name t u m q = record {
 
 -- the letters that its turn makes, where the unit's sessions were these before
 abbrev pub next_letters_of : {S : Type 0} → TenantState S → ℕ → Member S → Receipt → Turn S → Counts → List Letter
-next_letters_of t u m q turn sessions = letters_by u (next_vector_of t u m q) (advanced sessions q.source) (sends_within (length t.members) turn)
+next_letters_of t u m q turn sessions =
+    letters_by u (next_vector_of t u m q) (advanced sessions q.source) (sends_within (length t.members) turn)
 
 -- and what it is answered
 abbrev pub next_reply_of : {S : Type 0} → TenantState S → ℕ → Member S → Turn S → Reply
@@ -274,11 +287,14 @@ turn_refusal_of t m turn = turn_refused t.quota (length m.outputs) (length t.let
 
 -- a unit with one more interval, which has this record and these outputs
 abbrev pub received_member : {S : Type 0} → Meaning S → Member S → Record → List (List ℕ) → Member S
-received_member M m r outputs = record m { recovering = took M m.recovering r; outputs = m.outputs ++ held_of r.mark outputs }
+received_member M m r outputs =
+    record m { recovering = took M m.recovering r; outputs = m.outputs ++ held_of r.mark outputs }
 
 -- the tenant with such a unit, and with these letters
-abbrev pub received_kept : {S : Type 0} → Meaning S → TenantState S → ℕ → Member S → Record → List (List ℕ) → List Letter → TenantState S
-received_kept M t u m r outputs made = record t { members = slice_set t.members u (received_member M m r outputs); letters = t.letters ++ made }
+abbrev pub received_kept : {S : Type 0} → Meaning S → TenantState S → ℕ → Member S → Record → List (List ℕ)
+    → List Letter → TenantState S
+received_kept M t u m r outputs made =
+    record t { members = slice_set t.members u (received_member M m r outputs); letters = t.letters ++ made }
 
 -- The record is of the unit's next interval, whose turn has this input.
 pub record IsNext {S : Type 0} (m : Member S) (r : Record) (input : Input S) : Type 0 where

@@ -30,7 +30,8 @@ input_unless input (Some r) = None
 
 abbrev pub post_to_needs : {S : Type 0} → Meaning S → World → ℕ → List ℕ → Option Member → Option (Input S)
 post_to_needs M w number text None = None
-post_to_needs M w number text (Some m) = input_unless (input_upon M w m Outside text) (first_refusal (post_front w m number text))
+post_to_needs M w number text (Some m) =
+    input_unless (input_upon M w m Outside text) (first_refusal (post_front w m number text))
 
 -- the input of the turn that a post needs, if it needs one
 unfoldable pub post_needs : {S : Type 0} → Meaning S → World → ℕ → ℕ → List ℕ → Option (Input S)

@@ -16,7 +16,8 @@ arrived a = record { source = a.source; letter = a.letter; number = a.number; te
 
 -- The record, the letters, the outputs and the answer are those of this receipt, whose turn is this one, where the unit's
 -- sessions are these.
-pub record IsPlan {S : Type 0} (name : List ℕ) (t : TenantState S) (u : ℕ) (m : Member S) (q : Receipt) (turn : Turn S) (sessions : Counts) (plan : Plan) : Type 0 where
+pub record IsPlan {S : Type 0} (name : List ℕ) (t : TenantState S) (u : ℕ) (m : Member S) (q : Receipt) (turn : Turn S)
+    (sessions : Counts) (plan : Plan) : Type 0 where
   pub logged : plan.logged ≡ next_record_of name t u m q
   pub few : length plan.logged.vector ≤ 256
   pub made : plan.made.items ≡ next_letters_of t u m q turn sessions
@@ -25,6 +26,7 @@ pub record IsPlan {S : Type 0} (name : List ℕ) (t : TenantState S) (u : ℕ) (
   pub plain : IsPlain plan.answer
 
 -- They are where the turn can be taken; or this is why it can't be.
-abbrev pub IsPlanned : {S : Type 0} → List ℕ → TenantState S → ℕ → Member S → Receipt → Turn S → Result Plan Refusal → Type 0
+abbrev pub IsPlanned : {S : Type 0} → List ℕ → TenantState S → ℕ → Member S → Receipt → Turn S → Result Plan Refusal
+    → Type 0
 IsPlanned {S} name t u m q turn (Ok plan) = (turn_refusal_of t m turn ≡ None) × ((p : Progress S) → m.recovering.progress ≡ Some p → IsPlan name t u m q turn p.sessions plan)
 IsPlanned name t u m q turn (Err r) = turn_refusal_of t m turn ≡ Some r

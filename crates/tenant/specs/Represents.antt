@@ -17,7 +17,8 @@ abbrev pub AreLast : List ℕ → List ℕ → Type 0
 AreLast own live = own ≡ drop (length live - length own) live
 
 -- The tenant keeps this unit of the compact state as its u-th. `live` tells the places in the log of each unit's live records.
-pub record IsMember {S : Type 0} (t : TenantState S) (live : ℕ → List ℕ) (u : ℕ) (m : Member S) (x : Unit S) : Type 0 where
+pub record IsMember {S : Type 0} (t : TenantState S) (live : ℕ → List ℕ) (u : ℕ) (m : Member S)
+    (x : Unit S) : Type 0 where
   pub kept : IsKept m.recovering
   pub seen : IsSeen m.recovering x
   pub own : m.unit ≡ u
@@ -37,7 +38,8 @@ pub record IsCompact {S : Type 0} (t : TenantState S) (live : ℕ → List ℕ) 
   pub stables : length t.stable_lengths ≡ length k.units
   pub fronts : length t.frontiers ≡ length k.units
   pub lines : length t.released ≡ length k.units
-  pub members : (u : ℕ) (m : Member S) (x : Unit S) → slice_get t.members u ≡ Some m → slice_get k.units u ≡ Some x → IsMember t live u m x
+  pub members : (u : ℕ) (m : Member S) (x : Unit S) → slice_get t.members u ≡ Some m → slice_get k.units u ≡ Some x
+      → IsMember t live u m x
   pub letters : k.letters ≡ t.letters
 
 -- The tenant of this name stands for a world that it can come to, where the log has these records.
@@ -45,21 +47,27 @@ abbrev pub StandsFor : {S : Type 0} → Meaning S → List ℕ → (ℕ → List
 StandsFor {S} M name live t w log = (k : Compact S) × IsCompact t live k × StandsCompact M name k w log
 
 -- the reply is that of the definitions, and the tenant stands for the world after the step
-abbrev pub Leaves : {S : Type 0} → Meaning S → List ℕ → (ℕ → List ℕ) → Outcome → Reply → TenantState S → List Record → Type 0
-Leaves M name live outcome reply t log = (z : World) × (outcome ≡ record { reply = reply; world = Some z }) × StandsFor M name live t z log
+abbrev pub Leaves : {S : Type 0} → Meaning S → List ℕ → (ℕ → List ℕ) → Outcome → Reply → TenantState S → List Record
+    → Type 0
+Leaves M name live outcome reply t log =
+    (z : World) × (outcome ≡ record { reply = reply; world = Some z }) × StandsFor M name live t z log
 
 -- For each world that the tenant of this name stands for, the reply is that of the step of the definitions, and the tenant then stands for the world after it.
-abbrev pub DoesAs : {S : Type 0} → Meaning S → List ℕ → (World → Outcome) → TenantState S → Reply → TenantState S → Type 0
+abbrev pub DoesAs : {S : Type 0} → Meaning S → List ℕ → (World → Outcome) → TenantState S → Reply → TenantState S
+    → Type 0
 DoesAs M name step before reply after =
-    (live : ℕ → List ℕ) (w : World) (log : List Record) → StandsFor M name live before w log → Leaves M name live (step w) reply after log
+    (live : ℕ → List ℕ) (w : World) (log : List Record) → StandsFor M name live before w log
+    → Leaves M name live (step w) reply after log
 
 -- So it is whatever the tenant's name.
 abbrev pub Does : {S : Type 0} → Meaning S → (World → Outcome) → TenantState S → Reply → TenantState S → Type 0
 Does M step before reply after =
-    (name : List ℕ) (live : ℕ → List ℕ) (w : World) (log : List Record) → StandsFor M name live before w log → Leaves M name live (step w) reply after log
+    (name : List ℕ) (live : ℕ → List ℕ) (w : World) (log : List Record) → StandsFor M name live before w log
+    → Leaves M name live (step w) reply after log
 
 -- A tenant was opened with these, or not: then it stands for the opened world, whatever its name and the log.
 abbrev pub OpensAs : {S : Type 0} → Meaning S → List (List ℕ) → Quota → ℕ → Reply → Option (TenantState S) → Type 0
 OpensAs M kinds quota optimism reply None = open_new M kinds quota optimism ≡ record { reply = reply; world = None }
 OpensAs M kinds quota optimism reply (Some t) =
-    (name : List ℕ) (live : ℕ → List ℕ) (log : List Record) → Leaves M name live (open_new M kinds quota optimism) reply t log
+    (name : List ℕ) (live : ℕ → List ℕ) (log : List Record)
+    → Leaves M name live (open_new M kinds quota optimism) reply t log

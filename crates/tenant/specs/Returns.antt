@@ -14,7 +14,8 @@ use Rattle.model.specs.Records.{quiet}
 use Rattle.tenant.specs.Outcomes.{failing}
 
 -- the unit went back to the target, and the records behind it are live no more
-pub record Went {S : Type 0} (M : Meaning S) (name : List ℕ) (t : TenantState S) (u : ℕ) (m : Member S) (target : ℕ) (given : Reply) (a : Answer) (v : TenantState S) (before after : Logged) : Type 0 where
+pub record Went {S : Type 0} (M : Meaning S) (name : List ℕ) (t : TenantState S) (u : ℕ) (m : Member S) (target : ℕ)
+    (given : Reply) (a : Answer) (v : TenantState S) (before after : Logged) : Type 0 where
   pub said : a.said ≡ quiet
   pub reply : a.reply ≡ given
   pub progress : Option (Progress S)
@@ -25,12 +26,15 @@ pub record Went {S : Type 0} (M : Meaning S) (name : List ℕ) (t : TenantState 
   pub grows : Grows before.records [] after.records
 
 -- the device failed, and nothing was changed
-pub record Failed {S : Type 0} (t : TenantState S) (a : Answer) (v : TenantState S) (before after : Logged) : Type 0 where
+pub record Failed {S : Type 0} (t : TenantState S) (a : Answer) (v : TenantState S)
+    (before after : Logged) : Type 0 where
   pub said : a.said ≡ failing
   pub reply : a.reply ≡ Refused Store
   pub same : v ≡ t
   pub records : after.records ≡ before.records
   pub device : HasRisen before.failures after.failures
 
-abbrev pub Returns : {S : Type 0} → Meaning S → List ℕ → TenantState S → ℕ → Member S → ℕ → Reply → Answer → TenantState S → Logged → Logged → Type 0
-Returns M name t u m target given a v before after = Went M name t u m target given a v before after ⊎ Failed t a v before after
+abbrev pub Returns : {S : Type 0} → Meaning S → List ℕ → TenantState S → ℕ → Member S → ℕ → Reply → Answer
+    → TenantState S → Logged → Logged → Type 0
+Returns M name t u m target given a v before after =
+    Went M name t u m target given a v before after ⊎ Failed t a v before after

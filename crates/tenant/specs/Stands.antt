@@ -23,7 +23,8 @@ live_in name records = λ u. places_from name u 0 records
 
 -- The tenant of this name stands for the world, where the log has these records, with empty places for those that were
 -- forgotten: they are what is left of a whole list.
-pub record IsStanding {S : Type 0} (M : Meaning S) (name : List ℕ) (t : TenantState S) (w : World) (records : List (Option Record)) : Type 0 where
+pub record IsStanding {S : Type 0} (M : Meaning S) (name : List ℕ) (t : TenantState S) (w : World)
+    (records : List (Option Record)) : Type 0 where
   pub whole : List Record
   pub left : IsLeftOf records whole
   pub stands : StandsFor M name (live_in name records) t w whole
@@ -33,7 +34,8 @@ unfoldable pub Stands : {S : Type 0} → Meaning S → List ℕ → TenantState 
 Stands M name t w records = IsStanding M name t w records
 
 -- the tenant, if there is one, stands for the world, if there is one
-abbrev pub StandsAt : {S : Type 0} → Meaning S → List ℕ → Option (TenantState S) → Option World → List (Option Record) → Type 0
+abbrev pub StandsAt : {S : Type 0} → Meaning S → List ℕ → Option (TenantState S) → Option World → List (Option Record)
+    → Type 0
 StandsAt M name None None records = Unit {0}
 StandsAt M name None (Some w) records = ⊥
 StandsAt M name (Some k) None records = ⊥
@@ -41,22 +43,27 @@ StandsAt M name (Some k) (Some w) records = Stands M name k w records
 
 -- What the store said during a step is honest: the log grew by just the records that the definitions name
 -- (it may have forgotten others), and the device is said to have failed only where it did.
-pub record Logs {S : Type 0} (M : Meaning S) (name : List ℕ) (w : World) (step : TenantStep) (said : Said) (before after : Logged) : Type 0 where
+pub record Logs {S : Type 0} (M : Meaning S) (name : List ℕ) (w : World) (step : TenantStep) (said : Said)
+    (before after : Logged) : Type 0 where
   pub honest : (grown : List Record) × Grows before.records grown after.records × IsHonest M name w step said grown
   pub device : said.end ≡ Device → HasRisen before.failures after.failures
 
 -- the reply to a step of this world is that of the definitions for what the store said, and the tenant stands for the world after it
-abbrev pub Steps : {S : Type 0} → Meaning S → List ℕ → World → TenantState S → TenantStep → Said → Reply → List (Option Record) → Type 0
-Steps M name w k step said answer records = (z : World) × (step_open M w step said ≡ done answer z) × Stands M name k z records
+abbrev pub Steps : {S : Type 0} → Meaning S → List ℕ → World → TenantState S → TenantStep → Said → Reply
+    → List (Option Record) → Type 0
+Steps M name w k step said answer records =
+    (z : World) × (step_open M w step said ≡ done answer z) × Stands M name k z records
 
 -- a step of this world was done
-pub record Did {S : Type 0} (M : Meaning S) (name : List ℕ) (w : World) (k : TenantState S) (step : TenantStep) (said : Said) (answer : Reply) (before after : Logged) : Type 0 where
+pub record Did {S : Type 0} (M : Meaning S) (name : List ℕ) (w : World) (k : TenantState S) (step : TenantStep)
+    (said : Said) (answer : Reply) (before after : Logged) : Type 0 where
   pub steps : Steps M name w k step said answer after.records
   pub logs : Logs M name w step said before after
 
 -- a tenant was opened with these, or not
 abbrev pub IsOpened : {S : Type 0} → Meaning S → List (List ℕ) → Quota → ℕ → Reply → Option (TenantState S) → Type 0
-IsOpened M kinds quota optimism answer t = (z : Option World) × (open_new M kinds quota optimism ≡ record { reply = answer; world = z })
+IsOpened M kinds quota optimism answer t =
+    (z : Option World) × (open_new M kinds quota optimism ≡ record { reply = answer; world = z })
     × ((name : List ℕ) (records : List (Option Record)) → StandsAt M name t z records)
 
 -- what a unit of the world has released, if the unit is there

@@ -30,10 +30,10 @@ fn route_of(letter: &SentLetter) -> Route
 fn routes(alloc: Global, letters: &[SentLetter]) -> Result<Vec<Route>, NoMemory>
     ensures { IfOk result (λ routes. routes.items ≡ routes_by letters.now) }
 {
-    let routes = letters
-        .iter()
-        .map(|letter| route_of(letter))
-        .collect(alloc)?;
+    let mut routes = Vec::new(alloc);
+    for letter in letters {
+        routes.push(route_of(letter))?;
+    }
     Ok(routes)
 }
 

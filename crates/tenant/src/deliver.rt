@@ -91,7 +91,7 @@ impl<H: Handler> Tenant<H> {
             }
         };
         let source = Source::Unit(sent.source);
-        let asked = ask_upon(alloc, handler, member, source, &content.text)?;
+        let asked = ask_upon(alloc, handler, member, source, content.text())?;
         Ok(asked)
     }
 
@@ -135,8 +135,8 @@ impl<H: Handler> Tenant<H> {
             source: Source::Unit(sent.source),
             letter: Some(letter),
             number: sent.number,
-            text: &content.text,
-            vector: &content.vector,
+            text: content.text(),
+            vector: content.vector(),
         };
         match self.planned(alloc, name, unit, member, &arrival, worked.turn())? {
             Err(refusal) => Ok(Answer::refused(refusal)),

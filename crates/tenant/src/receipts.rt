@@ -40,19 +40,6 @@ pub(crate) struct Plan {
     pub(crate) answer: Answer,
 }
 
-/// The n letters from k on.
-fn numbers(alloc: Global, k: usize, n: usize) -> Result<Letters, NoMemory>
-    requires { k + n < 2 ^ 32 }
-    ensures { IfOk result (λ ls. ls ≡ numbers_from k n) }
-{
-    let mut all = Vec::new(alloc);
-    for i in 0..n {
-        let letter = Letter::new((k + i) as u32);
-        all.push(letter)?;
-    }
-    Ok(Letters::new(all))
-}
-
 /// Equal texts.
 fn copies(alloc: Global, texts: &[Text]) -> Result<Vec<Text>, NoMemory>
     ensures { IfOk result (λ ts. ts.items ≡ texts.now) }
@@ -204,7 +191,7 @@ impl<H: Handler> Tenant<H> {
         ensures reply { IfOk result (λ a. a.reply ≡ next_reply_of self.now unit member.now turn.now) }
         ensures plain { IfOk result IsPlain }
     {
-        let letters = numbers(alloc, self.letters.len(), made)?;
+        let letters = Letters::from_first(alloc, self.letters.len(), made)?;
         let reply = Reply::Accepted {
             at: mark_upon(&self.table, unit, member.recovering()),
             held: member.held_count() as u64 + turn.outputs().len() as u64,

@@ -11,7 +11,7 @@ ghost use Rattle.tenant.specs.Stands.{Did, Stands};
 use crate::answer::Answer;
 use crate::tenant::Tenant;
 use handler::Handler;
-use model::{NoMemory, Refusal, Reply, TenantName, Unit};
+use model::{MAX_INCARNATION, NoMemory, Refusal, Reply, TenantName, Unit};
 use shared_log::{SharedLog, Store};
 use std::alloc::Global;
 
@@ -20,7 +20,7 @@ impl<H: Handler> Tenant<H> {
     fn restart_refusal(&self, unit: Unit) -> Option<Refusal>
         ensures refusal { result ≡ restart_refusal_of self.now.table unit (slice_get self.now.members unit) }
         ensures there { IfNone result (unit < length self.now.members) }
-        ensures room { IfNone result (incarnation_of self.now.table unit < 65535) }
+        ensures room { IfNone result (incarnation_of self.now.table unit < MAX_INCARNATION) }
     {
         let member = match self.member(unit) {
             Some(member) => member,

@@ -13,9 +13,8 @@ use crate::flush::member_at;
 use crate::member::Member;
 use crate::tenant::Tenant;
 use handler::Handler;
-use ident::MAX_INCARNATION;
 use incarnation::StartTable;
-use model::{NoMemory, Record, Reply, Row, Start, TenantName, Unit};
+use model::{MAX_INCARNATION, NoMemory, Record, Reply, Row, Start, TenantName, Unit};
 use rollback::Progress;
 use shared_log::{SharedLog, Store, StoreFault};
 use std::alloc::Global;
@@ -190,7 +189,7 @@ impl<H: Handler> Tenant<H> {
         requires within { unit < length self.old.members }
         requires target { (m : MemberOf H.State) → slice_get self.old.members unit ≡ Some m
             → IsTarget m.recovering target }
-        requires room { incarnation_of self.old.table unit < 65535 }
+        requires room { incarnation_of self.old.table unit < MAX_INCARNATION }
         ensures ok { OnOk result ((m : MemberOf H.State) → slice_get self.old.members unit ≡ Some m
             → self.new ≡ gone_back self.old unit m target (incarnation_of self.old.table unit + 1) progress) }
         ensures err { OnErr result (self.new ≡ self.old) }
@@ -235,7 +234,7 @@ impl<H: Handler> Tenant<H> {
         requires within { unit < length self.old.members }
         requires target { (m : MemberOf H.State) → slice_get self.old.members unit ≡ Some m
             → IsTarget m.recovering target }
-        requires room { incarnation_of self.old.table unit < 65535 }
+        requires room { incarnation_of self.old.table unit < MAX_INCARNATION }
         ensures kept { IfOk result (λ a. a.kept ≡ a.reply) }
         ensures returns { IfOk result (λ a. (m : MemberOf H.State) → slice_get self.old.members unit ≡ Some m
             → Returns H.meaning tenant.now self.old unit m target reply a self.new log.old log.new) }
@@ -261,7 +260,7 @@ impl<H: Handler> Tenant<H> {
 
     /// Where the unit's next incarnation starts, if this is the last interval that it keeps.
     pub(crate) fn start_behind(&self, unit: Unit, target: u32) -> Start
-        requires { incarnation_of self.now.table unit < 65535 }
+        requires { incarnation_of self.now.table unit < MAX_INCARNATION }
         ensures { result ≡ record { incarnation = incarnation_of self.now.table unit + 1; index = target + 1 } }
     {
         Start {
@@ -284,7 +283,7 @@ impl<H: Handler> Tenant<H> {
 
     /// Whether the unit has all the incarnations that there can be.
     pub(crate) fn is_worn_out(&self, unit: Unit) -> bool
-        ensures { result ≡ nat_le 65535 (incarnation_of self.now.table unit) }
+        ensures { result ≡ nat_le MAX_INCARNATION (incarnation_of self.now.table unit) }
     {
         self.table.latest(unit) >= MAX_INCARNATION
     }

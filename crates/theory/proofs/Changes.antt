@@ -14,6 +14,7 @@ use Rattle.model.specs.World.{World, Member, executed, incarnation_of, is_blind,
 use Rattle.model.specs.Steps.{Outcome, first_refusal, outcome_or, unless, if_unit, at_unit, at_up, if_letter, with_member, with_receipt, with_unit, gone_back, path_kept, post, deliver, flush, checkpoint, kill, restart, notice, notice_orphan, notice_rows, release, status, join_kind, flushed, killed, with_known, with_released}
 use Rattle.model.specs.Alone.{step_open}
 use Rattle.model.specs.declared.names.Seat.{Seat}
+use Rattle.theory.proofs.ListLaws.{number_is}
 
 -- Why a receipt may be taken: it is from outside, or its letter was made, its sender is neither blind
 -- nor an orphan by the rows that the unit knows, and few enough units have unstable nodes in its past.
@@ -92,10 +93,6 @@ module _ {S : Type 0} (M : Meaning S) (v w : World) where
   at_up_change : (u : ℕ) (f : Member → Outcome) → ((m : Member) → slice_get v.members u ≡ Some m → m.up ≡ true → (f m).world ≡ Some w → Change M v w) → (at_up v u f).world ≡ Some w → Change M v w
   unfolding at_up
   at_up_change u f g e = at_unit_change u _ (λ m found. unless_change _ (f m) (λ passed q. g m found (is_up m.up passed.0) q)) e
-
-  -- the two tests of a receipt's number say that it is the count
-  number_is : (a b : ℕ) → nat_lt a b ≡ false → nat_lt b a ≡ false → a ≡ b
-  number_is a b p q = grind (arith, nat_tests)
 
   post_change : (u number : ℕ) (text : List ℕ) → (post M v u number text).world ≡ Some w → Change M v w
   post_change u number text e = at_unit_change u _ (λ m found. unless_change _ _ (λ passed q.

@@ -76,6 +76,14 @@ module _ {S : Type 0} (M : Meaning S) where
 
   -- ---- courses
 
+  -- a tenant that is open is open after all further steps
+  pub open_after : (events : List Event) (v : World) → (w : World) × ((course_from M (Some v) events).world ≡ Some w)
+  open_after [] v = (v, refl)
+  open_after (e ∷ events) v =
+      let o = stays_open v e in
+      let rest = open_after events o.0 in
+      (rest.0, ap (λ z. (course_from M z events).world) o.1 ∙ rest.1)
+
   step_reaches : (o : Option World) → ((v : World) → o ≡ Some v → Reachable M v) → (e : Event) (w : World) → (step M o e).world ≡ Some w → Reachable M w
   step_reaches None h e w k = opened e k
   step_reaches (Some v) h e w k = stepped e (h v refl) k

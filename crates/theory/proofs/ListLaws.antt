@@ -13,6 +13,14 @@ use Rattle.model.specs.Nodes.{Cause, letter, place_before, sender_of}
 pub eq_true : (a b : ℕ) → (a == b) ≡ true → a ≡ b
 eq_true a b e = grind arith
 
+-- and those that do not are not
+pub different : (a b : ℕ) → (a == b) ≡ false → b ≢ a
+different a b e is = grind arith
+
+-- a number that is not below another, nor above it, is the other
+pub number_is : (a b : ℕ) → nat_lt a b ≡ false → nat_lt b a ≡ false → a ≡ b
+number_is a b p q = grind (arith, nat_tests)
+
 -- a number tests equal to itself
 pub eq_same : (a : ℕ) → (a == a) ≡ true
 eq_same a = grind arith

@@ -19,28 +19,28 @@ use Rattle.theory.proofs.ListLaws.{append_get, set_get_same, set_get_other}
 use Rattle.theory.proofs.Changes.{unless_cases, if_unit_cases}
 
 -- each unit is still there and has released the same
-abbrev Keeps : World → World → Type 0
-Keeps v w = (x : ℕ) (m : Member) → slice_get v.members x ≡ Some m → (n : Member) × (slice_get w.members x ≡ Some n) × (n.released ≡ m.released)
+abbrev KeepsReleased : World → World → Type 0
+KeepsReleased v w = (x : ℕ) (m : Member) → slice_get v.members x ≡ Some m → (n : Member) × (slice_get w.members x ≡ Some n) × (n.released ≡ m.released)
 
 module _ (v w : World) where
-  keeps_same : v ≡ w → Keeps v w
+  keeps_same : v ≡ w → KeepsReleased v w
   keeps_same e x m f = (m, ap (λ z. slice_get z.members x) (sym e) ∙ f, refl)
 
-  keeps_to : (y : World) → Keeps v y → Some y ≡ Some w → Keeps v w
-  keeps_to y k e = subst (λ z. Keeps v z) (same_Some y w e) k
+  keeps_to : (y : World) → KeepsReleased v y → Some y ≡ Some w → KeepsReleased v w
+  keeps_to y k e = subst (λ z. KeepsReleased v z) (same_Some y w e) k
 
-  unless_keeps : (tests : List (Bool × Refusal)) (out : Outcome) → (out.world ≡ Some w → Keeps v w) → (unless v tests out).world ≡ Some w → Keeps v w
+  unless_keeps : (tests : List (Bool × Refusal)) (out : Outcome) → (out.world ≡ Some w → KeepsReleased v w) → (unless v tests out).world ≡ Some w → KeepsReleased v w
   unless_keeps tests out k e = elim (unless_cases v w tests out e) [ inl h ↦ keeps_same h | inr h ↦ k h.1 ]
 
-  at_unit_keeps : (u : ℕ) (f : Member → Outcome) → ((m : Member) → slice_get v.members u ≡ Some m → (f m).world ≡ Some w → Keeps v w) → (at_unit v u f).world ≡ Some w → Keeps v w
+  at_unit_keeps : (u : ℕ) (f : Member → Outcome) → ((m : Member) → slice_get v.members u ≡ Some m → (f m).world ≡ Some w → KeepsReleased v w) → (at_unit v u f).world ≡ Some w → KeepsReleased v w
   unfolding at_unit
   at_unit_keeps u f g e = elim (if_unit_cases v w f (slice_get v.members u) e) [ inl h ↦ keeps_same h | inr h ↦ g h.0 h.1 h.2 ]
 
-  at_up_keeps : (u : ℕ) (f : Member → Outcome) → ((m : Member) → slice_get v.members u ≡ Some m → (f m).world ≡ Some w → Keeps v w) → (at_up v u f).world ≡ Some w → Keeps v w
+  at_up_keeps : (u : ℕ) (f : Member → Outcome) → ((m : Member) → slice_get v.members u ≡ Some m → (f m).world ≡ Some w → KeepsReleased v w) → (at_up v u f).world ≡ Some w → KeepsReleased v w
   unfolding at_up
   at_up_keeps u f g e = at_unit_keeps u _ (λ m found. unless_keeps _ (f m) (g m found)) e
 
-set_keeps : (v : World) (u : ℕ) (m n : Member) → slice_get v.members u ≡ Some m → n.released ≡ m.released → Keeps v (with_member v u n)
+set_keeps : (v : World) (u : ℕ) (m n : Member) → slice_get v.members u ≡ Some m → n.released ≡ m.released → KeepsReleased v (with_member v u n)
 set_keeps v u m n found e x q f = elim (ℕ_discrete x u) [
   | yes k ↦
       let is : m ≡ q = same_Some m q (sym found ∙ ap (slice_get v.members) (sym k) ∙ f) in
@@ -49,20 +49,20 @@ set_keeps v u m n found e x q f = elim (ℕ_discrete x u) [
 ]
 
 module _ {S : Type 0} (M : Meaning S) (v w : World) where
-  letter_keeps : (l : ℕ) (o : Option Message) → (if_letter M v l o).world ≡ Some w → Keeps v w
+  letter_keeps : (l : ℕ) (o : Option Message) → (if_letter M v l o).world ≡ Some w → KeepsReleased v w
   letter_keeps l None q = keeps_same v w (same_Some v w q)
   letter_keeps l (Some msg) q = at_unit_keeps v w msg.receiver _ (λ m found. unless_keeps v w _ _ (λ k. keeps_to v w _ (set_keeps v msg.receiver m _ found refl) k)) q
 
-  notice_keeps : (u : ℕ) (said : Said) (m : Member) → slice_get v.members u ≡ Some m → (b : Bool) → (cond b (notice_orphan v u said m) (notice_rows v u m)).world ≡ Some w → Keeps v w
+  notice_keeps : (u : ℕ) (said : Said) (m : Member) → slice_get v.members u ≡ Some m → (b : Bool) → (cond b (notice_orphan v u said m) (notice_rows v u m)).world ≡ Some w → KeepsReleased v w
   notice_keeps u said m found true q = unless_keeps v w _ _ (λ k. keeps_to v w _ (set_keeps v u m _ found refl) k) q
   notice_keeps u said m found false q = keeps_to v w _ (set_keeps v u m _ found refl) q
 
-  join_keeps : (o : Option ℕ) → (join_kind v o).world ≡ Some w → Keeps v w
+  join_keeps : (o : Option ℕ) → (join_kind v o).world ≡ Some w → KeepsReleased v w
   join_keeps None e = keeps_same v w (same_Some v w e)
   join_keeps (Some kind) e = unless_keeps v w _ _ (λ q. keeps_to v w _ (λ x m f. (m, append_get v.members _ x m f, refl)) q) e
 
   -- a step that is no release
-  keeps : (step : TenantStep) (said : Said) → ((u : ℕ) → ¬ (step ≡ Release u)) → (step_open M v step said).world ≡ Some w → Keeps v w
+  keeps : (step : TenantStep) (said : Said) → ((u : ℕ) → ¬ (step ≡ Release u)) → (step_open M v step said).world ≡ Some w → KeepsReleased v w
   keeps (Open kinds quota optimism) said h e = keeps_same v w (same_Some v w e)
   keeps (Join kind) said h e = join_keeps (M.kind kind) e
   keeps (Post unit number text) said h e = at_unit_keeps v w unit _ (λ m found. unless_keeps v w _ _ (λ k. keeps_to v w _ (set_keeps v unit m _ found refl) k)) e
@@ -79,7 +79,7 @@ module _ {S : Type 0} (M : Meaning S) (v w : World) where
   abbrev Grows : ℕ → World → Type 0
   Grows u y = (x : ℕ) (m : Member) → slice_get v.members x ≡ Some m → (n : Member) × (slice_get y.members x ≡ Some n) × IsPrefix m.released n.released × (¬ (x ≡ u) → n.released ≡ m.released)
 
-  grows_keeps : (u : ℕ) → Keeps v w → Grows u w
+  grows_keeps : (u : ℕ) → KeepsReleased v w → Grows u w
   grows_keeps u k x m f = let t = k x m f in (t.0, t.1, ([], append-nil m.released ∙ sym t.2), λ h. t.2)
 
   grows_set : (u : ℕ) (m n : Member) (more : List (List ℕ)) → slice_get v.members u ≡ Some m → n.released ≡ m.released ++ more → Grows u (with_member v u n)

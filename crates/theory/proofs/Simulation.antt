@@ -109,12 +109,12 @@ module _ {S : Type 0} (M : Meaning S) (all : Receipts S) where
   open all use {seat, source, text, turn, sends_of}
 
   -- the texts that one receipt sent to a unit
-  abbrev pub texts_of : ℕ → ℕ → List (List ℕ)
-  texts_of u x = map (λ s. s.1) (filter (λ s. s.0 == u) (sends_of x))
+  abbrev pub texts_sent : ℕ → ℕ → List (List ℕ)
+  texts_sent u x = map (λ s. s.1) (filter (λ s. s.0 == u) (sends_of x))
 
   -- the texts that the receipts of a path sent to a unit
   abbrev pub texts_to : ℕ → List ℕ → List (List ℕ)
-  texts_to u path = flat_map (texts_of u) path
+  texts_to u path = flat_map (texts_sent u) path
 
   -- how many receipts of a path are from a unit
   abbrev pub taken_from : ℕ → List ℕ → ℕ
@@ -159,8 +159,8 @@ module _ {S : Type 0} (M : Meaning S) (all : Receipts S) where
   between_none u v' u' h [] = refl
   between_none u v' u' h (s ∷ sends) = rw (ne_eqb u v' h) (between_none u v' u' h sends)
 
-  texts_more : (u' : ℕ) (path : List ℕ) (x : ℕ) → texts_to u' (path ++ x ∷ []) ≡ texts_to u' path ++ texts_of u' x
-  texts_more u' path x = flat_append (texts_of u') path (x ∷ []) ∙ ap (λ t. texts_to u' path ++ t) (append-nil (texts_of u' x))
+  texts_more : (u' : ℕ) (path : List ℕ) (x : ℕ) → texts_to u' (path ++ x ∷ []) ≡ texts_to u' path ++ texts_sent u' x
+  texts_more u' path x = flat_append (texts_sent u') path (x ∷ []) ∙ ap (λ t. texts_to u' path ++ t) (append-nil (texts_sent u' x))
 
   -- the network after the unit at u works on one more receipt, where these packets are left of those before
   abbrev with_work : Network S → List Packet → ℕ → List ℕ → ℕ → Network S
@@ -181,7 +181,7 @@ module _ {S : Type 0} (M : Meaning S) (all : Receipts S) where
       between_append u u' packets (packets_to u (sends_of x))
       ∙ ap (λ q. q ++ texts_between u u' (packets_to u (sends_of x))) e
       ∙ ap (λ q. drop t (texts_to u' path) ++ q) (between_own u u' (sends_of x))
-      ∙ sym (drop_append t (texts_to u' path) (texts_of u' x) le)
+      ∙ sym (drop_append t (texts_to u' path) (texts_sent u' x) le)
       ∙ ap (drop t) (sym (texts_more u' path x))
 
   matches_more : (units : ℕ) (done : ℕ → List ℕ) (net : Network S) (packets : List Packet) (u x : ℕ) → u < units → Matches units done net
@@ -200,7 +200,7 @@ module _ {S : Type 0} (M : Meaning S) (all : Receipts S) where
       | no q ↦ rw (more_other done u x v q, between_append v u' packets (packets_to u (sends_of x)), between_none u v u' (λ e. q (sym e)) (sends_of x), append-nil (texts_between v u' packets)) (queue v u')
     ];
     enough = λ v u'. elim (ℕ_discrete v u) [
-      | yes q ↦ let le = rw q at (enough v u') in rw (q, more_here done u x, texts_more u' (done u) x, length-append (texts_to u' (done u)) (texts_of u' x)) (omega arith)
+      | yes q ↦ let le = rw q at (enough v u') in rw (q, more_here done u x, texts_more u' (done u) x, length-append (texts_to u' (done u)) (texts_sent u' x)) (omega arith)
       | no q ↦ rw (more_other done u x v q) (enough v u')
     ];
   }

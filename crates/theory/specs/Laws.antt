@@ -152,8 +152,7 @@ CoursesReach M = (events : List Event) (w : World) → (alone M events).world �
 abbrev pub StaysOpen : {S : Type 0} → Meaning S → Type 0
 StaysOpen M = (v : World) (e : Event) → (w : World) × ((step M (Some v) e).world ≡ Some w)
 
--- What is released stays released over all further steps, and begins what the last certificate's run puts out;
--- what is firm stays firm.
+-- What is released stays released over all further steps; what is firm stays firm.
 abbrev pub ReleasedStay : {S : Type 0} → Meaning S → Type 0
 ReleasedStay M = (before after : List Event) (v w : World) → (alone M before).world ≡ Some v → (alone M (before ++ after)).world ≡ Some w
     → ((u : ℕ) (m : Member) → slice_get v.members u ≡ Some m → (n : Member) × (slice_get w.members u ≡ Some n) × IsPrefix m.released n.released)

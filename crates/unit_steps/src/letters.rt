@@ -12,11 +12,26 @@ use session::Sessions;
 use std::alloc::Global;
 use std::marker::Model;
 
-/// What is forgotten of a letter once its receipt is firm for good.
+/// The text of a letter, and the vector of its sender's interval.
+#[derive(Drop)]
+struct Parts {
+    text: Text,
+    vector: DepVector,
+}
+
+impl Model for Parts {
+    ghost use Rattle.compact.specs.Compact.{Content as ContentOf};
+
+    ghost Value = { ContentOf };
+
+    ghost view = { λ p. record { text = p.text; vector = p.vector } };
+}
+
+/// What is forgotten of a letter once its receipt is firm for good. It lies in a place of its own, so that a letter
+/// that was forgotten is small.
 #[derive(Drop)]
 pub struct Content {
-    pub text: Text,
-    pub vector: DepVector,
+    parts: Box<Parts>,
 }
 
 impl Model for Content {
@@ -24,7 +39,34 @@ impl Model for Content {
 
     ghost Value = { ContentOf };
 
-    ghost view = { λ c. record { text = c.text; vector = c.vector } };
+    ghost view = { λ c. c.parts.value };
+}
+
+impl Content {
+    /// The content of a letter with this text, sent in an interval of this vector.
+    ///
+    /// # Errors
+    ///
+    /// `NoMemory` where it finds no memory.
+    pub fn new(alloc: Global, text: Text, vector: DepVector) -> Result<Content, NoMemory>
+        ensures { IfOk result (λ c. c ≡ record { text = text; vector = vector }) }
+    {
+        let parts = Box::new(alloc, Parts { text, vector })?;
+        Ok(Content { parts })
+    }
+
+    pub fn text(&self) -> &Text
+        ensures { result.now ≡ self.now.text }
+    {
+        &self.parts.text
+    }
+
+    /// The vector of the sender's interval.
+    pub fn vector(&self) -> &DepVector
+        ensures { result.now ≡ self.now.vector }
+    {
+        &self.parts.vector
+    }
 }
 
 /// A letter: its sender's unit and its receiver, its number in their session, and its content where that is not forgotten.
@@ -46,6 +88,7 @@ impl Model for SentLetter {
 
 /// The letter of a send, of which the sender had sent so many to the receiver before.
 fn letter_of(
+    alloc: Global,
     unit: Unit,
     vector: &DepVector,
     receiver: Unit,
@@ -62,11 +105,12 @@ fn letter_of(
         }) }
 {
     let vector = vector.copy()?;
+    let content = Content::new(alloc, text, vector)?;
     Ok(SentLetter {
         source: unit,
         receiver,
         number,
-        content: Some(Content { text, vector }),
+        content: Some(content),
     })
 }
 
@@ -90,7 +134,7 @@ fn letters_from(
         if usize::from(send.0.number()) < width {
             let number = counts.number_to(send.0);
             let text = send.1.copy()?;
-            made.push(letter_of(unit, vector, send.0, text, number)?)?;
+            made.push(letter_of(alloc, unit, vector, send.0, text, number)?)?;
             counts.sent(send.0);
         }
     }

@@ -225,12 +225,12 @@ pub fn letter_refusal<H: Handler>(
             return forgotten_refusal(unit);
         }
     };
-    match past_refusal(known, optimism, unit, &content.vector) {
+    match past_refusal(known, optimism, unit, content.vector()) {
         Some(refusal) => return Some(refusal),
         None => {}
     }
     let source = Source::Unit(letter.source);
-    arrival_refusal(volatile_quota, unit, source, letter.number, &content.text)
+    arrival_refusal(volatile_quota, unit, source, letter.number, content.text())
 }
 
 /// Why a receipt is refused for what its turn makes, where so many outputs are held, so many letters made, and so

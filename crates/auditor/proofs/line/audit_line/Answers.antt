@@ -1,6 +1,7 @@
 use Rattle.std.proofs.Common.{◌∙◌, ap}
 use Rattle.serde_json.specs.Written.{has_float, compact_text}
-use Rattle.auditor.specs.Line.{data_text, outcome_data}
+use Rattle.auditor.specs.Line.{outcome_data}
+use Rattle.forms.specs.Writing.{data_text}
 use Rattle.auditor.proofs.Floats.{has_float-outcome}
 use Rattle.auditor.proofs.line.audit_line.Goals as goal
 

@@ -7,7 +7,7 @@ use Rattle.compact.specs.Steps.{delivered}
 use Rattle.tenant.specs.declared.answer.Answer.{Answer}
 use Rattle.tenant.specs.Kept.{IsAskingBy}
 use Rattle.tenant.proofs.Asking.{refused_stays}
-use Rattle.tenant.proofs.Delivering.{letter_none, letter_no_unit, letter_planned, letter_refused_then}
+use Rattle.tenant.proofs.Delivering.{content_parts, letter_none, letter_no_unit, letter_planned, letter_refused_then}
 use Rattle.tenant.proofs.Planning.{planned_few, planned_next, planned_plain, planned_whole}
 use Rattle.tenant.proofs.Keeping.{received_same}
 use Rattle.tenant.proofs.tenant.Tenant.take_letter.Goals as goal
@@ -33,8 +33,9 @@ pub planned-requires-after_bounds : goal.planned-requires-after_bounds
 planned-requires-after_bounds g c κs within =
     let sent : Letter = record { source = c.sent.inside.source; receiver = c.sent.inside.receiver; number = c.sent.inside.number; content = c.sent.inside.content } in
     let there : slice_get c.args.self.now.letters c.args.letter ≡ Some sent = (c.in-Some.ensures ∙ ap (λ (l : Letter). Some l) (sym c.sent.view_is)) in
-    let content : Content = record { text = c.content.inside.text; vector = c.content.inside.vector } in
-    let whole : sent.content ≡ Some content = (c.in-Some-content.is ∙ ap (λ (o : Content). Some o) (sym c.content.view_is)) in
+    let content : Content = record { text = c.text.result.now; vector = c.vector.result.now } in
+    let whole : sent.content ≡ Some content =
+    content_parts sent.content c.in-Some-content.content c.text.result.now c.vector.result.now c.in-Some-content.is c.text.ensures c.vector.ensures in
     let is = subst (λ (o : Option Content). IsAskingBy c.args.self.now c.in-Some-member.member.now sent o c.args.worked.input) whole (c.requires sent c.in-Some-member.member.now there c.in-Some-member.ensures) in
     is.room
 
@@ -45,8 +46,9 @@ pub enter-requires-clause-few : goal.enter-requires-clause-few
 enter-requires-clause-few g c κs within =
     let sent : Letter = record { source = c.sent.inside.source; receiver = c.sent.inside.receiver; number = c.sent.inside.number; content = c.sent.inside.content } in
     let there : slice_get c.args.self.now.letters c.args.letter ≡ Some sent = (c.in-Some.ensures ∙ ap (λ (l : Letter). Some l) (sym c.sent.view_is)) in
-    let content : Content = record { text = c.content.inside.text; vector = c.content.inside.vector } in
-    let whole : sent.content ≡ Some content = (c.in-Some-content.is ∙ ap (λ (o : Content). Some o) (sym c.content.view_is)) in
+    let content : Content = record { text = c.text.result.now; vector = c.vector.result.now } in
+    let whole : sent.content ≡ Some content =
+    content_parts sent.content c.in-Some-content.content c.text.result.now c.vector.result.now c.in-Some-content.is c.text.ensures c.vector.ensures in
     let is = subst (λ (o : Option Content). IsAskingBy c.args.self.now c.in-Some-member.member.now sent o c.args.worked.input) whole (c.requires sent c.in-Some-member.member.now there c.in-Some-member.ensures) in
     let planned = rw (c.in-Ok.is) at c.in_ok-refusal.ensures in
     planned_few c.args.name.now c.args.self.now c.sent.inside.receiver c.in-Some-member.member.now (delivered c.args.letter sent content) c.turn.result.now c.in-Ok.plan planned _ (FromUnit sent.source) content.text c.args.worked.input is
@@ -55,8 +57,9 @@ pub enter-requires-clause-next : goal.enter-requires-clause-next
 enter-requires-clause-next g c κs within = λ m at.
     let sent : Letter = record { source = c.sent.inside.source; receiver = c.sent.inside.receiver; number = c.sent.inside.number; content = c.sent.inside.content } in
     let there : slice_get c.args.self.now.letters c.args.letter ≡ Some sent = (c.in-Some.ensures ∙ ap (λ (l : Letter). Some l) (sym c.sent.view_is)) in
-    let content : Content = record { text = c.content.inside.text; vector = c.content.inside.vector } in
-    let whole : sent.content ≡ Some content = (c.in-Some-content.is ∙ ap (λ (o : Content). Some o) (sym c.content.view_is)) in
+    let content : Content = record { text = c.text.result.now; vector = c.vector.result.now } in
+    let whole : sent.content ≡ Some content =
+    content_parts sent.content c.in-Some-content.content c.text.result.now c.vector.result.now c.in-Some-content.is c.text.ensures c.vector.ensures in
     let is = subst (λ (o : Option Content). IsAskingBy c.args.self.now c.in-Some-member.member.now sent o c.args.worked.input) whole (c.requires sent c.in-Some-member.member.now there c.in-Some-member.ensures) in
     let planned = rw (c.in-Ok.is) at c.in_ok-refusal.ensures in
     planned_next c.args.name.now c.args.self.now c.sent.inside.receiver c.in-Some-member.member.now (delivered c.args.letter sent content) c.turn.result.now c.in-Ok.plan planned _ (FromUnit sent.source) content.text c.args.worked.input is refl refl c.in-Some-member.ensures m at
@@ -65,8 +68,9 @@ pub returns-in-Err-clause-done : goal.returns-in-Err-clause-done
 returns-in-Err-clause-done g c = λ live w log s.
     let sent : Letter = record { source = c.sent.inside.source; receiver = c.sent.inside.receiver; number = c.sent.inside.number; content = c.sent.inside.content } in
     let there : slice_get c.args.self.now.letters c.args.letter ≡ Some sent = (c.in-Some.ensures ∙ ap (λ (l : Letter). Some l) (sym c.sent.view_is)) in
-    let content : Content = record { text = c.content.inside.text; vector = c.content.inside.vector } in
-    let whole : sent.content ≡ Some content = (c.in-Some-content.is ∙ ap (λ (o : Content). Some o) (sym c.content.view_is)) in
+    let content : Content = record { text = c.text.result.now; vector = c.vector.result.now } in
+    let whole : sent.content ≡ Some content =
+    content_parts sent.content c.in-Some-content.content c.text.result.now c.vector.result.now c.in-Some-content.is c.text.ensures c.vector.ensures in
     let is = subst (λ (o : Option Content). IsAskingBy c.args.self.now c.in-Some-member.member.now sent o c.args.worked.input) whole (c.requires sent c.in-Some-member.member.now there c.in-Some-member.ensures) in
     let planned = rw (c.in-Err.is, c.turn.ensures) at c.in_ok-refusal.ensures in
     rw (c.refused-in-Err.ensures.reply) (letter_refused_then g.H.Handler.meaning c.args.name.now live c.args.self.now w log s c.args.letter sent there c.in-Some-member.member.now c.in-Some-member.ensures content whole c.args.worked.input is c.in-Err.refusal planned)
@@ -75,8 +79,9 @@ pub returns-in_ok-answer-in-Ok-clause-plain : goal.returns-in_ok-answer-in-Ok-cl
 returns-in_ok-answer-in-Ok-clause-plain g c =
     let sent : Letter = record { source = c.sent.inside.source; receiver = c.sent.inside.receiver; number = c.sent.inside.number; content = c.sent.inside.content } in
     let there : slice_get c.args.self.now.letters c.args.letter ≡ Some sent = (c.in-Some.ensures ∙ ap (λ (l : Letter). Some l) (sym c.sent.view_is)) in
-    let content : Content = record { text = c.content.inside.text; vector = c.content.inside.vector } in
-    let whole : sent.content ≡ Some content = (c.in-Some-content.is ∙ ap (λ (o : Content). Some o) (sym c.content.view_is)) in
+    let content : Content = record { text = c.text.result.now; vector = c.vector.result.now } in
+    let whole : sent.content ≡ Some content =
+    content_parts sent.content c.in-Some-content.content c.text.result.now c.vector.result.now c.in-Some-content.is c.text.ensures c.vector.ensures in
     let is = subst (λ (o : Option Content). IsAskingBy c.args.self.now c.in-Some-member.member.now sent o c.args.worked.input) whole (c.requires sent c.in-Some-member.member.now there c.in-Some-member.ensures) in
     let planned = rw (c.in-Ok.is) at c.in_ok-refusal.ensures in
     rw (c.in_ok-answer-in-Ok.ensures.answer) (planned_plain c.args.name.now c.args.self.now c.sent.inside.receiver c.in-Some-member.member.now (delivered c.args.letter sent content) c.turn.result.now c.in-Ok.plan planned _ (FromUnit sent.source) content.text c.args.worked.input is)
@@ -85,8 +90,9 @@ pub returns-in_ok-answer-in-Ok-clause-done : goal.returns-in_ok-answer-in-Ok-cla
 returns-in_ok-answer-in-Ok-clause-done g c = λ live w log s.
     let sent : Letter = record { source = c.sent.inside.source; receiver = c.sent.inside.receiver; number = c.sent.inside.number; content = c.sent.inside.content } in
     let there : slice_get c.args.self.now.letters c.args.letter ≡ Some sent = (c.in-Some.ensures ∙ ap (λ (l : Letter). Some l) (sym c.sent.view_is)) in
-    let content : Content = record { text = c.content.inside.text; vector = c.content.inside.vector } in
-    let whole : sent.content ≡ Some content = (c.in-Some-content.is ∙ ap (λ (o : Content). Some o) (sym c.content.view_is)) in
+    let content : Content = record { text = c.text.result.now; vector = c.vector.result.now } in
+    let whole : sent.content ≡ Some content =
+    content_parts sent.content c.in-Some-content.content c.text.result.now c.vector.result.now c.in-Some-content.is c.text.ensures c.vector.ensures in
     let is = subst (λ (o : Option Content). IsAskingBy c.args.self.now c.in-Some-member.member.now sent o c.args.worked.input) whole (c.requires sent c.in-Some-member.member.now there c.in-Some-member.ensures) in
     let planned = rw (c.in-Ok.is) at c.in_ok-refusal.ensures in
     letter_planned g.H.Handler.meaning c.args.name.now live c.args.self.now w log s c.args.letter sent there c.in-Some-member.member.now c.in-Some-member.ensures content whole c.args.worked.input is c.turn.result.now c.turn.ensures c.in-Ok.plan planned
@@ -96,8 +102,9 @@ pub returns-in_ok-answer-in-Ok-clause-shelves : goal.returns-in_ok-answer-in-Ok-
 returns-in_ok-answer-in-Ok-clause-shelves g c =
     let sent : Letter = record { source = c.sent.inside.source; receiver = c.sent.inside.receiver; number = c.sent.inside.number; content = c.sent.inside.content } in
     let there : slice_get c.args.self.now.letters c.args.letter ≡ Some sent = (c.in-Some.ensures ∙ ap (λ (l : Letter). Some l) (sym c.sent.view_is)) in
-    let content : Content = record { text = c.content.inside.text; vector = c.content.inside.vector } in
-    let whole : sent.content ≡ Some content = (c.in-Some-content.is ∙ ap (λ (o : Content). Some o) (sym c.content.view_is)) in
+    let content : Content = record { text = c.text.result.now; vector = c.vector.result.now } in
+    let whole : sent.content ≡ Some content =
+    content_parts sent.content c.in-Some-content.content c.text.result.now c.vector.result.now c.in-Some-content.is c.text.ensures c.vector.ensures in
     let is = subst (λ (o : Option Content). IsAskingBy c.args.self.now c.in-Some-member.member.now sent o c.args.worked.input) whole (c.requires sent c.in-Some-member.member.now there c.in-Some-member.ensures) in
     let planned = rw (c.in-Ok.is) at c.in_ok-refusal.ensures in
     received_same g.H.Handler.meaning c.args.self.now c.sent.inside.receiver c.in-Some-member.member.now c.in-Some-member.ensures c.enter.new.self c.in-Ok.plan.logged c.in-Ok.plan.outputs.items c.in-Ok.plan.made.items (c.in_ok-answer-in-Ok.ensures.ok c.in-Some-member.member.now c.in-Some-member.ensures)
