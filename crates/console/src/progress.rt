@@ -53,6 +53,11 @@ impl<'a, R: Eprint + Clock> Bar<'a, R> {
         }
     }
 
+    /// Whether it is drawn at all.
+    fn is_wanted(&self) -> bool {
+        self.work.is_some()
+    }
+
     /// So much more is done, and so many lines with it.
     pub(crate) fn go_on(&self, done: u64, lines: u64) {
         let Some(work) = self.work else {
@@ -100,6 +105,11 @@ fn add(number: &AtomicU64, more: u64) -> u64 {
     number
         .fetch_add(more, Ordering::SeqCst)
         .saturating_add(more)
+}
+
+/// How many lines end in these bytes.
+fn line_feeds(bytes: &[u8]) -> u64 {
+    bytes.iter().filter(|byte| **byte == b'\n').count() as u64
 }
 
 /// What a bar shows.
@@ -168,8 +178,9 @@ impl<'a, R, I> Watched<'a, R, I> {
 impl<'a, R: Eprint + Clock, I: Read> Read for Watched<'a, R, I> {
     fn read(&mut self, buf: &mut [u8]) -> io::Result<usize> {
         let count = self.inner.read(buf)?;
-        let lines = buf[..count].iter().filter(|byte| **byte == b'\n').count();
-        self.bar.go_on(count as u64, lines as u64);
+        if self.bar.is_wanted() {
+            self.bar.go_on(count as u64, line_feeds(&buf[..count]));
+        }
         Ok(count)
     }
 }
