@@ -9,7 +9,7 @@ use smallvec::SmallVec;
 use std::alloc::Global;
 use std::marker::Model;
 
-/// How many marks of a list lie in the value itself: as many as most tenants have units.
+/// How many marks of a list lie in the value itself.
 pub const MAX_INLINE_MARKS: usize = 4;
 
 /// A list of marks, seen as such. A short one takes no memory.

@@ -51,7 +51,7 @@ impl Place {
 }
 
 /// Records by place, seen as the list of all that came in, with empty places for those that were
-/// forgotten. Those at the front that are forgotten take no memory, and any other the size of a pointer.
+/// forgotten. Those at the front that are forgotten take no memory, and any other 16 bytes.
 #[derive(Debug, Drop)]
 pub struct Records {
     // How many places at the front are empty and not in the list.
