@@ -3,3 +3,4 @@ pub mod Orders
 pub mod Making
 pub mod Beginning
 pub mod Taking
+pub mod Floats

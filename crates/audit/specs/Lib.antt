@@ -1,3 +1,4 @@
 pub mod Working
 pub mod Released
 pub mod Audits
+pub mod Line

@@ -3,10 +3,10 @@
 //! - `audit_tenant` (`tenant_audit`): puts a tenant's seats, its certificate and what it released
 //!   before `audit::check`. It finds no flaw, whatever the tenants' steps and the store's answers
 //!   were.
-//! - `audit_line` (`line`): the line of JSON that tells an outcome.
 //! - `can_check` (`checkable`): whether `audit::check` may be asked of lists from elsewhere.
 //!
-//! `check` itself stands in `audit`, so that an auditor need read nothing of the runtime.
+//! `check` itself, and the line that tells an outcome, stand in `audit`, so that an auditor need read
+//! nothing of the runtime.
 //!
 //! For a host that shows what it released to be right. A caller:
 //!
@@ -19,9 +19,7 @@
 #![tactic(auto)]
 
 mod checkable;
-mod line;
 mod tenant_audit;
 
 pub use checkable::can_check;
-pub use line::audit_line;
 pub use tenant_audit::audit_tenant;

@@ -1,6 +1,7 @@
 //! `recall run --audit`: after the replies, one audit line for each open tenant.
 
-use auditor::{audit_line, audit_tenant};
+use audit::audit_line;
+use auditor::audit_tenant;
 use book::Book;
 use handler::Sample;
 use log::{Log, error};

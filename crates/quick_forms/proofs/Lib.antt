@@ -1,5 +1,6 @@
 mod NoStep
 mod Turns
+mod Written
 mod Lists
 mod Parts
 mod Compact

@@ -1,23 +1,20 @@
--- Tokens that were written piece by piece, and their text.
-use Rattle.std.proofs.Common.{◌≡◌, ℕ, List, ◌++◌, append_assoc, ap, ap₂, ◌∙◌}
-use Rattle.json.specs.Token.{Token}
-use Rattle.json.specs.Print.{print}
-use Rattle.json.specs.Tree.{json_tokens}
-use Rattle.serde_json.specs.Data.{Data}
-use Rattle.serde_json.specs.Written.{outline}
-use Rattle.serde_json.proofs.Texts.{print-outline}
-use Rattle.forms.specs.Writing.{data_text}
+-- Lists that were written piece by piece.
+use Rattle.std.proofs.Common.{◌≡◌, List, ◌++◌, append_assoc, ap, ◌∙◌}
 
--- one piece more
-pub added : (o a b x y : List Token) → x ≡ o ++ a → y ≡ x ++ b → y ≡ o ++ (a ++ b)
-added o a b x y p q = q ∙ ap (λ t. t ++ b) p ∙ simp append_assoc
+pub pieces_2 : {X : Type 0} (o a b x y : List X) → x ≡ o ++ a → y ≡ x ++ b → y ≡ o ++ (a ++ b)
+pieces_2 o a b x y p q = q ∙ ap (λ t. t ++ b) p ∙ append_assoc o a b
 
-pub pieces_4 : (o a b d e x y z w : List Token) → x ≡ o ++ a → y ≡ x ++ b → z ≡ y ++ d → w ≡ z ++ e → w ≡ o ++ (a ++ (b ++ (d ++ e)))
-pieces_4 o a b d e x y z w p q r s = s ∙ ap (λ t. t ++ e) (r ∙ ap (λ t. t ++ d) (q ∙ ap (λ t. t ++ b) p)) ∙ simp append_assoc
+pub pieces_3 : {X : Type 0} (o a b d x y z : List X) → x ≡ o ++ a → y ≡ x ++ b → z ≡ y ++ d → z ≡ o ++ (a ++ (b ++ d))
+pieces_3 o a b d x y z p q r = pieces_2 o a (b ++ d) x z p (pieces_2 x b d y z q r)
 
-pub pieces_6 : (o a b d e f g x y z w u v : List Token) → x ≡ o ++ a → y ≡ x ++ b → z ≡ y ++ d → w ≡ z ++ e → u ≡ w ++ f → v ≡ u ++ g → v ≡ o ++ (a ++ (b ++ (d ++ (e ++ (f ++ g)))))
-pieces_6 o a b d e f g x y z w u v p q r s i j = j ∙ ap (λ t. t ++ g) (i ∙ ap (λ t. t ++ f) (pieces_4 o a b d e x y z w p q r s)) ∙ simp append_assoc
+pub pieces_4 : {X : Type 0} (o a b d e x y z w : List X) → x ≡ o ++ a → y ≡ x ++ b → z ≡ y ++ d → w ≡ z ++ e → w ≡ o ++ (a ++ (b ++ (d ++ e)))
+pieces_4 o a b d e x y z w p q r s = pieces_2 o a (b ++ (d ++ e)) x w p (pieces_3 x b d e y z w q r s)
 
-pub text_of : (bytes before out : List ℕ) (ts : List Token) (d : Data) → bytes ≡ before ++ print ts → before ≡ out → ts ≡ json_tokens (outline d) → bytes ≡ out ++ data_text d
-unfolding data_text
-text_of bytes before out ts d e b t = e ∙ ap₂ (λ x y. x ++ y) b (ap print t ∙ print-outline d)
+pub pieces_5 : {X : Type 0} (o a b d e f x y z w u : List X) → x ≡ o ++ a → y ≡ x ++ b → z ≡ y ++ d → w ≡ z ++ e → u ≡ w ++ f → u ≡ o ++ (a ++ (b ++ (d ++ (e ++ f))))
+pieces_5 o a b d e f x y z w u p q r s t = pieces_3 o a b (d ++ (e ++ f)) x y u p q (pieces_3 y d e f z w u r s t)
+
+pub pieces_9 : {X : Type 0} (o a b d e f g h k l x y z w u r1 r2 r3 r4 : List X)
+    → x ≡ o ++ a → y ≡ x ++ b → z ≡ y ++ d → w ≡ z ++ e → u ≡ w ++ f → r1 ≡ u ++ g → r2 ≡ r1 ++ h → r3 ≡ r2 ++ k → r4 ≡ r3 ++ l
+    → r4 ≡ o ++ (a ++ (b ++ (d ++ (e ++ (f ++ (g ++ (h ++ (k ++ l))))))))
+pieces_9 o a b d e f g h k l x y z w u r1 r2 r3 r4 p q r s t t1 t2 t3 t4 =
+    pieces_5 o a b d e (f ++ (g ++ (h ++ (k ++ l)))) x y z w r4 p q r s (pieces_5 w f g h k l u r1 r2 r3 r4 t t1 t2 t3 t4)

@@ -1,23 +1,14 @@
-//! The line that tells a reply, written after what a buffer holds.
+//! The line that tells a reply, written after what a buffer holds: the words of each reply as they stand in its text,
+//! and its numbers and names between them.
 
-ghost use Rattle.std.specs.Prelude.{◌≡◌, ◌++◌, ◌∷◌, [], IfOk, OnOk, codes, decimal};
-ghost use Rattle.json.specs.Token as spec;
-ghost use Rattle.json.specs.Tree.{json_tokens, items_tokens};
-ghost use Rattle.serde_json.specs.Written.{outline, items_outline};
-ghost use Rattle.forms.specs.Writing.{
-  wholes,
-  texts as texts_data,
-  row_data,
-  reply_data,
-  reply_text,
-};
+ghost use Rattle.std.specs.Prelude.{◌≡◌, ◌++◌, IfOk, OnOk, codes, decimal, false, Some};
+ghost use Rattle.json.specs.Print.{quoted as quoted_text};
+ghost use Rattle.serde_json.specs.Written.{items_text};
+ghost use Rattle.forms.specs.Writing.{wholes, texts as texts_data, reply_text};
+ghost use Rattle.quick_forms.specs.Words.{up_text};
 ghost use Rattle.model.specs.declared.replies.Reply.TheVariants.{
-  Opened,
-  Joined,
   Accepted,
-  Flushed,
   Checkpointed,
-  Killed,
   Restarted,
   Noticed,
   Released,
@@ -26,35 +17,40 @@ ghost use Rattle.model.specs.declared.replies.Reply.TheVariants.{
   Refused,
 };
 
+use itoa::Buffer;
 use json::Writer;
-use model::{Letter, Mark, NoMemory, Refusal, Reply, Start, Text, Unit};
-use std::alloc::AllocError;
+use model::{Letter, Mark, NoMemory, Refusal, Reply, Start, Text};
+use std::mem;
 
 /// The buffer with the line that tells a reply after what it held, without a line feed at its end: the text that
 /// `forms::write_reply` gives. The only error is want of memory; the buffer is gone then.
 pub fn write_reply(out: Vec<u8>, reply: &Reply) -> Result<Vec<u8>, NoMemory>
     ensures { IfOk result (λ b. b.items ≡ out.items ++ reply_text reply.now) }
 {
-    let mut w = Writer::new(out);
-    put(&mut w, reply)?;
-    Ok(w.into_inner())
+    let mut line = out;
+    put(&mut line, reply)?;
+    Ok(line)
 }
 
-fn put(w: &mut Writer, reply: &Reply) -> Result<(), AllocError>
-    ensures before { OnOk result (w.new.before ≡ w.old.before) }
-    ensures tokens { OnOk result (w.new.tokens
-        ≡ w.old.tokens ++ json_tokens (outline (reply_data reply.now))) }
+#[tactic(auto, using(crate::proofs::Written::opened_text, crate::proofs::Written::joined_text, crate::proofs::Written::flushed_text, crate::proofs::Written::killed_text))]
+fn put(out: &mut Vec<u8>, reply: &Reply) -> Result<(), NoMemory>
+    ensures { OnOk result (out.new.items ≡ out.old.items ++ reply_text reply.now) }
 {
     match reply {
-        Reply::Opened { units } => opened(w, *units),
-        Reply::Joined { unit } => joined(w, *unit),
-        Reply::Accepted { at, held, letters } => accepted(w, *at, *held, letters.as_slice()),
-        Reply::Flushed { count } => flushed(w, *count),
-        Reply::Checkpointed { at } => checkpointed(w, *at),
-        Reply::Killed { lost } => killed(w, *lost),
-        Reply::Restarted { row } => restarted(w, *row),
-        Reply::Noticed { row } => noticed(w, *row),
-        Reply::Released { outputs } => released(w, outputs.as_slice()),
+        Reply::Opened { units } => number_between(out, "{\"ok\":\"open\",\"units\":", *units, "}"),
+        Reply::Joined { unit } => {
+            let unit = u64::from(unit.number());
+            number_between(out, "{\"ok\":\"join\",\"unit\":", unit, "}")
+        }
+        Reply::Accepted { at, held, letters } => accepted(out, *at, *held, letters.as_slice()),
+        Reply::Flushed { count } => {
+            number_between(out, "{\"count\":", *count, ",\"ok\":\"flush\"}")
+        }
+        Reply::Checkpointed { at } => checkpointed(out, *at),
+        Reply::Killed { lost } => number_between(out, "{\"lost\":", *lost, ",\"ok\":\"kill\"}"),
+        Reply::Restarted { row } => restarted(out, *row),
+        Reply::Noticed { row } => noticed(out, *row),
+        Reply::Released { outputs } => released(out, outputs.as_slice()),
         Reply::Status {
             at,
             held,
@@ -66,148 +62,66 @@ fn put(w: &mut Writer, reply: &Reply) -> Result<(), AllocError>
             up,
             volatile,
         } => status(
-            w, *at, *held, *known, *outside, *released, *rows, *stable, *up, *volatile,
+            out, *at, *held, *known, *outside, *released, *rows, *stable, *up, *volatile,
         ),
-        Reply::Stopped { count, refusal } => stopped(w, *count, *refusal),
-        Reply::Refused { refusal } => refused(w, *refusal),
+        Reply::Stopped { count, refusal } => stopped(out, *count, *refusal),
+        Reply::Refused { refusal } => refused(out, *refusal),
     }
 }
 
-fn opened(w: &mut Writer, units: u64) -> Result<(), AllocError>
-    ensures before { OnOk result (w.new.before ≡ w.old.before) }
-    ensures tokens { OnOk result (w.new.tokens
-        ≡ w.old.tokens ++ json_tokens (outline (reply_data (Opened units)))) }
+fn checkpointed(out: &mut Vec<u8>, at: Mark) -> Result<(), NoMemory>
+    ensures { OnOk result (out.new.items ≡ out.old.items ++ reply_text (Checkpointed at)) }
 {
-    w.begin_object()?;
-    text(w, "ok", "open")?;
-    number(w, "units", units)?;
-    w.end_object()?;
+    mark_after(out, "{\"at\":[", at)?;
+    words(out, "],\"ok\":\"checkpoint\"}")?;
     Ok(())
 }
 
-fn joined(w: &mut Writer, unit: Unit) -> Result<(), AllocError>
-    ensures before { OnOk result (w.new.before ≡ w.old.before) }
-    ensures tokens { OnOk result (w.new.tokens
-        ≡ w.old.tokens ++ json_tokens (outline (reply_data (Joined unit)))) }
+#[tactic(auto, using(crate::proofs::Written::restarted_text))]
+fn restarted(out: &mut Vec<u8>, row: Start) -> Result<(), NoMemory>
+    ensures { OnOk result (out.new.items ≡ out.old.items ++ reply_text (Restarted row)) }
 {
-    w.begin_object()?;
-    text(w, "ok", "join")?;
-    number(w, "unit", u64::from(unit.number()))?;
-    w.end_object()?;
+    start_between(out, "{\"ok\":\"restart\",\"row\":[", row, "]}")
+}
+
+fn accepted(out: &mut Vec<u8>, at: Mark, held: u64, letters: &[Letter]) -> Result<(), NoMemory>
+    ensures { OnOk result (out.new.items ≡ out.old.items ++ reply_text (Accepted at held letters.now)) }
+{
+    mark_after(out, "{\"at\":[", at)?;
+    number_after(out, "],\"held\":", held)?;
+    words(out, ",\"letters\":[")?;
+    numbers(out, letters)?;
+    words(out, ",\"ok\":\"accepted\"}")?;
     Ok(())
 }
 
-fn accepted(w: &mut Writer, at: Mark, held: u64, letters: &[Letter]) -> Result<(), AllocError>
-    ensures before { OnOk result (w.new.before ≡ w.old.before) }
-    ensures tokens { OnOk result (w.new.tokens
-        ≡ w.old.tokens ++ json_tokens (outline (reply_data (Accepted at held letters.now)))) }
+fn noticed_row(out: &mut Vec<u8>, row: Start) -> Result<(), NoMemory>
+    ensures { OnOk result (out.new.items ≡ out.old.items ++ reply_text (Noticed (Some row))) }
 {
-    w.begin_object()?;
-    mark(w, at)?;
-    number(w, "held", held)?;
-    numbers(w, "letters", letters)?;
-    text(w, "ok", "accepted")?;
-    w.end_object()?;
-    Ok(())
+    start_between(out, "{\"ok\":\"notice\",\"row\":[", row, "]}")
 }
 
-fn flushed(w: &mut Writer, count: u64) -> Result<(), AllocError>
-    ensures before { OnOk result (w.new.before ≡ w.old.before) }
-    ensures tokens { OnOk result (w.new.tokens
-        ≡ w.old.tokens ++ json_tokens (outline (reply_data (Flushed count)))) }
+#[tactic(auto, using(crate::proofs::Written::noticed_none_text))]
+fn noticed(out: &mut Vec<u8>, row: Option<Start>) -> Result<(), NoMemory>
+    ensures { OnOk result (out.new.items ≡ out.old.items ++ reply_text (Noticed row)) }
 {
-    w.begin_object()?;
-    number(w, "count", count)?;
-    text(w, "ok", "flush")?;
-    w.end_object()?;
-    Ok(())
+    match row {
+        Some(row) => noticed_row(out, row),
+        None => words(out, "{\"ok\":\"notice\",\"row\":null}"),
+    }
 }
 
-fn checkpointed(w: &mut Writer, at: Mark) -> Result<(), AllocError>
-    ensures before { OnOk result (w.new.before ≡ w.old.before) }
-    ensures tokens { OnOk result (w.new.tokens
-        ≡ w.old.tokens ++ json_tokens (outline (reply_data (Checkpointed at)))) }
+fn released(out: &mut Vec<u8>, outputs: &[Text]) -> Result<(), NoMemory>
+    ensures { OnOk result (out.new.items ≡ out.old.items ++ reply_text (Released outputs.now)) }
 {
-    w.begin_object()?;
-    mark(w, at)?;
-    text(w, "ok", "checkpoint")?;
-    w.end_object()?;
-    Ok(())
-}
-
-fn killed(w: &mut Writer, lost: u64) -> Result<(), AllocError>
-    ensures before { OnOk result (w.new.before ≡ w.old.before) }
-    ensures tokens { OnOk result (w.new.tokens
-        ≡ w.old.tokens ++ json_tokens (outline (reply_data (Killed lost)))) }
-{
-    w.begin_object()?;
-    number(w, "lost", lost)?;
-    text(w, "ok", "kill")?;
-    w.end_object()?;
-    Ok(())
-}
-
-fn restarted(w: &mut Writer, row: Start) -> Result<(), AllocError>
-    ensures before { OnOk result (w.new.before ≡ w.old.before) }
-    ensures tokens { OnOk result (w.new.tokens
-        ≡ w.old.tokens ++ json_tokens (outline (reply_data (Restarted row)))) }
-{
-    w.begin_object()?;
-    text(w, "ok", "restart")?;
-    start(w, Some(row))?;
-    w.end_object()?;
-    Ok(())
-}
-
-fn noticed(w: &mut Writer, row: Option<Start>) -> Result<(), AllocError>
-    ensures before { OnOk result (w.new.before ≡ w.old.before) }
-    ensures tokens { OnOk result (w.new.tokens
-        ≡ w.old.tokens ++ json_tokens (outline (reply_data (Noticed row)))) }
-{
-    w.begin_object()?;
-    text(w, "ok", "notice")?;
-    start(w, row)?;
-    w.end_object()?;
-    Ok(())
-}
-
-fn released(w: &mut Writer, outputs: &[Text]) -> Result<(), AllocError>
-    ensures before { OnOk result (w.new.before ≡ w.old.before) }
-    ensures tokens { OnOk result (w.new.tokens
-        ≡ w.old.tokens ++ json_tokens (outline (reply_data (Released outputs.now)))) }
-{
-    w.begin_object()?;
-    text(w, "ok", "released")?;
-    texts(w, "outputs", outputs)?;
-    w.end_object()?;
-    Ok(())
-}
-
-fn stopped(w: &mut Writer, count: u64, refusal: Refusal) -> Result<(), AllocError>
-    ensures before { OnOk result (w.new.before ≡ w.old.before) }
-    ensures tokens { OnOk result (w.new.tokens
-        ≡ w.old.tokens ++ json_tokens (outline (reply_data (Stopped count refusal)))) }
-{
-    w.begin_object()?;
-    number(w, "count", count)?;
-    text(w, "no", refusal.name())?;
-    w.end_object()?;
-    Ok(())
-}
-
-fn refused(w: &mut Writer, refusal: Refusal) -> Result<(), AllocError>
-    ensures before { OnOk result (w.new.before ≡ w.old.before) }
-    ensures tokens { OnOk result (w.new.tokens
-        ≡ w.old.tokens ++ json_tokens (outline (reply_data (Refused refusal)))) }
-{
-    w.begin_object()?;
-    text(w, "no", refusal.name())?;
-    w.end_object()?;
+    words(out, "{\"ok\":\"released\",\"outputs\":[")?;
+    texts(out, outputs)?;
+    words(out, "}")?;
     Ok(())
 }
 
 fn status(
-    w: &mut Writer,
+    out: &mut Vec<u8>,
     at: Mark,
     held: u64,
     known: u64,
@@ -217,127 +131,128 @@ fn status(
     stable: u64,
     up: bool,
     volatile: u64,
-) -> Result<(), AllocError>
-    ensures before { OnOk result (w.new.before ≡ w.old.before) }
-    ensures tokens { OnOk result (w.new.tokens ≡ w.old.tokens
-        ++ json_tokens (outline (reply_data (Status at held known outside released rows stable up volatile)))) }
+) -> Result<(), NoMemory>
+    ensures { OnOk result (out.new.items ≡ out.old.items
+        ++ reply_text (Status at held known outside released rows stable up volatile)) }
 {
-    w.begin_object()?;
-    mark(w, at)?;
-    two_numbers(w, "held", held, "known", known)?;
-    text(w, "ok", "status")?;
-    two_numbers(w, "outside", outside, "released", released)?;
-    two_numbers(w, "rows", rows, "stable", stable)?;
-    flag(w, "up", up)?;
-    number(w, "volatile", volatile)?;
-    w.end_object()?;
+    mark_after(out, "{\"at\":[", at)?;
+    number_after(out, "],\"held\":", held)?;
+    number_after(out, ",\"known\":", known)?;
+    number_after(out, ",\"ok\":\"status\",\"outside\":", outside)?;
+    number_after(out, ",\"released\":", released)?;
+    number_after(out, ",\"rows\":", rows)?;
+    number_after(out, ",\"stable\":", stable)?;
+    words(out, up_words(up))?;
+    number_between(out, ",\"volatile\":", volatile, "}")?;
     Ok(())
 }
 
-fn text(w: &mut Writer, key: &str, text: &str) -> Result<(), AllocError>
-    ensures before { OnOk result (w.new.before ≡ w.old.before) }
-    ensures tokens { OnOk result (w.new.tokens
-        ≡ w.old.tokens ++ spec.key key.now ∷ spec.string text.now ∷ []) }
+#[tactic(auto, unfolding(crate::specs::Words::up_text))]
+fn up_words(up: bool) -> &'static str
+    ensures { result.now ≡ up_text up }
 {
-    w.key(key)?;
-    w.string(text)?;
+    if up { ",\"up\":true" } else { ",\"up\":false" }
+}
+
+fn stopped(out: &mut Vec<u8>, count: u64, refusal: Refusal) -> Result<(), NoMemory>
+    ensures { OnOk result (out.new.items ≡ out.old.items ++ reply_text (Stopped count refusal)) }
+{
+    number_after(out, "{\"count\":", count)?;
+    words(out, ",\"no\":\"")?;
+    words(out, refusal.name())?;
+    words(out, "\"}")?;
     Ok(())
 }
 
-fn number(w: &mut Writer, key: &str, n: u64) -> Result<(), AllocError>
-    ensures before { OnOk result (w.new.before ≡ w.old.before) }
-    ensures tokens { OnOk result (w.new.tokens
-        ≡ w.old.tokens ++ spec.key key.now ∷ spec.number (decimal n) ∷ []) }
+fn refused(out: &mut Vec<u8>, refusal: Refusal) -> Result<(), NoMemory>
+    ensures { OnOk result (out.new.items ≡ out.old.items ++ reply_text (Refused refusal)) }
 {
-    w.key(key)?;
-    w.u64(n)?;
+    words(out, "{\"no\":\"")?;
+    words(out, refusal.name())?;
+    words(out, "\"}")?;
     Ok(())
 }
 
-fn two_numbers(w: &mut Writer, one: &str, m: u64, two: &str, n: u64) -> Result<(), AllocError>
-    ensures before { OnOk result (w.new.before ≡ w.old.before) }
-    ensures tokens { OnOk result (w.new.tokens
-        ≡ w.old.tokens ++ spec.key one.now ∷ spec.number (decimal m)
-        ∷ spec.key two.now ∷ spec.number (decimal n) ∷ []) }
+/// Numbers with commas between them, and the bracket that closes their list.
+fn numbers(out: &mut Vec<u8>, letters: &[Letter]) -> Result<(), NoMemory>
+    ensures { OnOk result (out.new.items ≡ out.old.items ++ items_text false (wholes letters.now)) }
 {
-    w.key(one)?;
-    w.u64(m)?;
-    w.key(two)?;
-    w.u64(n)?;
-    Ok(())
-}
-
-fn flag(w: &mut Writer, key: &str, value: bool) -> Result<(), AllocError>
-    ensures before { OnOk result (w.new.before ≡ w.old.before) }
-    ensures tokens { OnOk result (w.new.tokens
-        ≡ w.old.tokens ++ spec.key key.now ∷ spec.boolean value ∷ []) }
-{
-    w.key(key)?;
-    w.boolean(value)?;
-    Ok(())
-}
-
-fn mark(w: &mut Writer, at: Mark) -> Result<(), AllocError>
-    ensures before { OnOk result (w.new.before ≡ w.old.before) }
-    ensures tokens { OnOk result (w.new.tokens
-        ≡ w.old.tokens ++ spec.key (codes "at") ∷ spec.begin_array ∷ spec.number (decimal at.incarnation)
-        ∷ spec.number (decimal at.index) ∷ spec.end_array ∷ []) }
-{
-    w.key("at")?;
-    pair(w, u64::from(at.incarnation), u64::from(at.index))
-}
-
-fn start(w: &mut Writer, row: Option<Start>) -> Result<(), AllocError>
-    ensures before { OnOk result (w.new.before ≡ w.old.before) }
-    ensures tokens { OnOk result (w.new.tokens
-        ≡ w.old.tokens ++ spec.key (codes "row") ∷ json_tokens (outline (row_data row))) }
-{
-    w.key("row")?;
-    match row {
-        Some(row) => pair(w, u64::from(row.incarnation), row.index),
-        None => w.null(),
-    }
-}
-
-fn pair(w: &mut Writer, a: u64, b: u64) -> Result<(), AllocError>
-    ensures before { OnOk result (w.new.before ≡ w.old.before) }
-    ensures tokens { OnOk result (w.new.tokens
-        ≡ w.old.tokens ++ spec.begin_array ∷ spec.number (decimal a) ∷ spec.number (decimal b)
-        ∷ spec.end_array ∷ []) }
-{
-    w.begin_array()?;
-    w.u64(a)?;
-    w.u64(b)?;
-    w.end_array()?;
-    Ok(())
-}
-
-fn numbers(w: &mut Writer, key: &str, letters: &[Letter]) -> Result<(), AllocError>
-    ensures before { OnOk result (w.new.before ≡ w.old.before) }
-    ensures tokens { OnOk result (w.new.tokens
-        ≡ w.old.tokens ++ spec.key key.now ∷ spec.begin_array
-        ∷ items_tokens (items_outline (wholes letters.now))) }
-{
-    w.key(key)?;
-    w.begin_array()?;
+    let mut later = false;
     for letter in letters {
-        w.u64(u64::from(letter.number()))?;
+        number_after(
+            out,
+            if later { "," } else { "" },
+            u64::from(letter.number()),
+        )?;
+        later = true;
     }
-    w.end_array()?;
+    words(out, "]")
+}
+
+/// Texts in quotes with commas between them, and the bracket that closes their list.
+fn texts(out: &mut Vec<u8>, texts: &[Text]) -> Result<(), NoMemory>
+    ensures { OnOk result (out.new.items ≡ out.old.items ++ items_text false (texts_data texts.now)) }
+{
+    let mut later = false;
+    for text in texts {
+        words(out, if later { "," } else { "" })?;
+        quoted(out, text.as_str())?;
+        later = true;
+    }
+    words(out, "]")
+}
+
+/// A text in quotes, with escapes where it needs them.
+fn quoted(out: &mut Vec<u8>, text: &str) -> Result<(), NoMemory>
+    ensures { OnOk result (out.new.items ≡ out.old.items ++ quoted_text text.now) }
+{
+    let empty = Vec::new(*out.allocator());
+    let mut w = Writer::new(mem::replace(out, empty));
+    w.string(text)?;
+    *out = w.into_inner();
     Ok(())
 }
 
-fn texts(w: &mut Writer, key: &str, texts: &[Text]) -> Result<(), AllocError>
-    ensures before { OnOk result (w.new.before ≡ w.old.before) }
-    ensures tokens { OnOk result (w.new.tokens
-        ≡ w.old.tokens ++ spec.key key.now ∷ spec.begin_array
-        ∷ items_tokens (items_outline (texts_data texts.now))) }
+/// The two numbers of a row between these words.
+fn start_between(out: &mut Vec<u8>, before: &str, row: Start, behind: &str) -> Result<(), NoMemory>
+    ensures { OnOk result (out.new.items ≡ out.old.items
+        ++ ((before.now ++ decimal row.incarnation) ++ (codes "," ++ (decimal row.index ++ behind.now)))) }
 {
-    w.key(key)?;
-    w.begin_array()?;
-    for text in texts {
-        w.string(text.as_str())?;
-    }
-    w.end_array()?;
+    number_after(out, before, u64::from(row.incarnation))?;
+    number_between(out, ",", row.index, behind)?;
+    Ok(())
+}
+
+/// The two numbers of a mark behind these words.
+fn mark_after(out: &mut Vec<u8>, before: &str, at: Mark) -> Result<(), NoMemory>
+    ensures { OnOk result (out.new.items ≡ out.old.items
+        ++ ((before.now ++ decimal at.incarnation) ++ (codes "," ++ decimal at.index))) }
+{
+    number_after(out, before, u64::from(at.incarnation))?;
+    number_after(out, ",", u64::from(at.index))?;
+    Ok(())
+}
+
+fn number_between(out: &mut Vec<u8>, before: &str, n: u64, behind: &str) -> Result<(), NoMemory>
+    ensures { OnOk result (out.new.items ≡ out.old.items ++ (before.now ++ (decimal n ++ behind.now))) }
+{
+    number_after(out, before, n)?;
+    words(out, behind)?;
+    Ok(())
+}
+
+fn number_after(out: &mut Vec<u8>, before: &str, n: u64) -> Result<(), NoMemory>
+    ensures { OnOk result (out.new.items ≡ out.old.items ++ (before.now ++ decimal n)) }
+{
+    words(out, before)?;
+    let mut digits = Buffer::new();
+    words(out, digits.format(n))?;
+    Ok(())
+}
+
+fn words(out: &mut Vec<u8>, text: &str) -> Result<(), NoMemory>
+    ensures { OnOk result (out.new.items ≡ out.old.items ++ text.now) }
+{
+    out.extend_from_slice(text.as_bytes())?;
     Ok(())
 }

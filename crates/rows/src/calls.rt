@@ -2,8 +2,8 @@
 //! function of a row is proved among what it needs alone.
 
 use anyhow::bail;
-use audit::{Verdict, check};
-use auditor::{audit_line, audit_tenant, can_check};
+use audit::{Verdict, audit_line, check};
+use auditor::{audit_tenant, can_check};
 use book::{Book, Committed, Kept};
 use handler::{Done, Sample};
 use lines::{Counted, ServeFault, read_step, serve, write_reply};

@@ -1,10 +1,9 @@
-use Rattle.std.proofs.Common.{rules, ◌≡◌, [], ◌∷◌, ◌++◌}
-use Rattle.json.specs.Token as spec
-use Rattle.quick_forms.proofs.Lists.{pieces_4}
+use Rattle.std.proofs.Common.{◌∙◌, ap, ◌++◌, sym}
+use Rattle.quick_forms.proofs.Lists.{pieces_2}
+use Rattle.quick_forms.proofs.Written.{checkpointed_text}
 use Rattle.quick_forms.proofs.replies.checkpointed.Goals as goal
 
-pub returns-clause-tokens : goal.returns-clause-tokens
-returns-clause-tokens c =
-    let p : c.begin_object.new.self.tokens ≡ c.args.w.now.tokens ++ spec.begin_object ∷ [] = search rules in
-    let s : c.end_object.new.self.tokens ≡ c.text.new.w.tokens ++ spec.end_object ∷ [] = search rules in
-    pieces_4 _ _ _ _ _ _ _ _ _ p c.in_ok-mark.ensures.tokens c.in_ok-text.ensures.tokens s
+pub returns : goal.returns
+returns c =
+    pieces_2 _ _ _ _ _ c.in_ok-mark_after.ensures c.in_ok-words.ensures
+    ∙ ap (λ t. c.args.out.now.items ++ t) (sym (checkpointed_text c.args.at))

@@ -1,10 +1,8 @@
-use Rattle.std.proofs.Common.{◌≡◌, ◌++◌, subst, sym}
-use Rattle.std.specs.Prelude.{OnOk}
-use Rattle.json.specs.Tree.{json_tokens}
-use Rattle.serde_json.specs.Written.{outline}
-use Rattle.forms.specs.Writing.{reply_data}
+use Rattle.std.proofs.Common.{subst, sym, OnOk, ◌≡◌, ◌++◌}
+use Rattle.model.specs.declared.replies.Reply.{Reply}
+use Rattle.forms.specs.Writing.{reply_text}
 use Rattle.quick_forms.proofs.replies.put.Goals as goal
 
-pub returns-in-Status-clause-tokens : goal.returns-in-Status-clause-tokens
-returns-in-Status-clause-tokens c =
-    subst (λ reply. OnOk c.status.result (c.status.new.w.tokens ≡ c.args.w.now.tokens ++ json_tokens (outline (reply_data reply)))) (sym c.in-Status.is) c.status.ensures.tokens
+pub returns-in-Status : goal.returns-in-Status
+returns-in-Status c =
+    subst (λ (r : Reply). OnOk c.status.result (c.status.new.out.items ≡ c.args.out.now.items ++ reply_text r)) (sym c.in-Status.is) c.status.ensures

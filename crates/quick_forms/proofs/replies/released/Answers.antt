@@ -1,10 +1,9 @@
-use Rattle.std.proofs.Common.{rules, ◌≡◌, [], ◌∷◌, ◌++◌}
-use Rattle.json.specs.Token as spec
-use Rattle.quick_forms.proofs.Lists.{pieces_4}
+use Rattle.std.proofs.Common.{◌∙◌, ap, ◌++◌, sym}
+use Rattle.quick_forms.proofs.Lists.{pieces_3}
+use Rattle.quick_forms.proofs.Written.{released_text}
 use Rattle.quick_forms.proofs.replies.released.Goals as goal
 
-pub returns-clause-tokens : goal.returns-clause-tokens
-returns-clause-tokens c =
-    let p : c.begin_object.new.self.tokens ≡ c.args.w.now.tokens ++ spec.begin_object ∷ [] = search rules in
-    let s : c.end_object.new.self.tokens ≡ c.texts.new.w.tokens ++ spec.end_object ∷ [] = search rules in
-    pieces_4 _ _ _ _ _ _ _ _ _ p c.in_ok-text.ensures.tokens c.in_ok-texts.ensures.tokens s
+pub returns : goal.returns
+returns c =
+    pieces_3 _ _ _ _ _ _ _ c.in_ok-words.ensures c.in_ok-texts.ensures c.in_ok-words-2.ensures
+    ∙ ap (λ t. c.args.out.now.items ++ t) (sym (released_text c.args.outputs.now))

@@ -1,12 +1,9 @@
-use Rattle.std.proofs.Common.{rules, ◌≡◌, [], ◌∷◌, ◌++◌, codes}
-use Rattle.model.specs.Refusals.{refusal_name}
-use Rattle.json.specs.Token as spec
+use Rattle.std.proofs.Common.{◌∙◌, ap, ◌++◌, sym}
 use Rattle.quick_forms.proofs.Lists.{pieces_4}
+use Rattle.quick_forms.proofs.Written.{stopped_text}
 use Rattle.quick_forms.proofs.replies.stopped.Goals as goal
 
-pub returns-clause-tokens : goal.returns-clause-tokens
-returns-clause-tokens c =
-    let p : c.begin_object.new.self.tokens ≡ c.args.w.now.tokens ++ spec.begin_object ∷ [] = search rules in
-    let s : c.end_object.new.self.tokens ≡ c.text.new.w.tokens ++ spec.end_object ∷ [] = search rules in
-    let t : c.text.new.w.tokens ≡ c.number.new.w.tokens ++ spec.key (codes "no") ∷ spec.string (refusal_name c.args.refusal) ∷ [] = search rules in
-    pieces_4 _ _ _ _ _ _ _ _ _ p c.in_ok-number.ensures.tokens t s
+pub returns : goal.returns
+returns c =
+    pieces_4 _ _ _ _ _ _ _ _ _ c.in_ok-number_after.ensures c.in_ok-words.ensures (c.in_ok-words-2.ensures ∙ ap (λ t. c.words.new.out.items ++ t) c.name.ensures) c.in_ok-words-3.ensures
+    ∙ ap (λ t. c.args.out.now.items ++ t) (sym (stopped_text c.args.count c.args.refusal))

@@ -1,10 +1,10 @@
 -- The text of an outcome.
 use Rattle.std.specs.Prelude.{ℕ, List, codes, Result, Ok, Err}
 use Rattle.serde_json.specs.Data.{Data, number, unsigned, string, object, no_members, member}
+use Rattle.serde_json.specs.Written.{compact_text}
 use Rattle.model.specs.declared.moves.Flaw.{Flaw}
 use Rattle.model.specs.declared.moves.Flaw.TheVariants.{NoUnit, NothingToReceive, OutputsDiffer, NoMemory}
 use Rattle.audit.specs.declared.verdict.Verdict.{Verdict}
-use Rattle.forms.specs.Writing.{data_text}
 
 -- a flaw of this name, at this unit: the keys are in the order of their bytes
 abbrev pub flaw_data : List ℕ → List ℕ → ℕ → Data
@@ -21,5 +21,5 @@ outcome_data tenant (Err (OutputsDiffer u)) = flaw_data tenant (codes "outputs-d
 outcome_data tenant (Err NoMemory) = object (member (codes "audit") (string (codes "memory")) (member (codes "tenant") (string tenant) no_members))
 
 -- the text of the outcome of a tenant's audit, without a line feed
-abbrev pub outcome_text : List ℕ → Result Verdict Flaw → List ℕ
-outcome_text tenant outcome = data_text (outcome_data tenant outcome)
+unfoldable pub outcome_text : List ℕ → Result Verdict Flaw → List ℕ
+outcome_text tenant outcome = compact_text (outcome_data tenant outcome)

@@ -5,7 +5,7 @@ use Rattle.serde_json.specs.Written.{has_float}
 use Rattle.model.specs.declared.moves.Flaw.{Flaw}
 use Rattle.model.specs.declared.moves.Flaw.TheVariants.{NoUnit, NothingToReceive, OutputsDiffer, NoMemory}
 use Rattle.audit.specs.declared.verdict.Verdict.{Verdict}
-use Rattle.auditor.specs.Line.{outcome_data}
+use Rattle.audit.specs.Line.{outcome_data}
 
 pub has_float-outcome : (tenant : List ℕ) (outcome : Result Verdict Flaw) → has_float (outcome_data tenant outcome) ≡ false
 has_float-outcome tenant (Ok v) = refl

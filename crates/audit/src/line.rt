@@ -2,9 +2,9 @@
 
 ghost use Rattle.std.specs.Prelude.{◌≡◌, IfOk, string_bytes};
 ghost use Rattle.serde_json.specs.View.{view};
-ghost use Rattle.auditor.specs.Line.{flaw_data, outcome_data, outcome_text};
+ghost use Rattle.audit.specs.Line.{flaw_data, outcome_data, outcome_text};
 
-use audit::Verdict;
+use crate::verdict::Verdict;
 use model::{Flaw, NoMemory, TenantName, Unit};
 use serde_json::{Value, json};
 use std::alloc::{AllocError, Global};
