@@ -141,6 +141,33 @@ fn letters_from(
     Ok(made)
 }
 
+/// The letters of one send, for which no counts need be copied: a receipt leaves what was sent before.
+#[tactic(auto, using(rollback::proofs::Sends::sent_same))]
+fn letters_of_one(
+    alloc: Global,
+    unit: Unit,
+    vector: &DepVector,
+    sessions: &Sessions,
+    source: &Source,
+    send: &(Unit, Text),
+    width: usize,
+) -> Result<Vec<SentLetter>, NoMemory>
+    ensures { IfOk result (λ made.
+        made.items ≡ letters_of unit vector.now (advanced sessions.now source.now) (filter (λ s.
+        nat_lt s.0 width) (send.now ∷ []))) }
+{
+    if !sessions.has_room(*source, 1) {
+        return Err(NoMemory);
+    }
+    let mut made = Vec::new(alloc);
+    if usize::from(send.0.number()) < width {
+        let number = sessions.number_to(send.0);
+        let text = send.1.copy()?;
+        made.push(letter_of(alloc, unit, vector, send.0, text, number)?)?;
+    }
+    Ok(made)
+}
+
 /// The counts after a receipt from the source, which have room for so many sends.
 #[tactic(auto, using(rollback::proofs::Sends::room_after_receipt))]
 fn counts_after(sessions: &Sessions, source: &Source, sends: usize) -> Result<Sessions, NoMemory>
@@ -176,6 +203,9 @@ pub fn letters_by(
 {
     if sends.is_empty() {
         return Ok(Vec::new(alloc));
+    }
+    if sends.len() == 1 {
+        return letters_of_one(alloc, unit, vector, sessions, &source, &sends[0], width);
     }
     let mut counts = counts_after(sessions, &source, sends.len())?;
     if counts.len() < width {
