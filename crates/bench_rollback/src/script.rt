@@ -16,7 +16,7 @@ use crate::receipts::{counted, records_behind, seat, take};
 use anyhow::{Context, bail};
 use handler::Sample;
 use incarnation::StartTable;
-use model::{NoMemory, Row, Unit};
+use model::{MAX_INCARNATION, NoMemory, Row, Unit};
 use rollback::RecoveryUnit;
 use std::alloc::Global;
 
@@ -143,7 +143,7 @@ fn restore(
 fn append(alloc: Global, bench: &mut Bench, start: u32) -> anyhow::Result<String> {
     let unit = Unit::new(0);
     let latest = bench.table.latest(unit);
-    if latest >= 65535 {
+    if latest >= MAX_INCARNATION {
         bail!("no incarnation is left");
     }
     bench.table.append(Row {

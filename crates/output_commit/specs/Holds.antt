@@ -1,5 +1,5 @@
 -- What holds, tickets and outlets give.
-use Rattle.std.specs.Prelude.{ℕ, Bool, false, nat_lt, List, [], ◌∷◌, map, slice_index, slice_index_or}
+use Rattle.std.specs.Prelude.{◌≡◌, ℕ, Bool, false, nat_lt, List, [], ◌∷◌, ◌++◌, map, slice_index, slice_index_or}
 use Rattle.std.specs.List.{take_while}
 use Rattle.model.specs.declared.names.Mark.{Mark}
 use Rattle.output_commit.specs.declared.held.Held.{Held}
@@ -46,6 +46,10 @@ line_of lines unit = slice_index_or lines unit no_line
 -- what a unit released; nothing where it has no list
 abbrev pub line_texts : List Line → ℕ → List (List ℕ)
 line_texts lines unit = (line_of lines unit).texts
+
+-- this text left, behind what the unit had released
+abbrev pub IsOut : List Line → ℕ → List ℕ → List Line → Type 0
+IsOut before unit text after = line_texts after unit ≡ line_texts before unit ++ text ∷ []
 
 abbrev pub room_of : List Line → ℕ → ℕ
 room_of lines unit = (line_of lines unit).room

@@ -1,7 +1,7 @@
 //! What left.
 
 ghost use Rattle.std.specs.Prelude.{◌≡◌, ◌+◌, ◌<◌, ◌≤◌, ◌∷◌, [], ◌++◌, IfErr, IfOk, IsOk, OnErr, OnOk, length, max, vec_capacity, vec_len, ◌≢◌, ℕ};
-ghost use Rattle.output_commit.specs.Holds.{room_of, line_texts};
+ghost use Rattle.output_commit.specs.Holds.{IsOut, room_of, line_texts};
 
 use crate::held::Held;
 use crate::ticket::Ticket;
@@ -141,8 +141,7 @@ impl Outlet {
     pub fn emit(&mut self, ticket: Ticket) -> Result<(), Ticket>
         requires { ticket.unit < length self.old }
         ensures len { length self.new ≡ length self.old }
-        ensures ok { OnOk result (line_texts self.new ticket.unit ≡ line_texts self.old ticket.unit ++ ticket.output.text
-            ∷ []) }
+        ensures ok { OnOk result (IsOut self.old ticket.unit ticket.output.text self.new) }
         ensures others { (u : ℕ) → u ≢ ticket.unit → line_texts self.new u ≡ line_texts self.old u }
         ensures err { OnErr result (line_texts self.new ticket.unit ≡ line_texts self.old ticket.unit) }
         ensures back { IfErr result (λ t. t ≡ ticket) }

@@ -28,15 +28,15 @@ pub struct SharedLog<S: Store> {
 }
 
 impl<S: Store> Model for SharedLog<S> {
-    ghost use Rattle.std.specs.Prelude.{◌≡◌, ℕ, List, length};
-    ghost use Rattle.shared_log.specs.Index.{listed};
-    ghost use Rattle.shared_log.specs.Logged.{Logged, places_from};
+    ghost use Rattle.std.specs.Prelude.{◌≡◌, length};
+    ghost use Rattle.shared_log.specs.Index.{IsIndexOf};
+    ghost use Rattle.shared_log.specs.Logged.{Logged};
 
     ghost Value = { Logged };
 
     ghost view = { λ l. record { records = S.log l.store; failures = S.failures l.store } };
 
-    ghost invariant = { λ l. (l.count ≡ length (S.log l.store)) × ((tenant : List ℕ) (unit : ℕ) → listed l.index tenant unit ≡ places_from tenant unit 0 (S.log l.store)) };
+    ghost invariant = { λ l. (l.count ≡ length (S.log l.store)) × IsIndexOf l.index (S.log l.store) };
 }
 
 impl<S: Store> SharedLog<S> {

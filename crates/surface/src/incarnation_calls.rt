@@ -1,7 +1,7 @@
 ghost use Rattle.std.specs.Prelude.{◌≡◌};
 
 use incarnation::StartTable;
-use model::{Mark, NoMemory, Row, Unit};
+use model::{MAX_INCARNATION, Mark, NoMemory, Row, Unit};
 use std::test::Fail;
 
 fn row(unit: u8, incarnation: u32, start: u64) -> Row
@@ -48,7 +48,7 @@ fn looks_up_rows(rt: HostRuntime) -> Result<(), Fail> {
 /// Appends the unit's next row.
 fn restart(table: &mut StartTable, unit: u8, start: u64) -> Result<(), NoMemory> {
     let latest = table.latest(Unit::new(unit));
-    if latest < 65535 {
+    if latest < MAX_INCARNATION {
         table.append(row(unit, latest + 1, start))?;
     }
     Ok(())

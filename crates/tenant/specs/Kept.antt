@@ -86,11 +86,20 @@ with_firm_out members u m frontier = slice_set members u (released_member m fron
 abbrev pub firm_of : {S : Type 0} → List (List (List ℕ)) → ℕ → Member S → ℕ → List (List ℕ) → List (List (List ℕ))
 firm_of released u m frontier texts = slice_set released u (texts ++ firm_texts m.outputs frontier)
 
+-- the firm outputs of this unit left, which had released these texts
+abbrev pub AreOut : {S : Type 0} → ℕ → Member S → ℕ → List (List ℕ) → List (Member S) → List (List (List ℕ)) → List (Member S) → List (List (List ℕ)) → Type 0
+AreOut u m frontier texts members released after now =
+    (after ≡ with_firm_out members u m frontier) × (now ≡ firm_of released u m frontier texts)
+
+abbrev pub with_firm_released : {S : Type 0} → TenantState S → ℕ → Member S → ℕ → List (List ℕ) → TenantState S
+with_firm_released t u m frontier texts =
+    record t { members = with_firm_out t.members u m frontier; released = firm_of t.released u m frontier texts }
+
 -- ---- kill
 
 -- the outputs of intervals below this index, which a path of more than 2^32 intervals would not have
 abbrev pub outputs_to : List Held → ℕ → List Held
-outputs_to outputs n = cond (nat_lt n 4294967296) (held_below outputs n) outputs
+outputs_to outputs n = cond (nat_lt n (2 ^ 32)) (held_below outputs n) outputs
 
 abbrev pub killed_member : {S : Type 0} → Member S → Member S
 killed_member m =

@@ -50,8 +50,8 @@ fn cut_hold(hold: &mut Waiting, places: u64)
     ensures unit { hold.new.unit ≡ hold.old.unit }
     ensures outputs { hold.new.outputs ≡ outputs_to hold.old.outputs places }
 {
-    if places < 4_294_967_296 {
-        hold.cut(places as u32);
+    if let Ok(index) = u32::try_from(places) {
+        hold.cut(index);
     }
 }
 

@@ -6,7 +6,7 @@ ghost use Rattle.model.specs.World.{World};
 ghost use Rattle.model.specs.declared.records.Record.{Record};
 ghost use Rattle.tenant.specs.Keeping.{SameShelves};
 ghost use Rattle.tenant.specs.Stands.{Stands};
-ghost use Rattle.tenant.specs.Kept.{Member as MemberOf, firm_of, firm_texts, released_of, with_firm_out};
+ghost use Rattle.tenant.specs.Kept.{AreOut, Member as MemberOf, firm_texts, released_of, with_firm_released};
 ghost use Rattle.tenant.specs.Outcomes.{IsPlain};
 ghost use Rattle.tenant.specs.Represents.{Does};
 
@@ -30,7 +30,8 @@ fn release_member<H: Handler>(
     ensures ok { IfOk result (λ _. (m : MemberOf H.State) (frontier : ℕ) (texts : List (List ℕ))
         → slice_get members.old.items unit ≡ Some m → m.unit ≡ unit → slice_get frontiers.now unit ≡ Some frontier
         → slice_get (released_of outlet.old) unit ≡ Some texts
-        → (members.new.items ≡ with_firm_out members.old.items unit m frontier) × (released_of outlet.new ≡ firm_of (released_of outlet.old) unit m frontier texts)) }
+        → AreOut unit m frontier texts members.old.items (released_of outlet.old)
+        members.new.items (released_of outlet.new)) }
     ensures err_members { OnErr result (members.new.items ≡ members.old.items) }
     ensures err_outlet { OnErr result (released_of outlet.new ≡ released_of outlet.old) }
 {
@@ -50,7 +51,7 @@ impl<H: Handler> Tenant<H> {
         ensures ok { IfOk result (λ _. (m : MemberOf H.State) (frontier : ℕ) (texts : List (List ℕ))
             → slice_get self.old.members unit ≡ Some m → m.unit ≡ unit
             → slice_get self.old.frontiers unit ≡ Some frontier → slice_get self.old.released unit ≡ Some texts
-            → self.new ≡ record self.old { members = with_firm_out self.old.members unit m frontier; released = firm_of self.old.released unit m frontier texts }) }
+            → self.new ≡ with_firm_released self.old unit m frontier texts) }
         ensures err { OnErr result (self.new ≡ self.old) }
     {
         release_member(
