@@ -21,7 +21,7 @@ use std::marker::Model;
 use std::sync::ArcStr;
 
 /// How many bytes a text may have that lies in the value itself.
-const MAX_INLINE_BYTES: usize = 24;
+const MAX_INLINE_BYTES: usize = 16;
 
 /// Where the bytes of a text lie.
 #[derive(Debug, Drop)]
