@@ -1,4 +1,4 @@
 pub mod LeftLaws
 mod Lists
 pub mod PlacesLaws
-mod Places
+mod Tables

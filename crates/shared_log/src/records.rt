@@ -1,13 +1,18 @@
 //! Records by place.
 
-ghost use Rattle.std.specs.Prelude.{◌≡◌, ◌<◌, ◌-◌, ◌++◌, ◌∷◌, [], IfOk, OnOk, OnErr, MatchOption, Some, None, length, slice_get, slice_set, take, true};
+ghost use Rattle.std.specs.Prelude.{◌≡◌, ◌<◌, ◌-◌, ◌/◌, ◌%◌, ◌++◌, ◌∷◌, [], ℕ, IfOk, IfErr, OnOk, OnErr, MatchOption, Some, None, length, slice_get, slice_set, take, true};
+ghost use Rattle.indexmap.specs.IndexMap.{IsUnchanged};
 ghost use Rattle.shared_log.specs.Logged.{IsHeld};
-ghost use Rattle.shared_log.specs.Records.{behind};
+ghost use Rattle.shared_log.specs.Records.{held, held_by, kept};
 
+use indexmap::IndexMap;
 use model::{NoMemory, Record};
 use std::alloc::Global;
-use std::collections::VecDeque;
 use std::marker::Model;
+use std::mem;
+
+// How many places a block has.
+const BLOCK_PLACES: u64 = 64;
 
 /// A place: its record, or none where that was forgotten.
 #[derive(Debug, Drop)]
@@ -34,6 +39,12 @@ impl Place {
         })
     }
 
+    fn without_record() -> Place
+        ensures { result ≡ None }
+    {
+        Place { record: None }
+    }
+
     fn record(&self) -> Option<&Record>
         ensures { MatchOption result (self.now ≡ None) (λ r. self.now ≡ Some r.now) }
     {
@@ -50,71 +61,284 @@ impl Place {
     }
 }
 
+/// Places one after the other. Those past the end are empty.
+#[derive(Debug, Drop)]
+struct Block {
+    places: Vec<Place>,
+}
+
+impl Model for Block {
+    ghost use Rattle.std.specs.Prelude.{List, Option};
+    ghost use Rattle.model.specs.declared.records.Record.{Record};
+
+    ghost Value = { List (Option Record) };
+
+    ghost view = { λ b. b.places.items };
+}
+
+impl Block {
+    fn new(alloc: Global) -> Block
+        ensures { result ≡ [] }
+    {
+        Block {
+            places: Vec::new(alloc),
+        }
+    }
+
+    fn record(&self, at: usize) -> Option<&Record>
+        ensures { MatchOption result (held self.now at ≡ None) (λ r. held self.now at ≡ Some r.now) }
+    {
+        match self.places.get(at) {
+            Some(place) => place.record(),
+            None => None,
+        }
+    }
+
+    fn has_none(&self) -> bool
+        ensures { result ≡ true → self.now ≡ [] }
+    {
+        self.places.is_empty()
+    }
+
+    /// Makes so many places, where there are fewer.
+    fn widen(&mut self, count: usize) -> Result<(), NoMemory>
+        ensures { (at : ℕ) → held self.new at ≡ held self.old at }
+    {
+        for _ in self.places.len()..count {
+            self.places.push(Place::without_record())?;
+        }
+        Ok(())
+    }
+
+    /// Puts a place in.
+    fn put(&mut self, at: usize, place: Place) -> Result<(), NoMemory>
+        requires { at < 64 }
+        ensures own { OnOk result (held self.new at ≡ place) }
+        ensures rest { (other : ℕ) → (other ≡ at → ⊥) → held self.new other ≡ held self.old other }
+    {
+        self.widen(at + 1)?;
+        match self.places.get_mut(at) {
+            Some(there) => {
+                *there = place;
+                Ok(())
+            }
+            None => Err(NoMemory),
+        }
+    }
+
+    /// Empties a place.
+    fn empty(&mut self, at: usize)
+        ensures own { held self.new at ≡ None }
+        ensures rest { (other : ℕ) → (other ≡ at → ⊥) → held self.new other ≡ held self.old other }
+    {
+        if let Some(place) = self.places.get_mut(at) {
+            place.empty();
+        }
+    }
+
+    fn ends_empty(&self) -> bool
+        ensures { result ≡ true → slice_get self.now (length self.now - 1) ≡ Some None }
+    {
+        match self.places.last() {
+            Some(place) => place.record().is_none(),
+            None => false,
+        }
+    }
+
+    /// Takes the empty places at the end off. Places are mostly forgotten in rising order, and then
+    /// the last one of a block is kept longest and the loop ends at once.
+    fn trim(&mut self)
+        ensures { (at : ℕ) → held self.new at ≡ held self.old at }
+    {
+        for _ in 0..self.places.len() {
+            if !self.ends_empty() {
+                return;
+            }
+            let _ = self.places.pop();
+        }
+    }
+}
+
+/// Blocks by their numbers.
+type Others = IndexMap<u64, Block>;
+
+/// Gives memory back where most of it is for blocks that are gone.
+fn give_back(others: &mut Others)
+    ensures { IsUnchanged others.old others.new }
+{
+    let used = others.len();
+    if others.capacity() / 4 > used {
+        others.shrink_to(used);
+    }
+}
+
+/// Takes a block out.
+fn take_out(others: &mut Others, number: u64) -> Block
+    ensures taken { (at : ℕ) → held result at ≡ held_by others.old number at }
+    ensures gone { (at : ℕ) → held_by others.new number at ≡ None }
+    ensures rest { (other at : ℕ) → (other ≡ number → ⊥) → held_by others.new other at ≡ held_by others.old other at }
+{
+    let taken = others.swap_remove(&number);
+    give_back(others);
+    match taken {
+        Some(block) => block,
+        None => Block::new(*others.allocator()),
+    }
+}
+
+/// Lays a block by, where it keeps a record. The block comes back where there is no memory for it.
+fn lay_by(others: &mut Others, number: u64, block: Block) -> Result<(), Block>
+    ensures laid { OnOk result ((at : ℕ) → held_by others.new number at ≡ held block at) }
+    ensures rest { (other at : ℕ) → (other ≡ number → ⊥) → held_by others.new other at ≡ held_by others.old other at }
+    ensures back { IfErr result (λ back. (at : ℕ) → held back at ≡ held block at) }
+{
+    let mut trimmed = block;
+    trimmed.trim();
+    if trimmed.has_none() {
+        let _ = take_out(others, number);
+        return Ok(());
+    }
+    match others.insert(number, trimmed) {
+        Ok(_) => Ok(()),
+        Err(failed) => Err(failed.value.1),
+    }
+}
+
+/// Empties a place of a block, and answers whether the block keeps no record now.
+fn clear_in(others: &mut Others, number: u64, at: usize) -> bool
+    ensures own { held_by others.new number at ≡ None }
+    ensures rest { (other i : ℕ) → ((other ≡ number) × (i ≡ at) → ⊥) → held_by others.new other i ≡ held_by others.old other i }
+    ensures none { result ≡ true → (i : ℕ) → held_by others.new number i ≡ None }
+{
+    match others.get_mut(&number) {
+        Some(block) => {
+            block.empty(at);
+            block.trim();
+            block.has_none()
+        }
+        None => false,
+    }
+}
+
+/// Empties a place of a block, and lets the block go where that was its last record.
+fn empty_in(others: &mut Others, number: u64, at: usize)
+    ensures own { held_by others.new number at ≡ None }
+    ensures rest { (other i : ℕ) → ((other ≡ number) × (i ≡ at) → ⊥) → held_by others.new other i ≡ held_by others.old other i }
+{
+    if clear_in(others, number, at) {
+        let _ = take_out(others, number);
+    }
+}
+
+/// The number of the block that a place is in.
+fn number_of(place: u64) -> u64
+    ensures { result ≡ place / 64 }
+{
+    place / BLOCK_PLACES
+}
+
+/// Where in its block a place is.
+fn index_of(place: u64) -> usize
+    ensures { result ≡ place % 64 }
+{
+    (place % BLOCK_PLACES) as usize
+}
+
+/// The places of all blocks, of which there is no last one.
+#[derive(Debug, Drop)]
+struct Blocks {
+    // The block that places are put into, and its number.
+    number: u64,
+    current: Block,
+    // The others that keep a record.
+    others: Others,
+}
+
+impl Blocks {
+    fn new(alloc: Global) -> Blocks {
+        Blocks {
+            number: 0,
+            current: Block::new(alloc),
+            others: IndexMap::new(alloc),
+        }
+    }
+
+    fn record(&self, place: u64) -> Option<&Record>
+        ensures { MatchOption result (kept self.now place ≡ None) (λ r. kept self.now place ≡ Some r.now) }
+    {
+        if number_of(place) == self.number {
+            return self.current.record(index_of(place));
+        }
+        match self.others.get(&number_of(place)) {
+            Some(block) => block.record(index_of(place)),
+            None => None,
+        }
+    }
+
+    /// Makes this block the current one.
+    fn turn_to(&mut self, number: u64) -> Result<(), NoMemory>
+        ensures same { (place : ℕ) → kept self.new place ≡ kept self.old place }
+        ensures turned { OnOk result (self.new.number ≡ number) }
+    {
+        if number == self.number {
+            return Ok(());
+        }
+        let fresh = Block::new(*self.others.allocator());
+        let block = mem::replace(&mut self.current, fresh);
+        match lay_by(&mut self.others, self.number, block) {
+            Ok(()) => {
+                self.current = take_out(&mut self.others, number);
+                self.number = number;
+                Ok(())
+            }
+            Err(back) => {
+                self.current = back;
+                Err(NoMemory)
+            }
+        }
+    }
+
+    /// Puts a record into a place.
+    fn put(&mut self, place: u64, logged: Record) -> Result<(), NoMemory>
+        ensures own { OnOk result (kept self.new place ≡ Some logged) }
+        ensures rest { (other : ℕ) → (other ≡ place → ⊥) → kept self.new other ≡ kept self.old other }
+    {
+        let kept = Place::new(*self.others.allocator(), logged)?;
+        self.turn_to(number_of(place))?;
+        self.current.put(index_of(place), kept)
+    }
+
+    /// Empties a place. It takes no memory.
+    fn empty(&mut self, place: u64)
+        ensures own { kept self.new place ≡ None }
+        ensures rest { (other : ℕ) → (other ≡ place → ⊥) → kept self.new other ≡ kept self.old other }
+    {
+        if number_of(place) == self.number {
+            self.current.empty(index_of(place));
+        } else {
+            empty_in(&mut self.others, number_of(place), index_of(place));
+        }
+    }
+}
+
 /// Records by place, seen as the list of all that came in, with empty places for those that were
-/// forgotten. Those at the front that are forgotten take no memory, and any other 16 bytes.
+/// forgotten. Memory is taken by the records that are not forgotten and, in blocks of 64 places, by
+/// their places: a block goes with its last record. So all that is forgotten takes is at most the
+/// other places of blocks that keep a record, and of the block that the next place is in.
 #[derive(Debug, Drop)]
 pub struct Records {
-    // How many places at the front are empty and not in the list.
-    gone: u64,
-    places: VecDeque<Place>,
+    count: u64,
+    blocks: Blocks,
 }
 
 impl Model for Records {
     ghost use Rattle.std.specs.Prelude.{List, Option};
     ghost use Rattle.model.specs.declared.records.Record.{Record};
-    ghost use Rattle.shared_log.specs.Records.{behind};
+    ghost use Rattle.shared_log.specs.Records.{kept, tabled};
 
     ghost Value = { List (Option Record) };
 
-    ghost view = { λ r. behind r.gone r.places.items };
-}
-
-/// The record at a place of the list. `NoMemory` comes where the copy finds none.
-fn copy_at(alloc: Global, places: &VecDeque<Place>, at: usize) -> Result<Record, NoMemory>
-    ensures { IfOk result (λ r. slice_get places.now.items at ≡ Some (Some r)) }
-{
-    let Some(place) = places.get(at) else {
-        return Err(NoMemory);
-    };
-    match place.record() {
-        Some(kept) => kept.copy(alloc),
-        None => Err(NoMemory),
-    }
-}
-
-/// Empties a place of the list.
-fn empty_at(places: &mut VecDeque<Place>, at: usize)
-    requires { at < length places.old.items }
-    ensures { places.new.items ≡ slice_set places.old.items at None }
-{
-    let place = &mut places[at];
-    place.empty();
-}
-
-/// Whether the list begins with an empty place.
-fn starts_empty(places: &VecDeque<Place>) -> bool
-    ensures { result ≡ true → slice_get places.now.items 0 ≡ Some None }
-{
-    match places.front() {
-        Some(place) => place.record().is_none(),
-        None => false,
-    }
-}
-
-/// Takes the empty places at the front off the list.
-fn drop_empty(gone: &mut u64, places: &mut VecDeque<Place>)
-    ensures { behind gone.new places.new.items ≡ behind gone.old places.old.items }
-{
-    for _ in 0..places.len() {
-        if !starts_empty(places) {
-            return;
-        }
-        let Some(more) = gone.checked_add(1) else {
-            return;
-        };
-        let _ = places.pop_front();
-        *gone = more;
-    }
+    ghost view = { λ r. tabled (kept r.blocks) r.count };
 }
 
 impl Records {
@@ -123,19 +347,21 @@ impl Records {
         ensures { result ≡ [] }
     {
         Records {
-            gone: 0,
-            places: VecDeque::new(alloc),
+            count: 0,
+            blocks: Blocks::new(alloc),
         }
     }
 
     /// Keeps a record in the next place.
-    #[tactic(auto, using(crate::proofs::Places::behind_push))]
     pub fn keep(&mut self, logged: Record) -> Result<(), NoMemory>
         ensures ok { OnOk result (self.new ≡ self.old ++ Some logged ∷ []) }
         ensures err { OnErr result (self.new ≡ self.old) }
     {
-        let place = Place::new(*self.places.allocator(), logged)?;
-        self.places.push_back(place)?;
+        let Some(next) = self.count.checked_add(1) else {
+            return Err(NoMemory);
+        };
+        self.blocks.put(self.count, logged)?;
+        self.count = next;
         Ok(())
     }
 
@@ -144,36 +370,28 @@ impl Records {
     pub fn take_back(&mut self)
         ensures { self.new ≡ take (length self.old - 1) self.old }
     {
-        if self.places.is_empty() {
-            self.gone = self.gone.saturating_sub(1);
-            return;
+        if let Some(last) = self.count.checked_sub(1) {
+            self.blocks.empty(last);
+            self.count = last;
         }
-        let last = self.places.len() - 1;
-        self.places.truncate(last);
     }
 
     /// An equal record to that of a place, which must not be forgotten.
-    #[tactic(auto, using(crate::proofs::Places::get_behind))]
     pub fn copy_of(&self, alloc: Global, place: u64) -> Result<Record, NoMemory>
         requires { IsHeld self.now place }
         ensures { IfOk result (λ r. slice_get self.now place ≡ Some (Some r)) }
     {
-        let Some(at) = place.checked_sub(self.gone) else {
-            return Err(NoMemory);
-        };
-        copy_at(alloc, &self.places, at as usize)
+        match self.blocks.record(place) {
+            Some(kept) => kept.copy(alloc),
+            None => Err(NoMemory),
+        }
     }
 
     /// Gives the record of a place up.
-    #[tactic(auto, using(crate::proofs::Places::set_behind, crate::proofs::Places::set_before, crate::proofs::Places::length_behind))]
     pub fn forget(&mut self, place: u64)
         requires { place < length self.old }
         ensures { self.new ≡ slice_set self.old place None }
     {
-        let Some(at) = place.checked_sub(self.gone) else {
-            return;
-        };
-        empty_at(&mut self.places, at as usize);
-        drop_empty(&mut self.gone, &mut self.places);
+        self.blocks.empty(place);
     }
 }

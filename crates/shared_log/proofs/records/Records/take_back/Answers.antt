@@ -1,13 +1,10 @@
-use Rattle.std.proofs.Common.{◌-◌, arith}
-use Rattle.shared_log.proofs.Places.{last_gone, last_taken}
+use Rattle.std.proofs.Common.{◌≡◌, ◌+◌, arith}
+use Rattle.shared_log.specs.Records.{kept}
+use Rattle.shared_log.proofs.Tables.{tabled_back}
 use Rattle.shared_log.proofs.records.Records.take_back.Goals as goal
 
-pub returns-then-is_empty : goal.returns-then-is_empty
-returns-then-is_empty c =
-    last_gone c.self.inside.gone c.saturating_sub-self-inside.result c.self.inside.places.items c.args.self.now
-    (grind (arith, c.if-is_empty.ensures)) c.saturating_sub-self-inside.ensures c.self.view_is
-
-pub returns : goal.returns
-returns c =
-    last_taken c.self.inside.gone (c.len-last.result - 1) c.self.inside.places.items c.truncate.new.self.items c.args.self.now
-    (grind (arith, c.if-is_empty.ensures, c.len-last.ensures)) c.truncate.ensures.items c.self.view_is
+pub returns-in-Some : goal.returns-in-Some
+returns-in-Some c =
+    let last : c.self.inside.count ≡ c.in-Some.last + 1 = grind (arith, c.in-Some.ensures) in
+    tabled_back (kept c.self.inside.blocks) (kept c.empty.new.self) c.self.inside.count c.in-Some.last c.args.self.now last
+    c.empty.ensures.rest c.self.view_is
