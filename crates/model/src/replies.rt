@@ -10,7 +10,7 @@ use crate::text::{Letters, Texts};
 use std::alloc::Global;
 
 /// The answer to a step.
-#[derive(Debug, Drop)]
+#[derive(Debug, PartialEq, Eq, Drop)]
 pub enum Reply {
     /// How many units were opened.
     Opened {

@@ -62,7 +62,7 @@ pub enum TenantStep {
 }
 
 /// A step, with the tenant that it names.
-#[derive(Debug, Drop)]
+#[derive(Debug, PartialEq, Eq, Drop)]
 pub enum Step {
     /// Opens the tenant with these kinds of units, unit 0 first.
     Open {

@@ -4,6 +4,7 @@ ghost use Rattle.std.specs.Prelude.{◌≡◌, ◌+◌, ◌<◌, ◌^◌, ℕ, L
 ghost use Rattle.std.specs.List.{list_all};
 ghost use Rattle.std.specs.Str.{bytes_eq};
 ghost use Rattle.std.proofs.Common.{rules};
+ghost use Rattle.std.specs.Cmp.Lexicographic.{pointwise};
 ghost use Rattle.std.specs.Cmp.Rules.{comparing, hashing};
 ghost use Rattle.std.specs.Hash as fed;
 ghost use Rattle.model.specs.Lists.{numbers_from};
@@ -200,6 +201,20 @@ impl Texts {
     }
 }
 
+impl PartialEq for Texts {
+    ghost eq = { pointwise bytes_eq };
+
+    ghost laws = { Prim.search (comparing, rules) };
+
+    fn eq(&self, other: &Texts) -> bool {
+        self.as_slice() == other.as_slice()
+    }
+}
+
+impl Eq for Texts {
+    ghost laws = { Prim.search (comparing, rules) };
+}
+
 /// How many letters of a list lie in the value itself.
 const MAX_INLINE_LETTERS: usize = 4;
 
@@ -251,6 +266,20 @@ impl Letters {
         let letters = SmallVec::from_slice(alloc, self.as_slice())?;
         Ok(Letters { letters })
     }
+}
+
+impl PartialEq for Letters {
+    ghost eq = { bytes_eq };
+
+    ghost laws = { Prim.search (comparing, rules) };
+
+    fn eq(&self, other: &Letters) -> bool {
+        self.as_slice() == other.as_slice()
+    }
+}
+
+impl Eq for Letters {
+    ghost laws = { Prim.search (comparing, rules) };
 }
 
 /// The name of a tenant: 1 to 32 bytes of a to z, 0 to 9 and hyphen, which lie in the value itself.

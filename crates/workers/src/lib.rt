@@ -32,7 +32,6 @@ mod gate;
 mod job;
 mod matched;
 mod run;
-mod same;
 
 pub use closed::Closed;
 pub use fault::RunFault;

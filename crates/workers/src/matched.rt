@@ -4,11 +4,11 @@ ghost use Rattle.std.specs.Prelude.{◌≡◌, ℕ, ◌<◌, ◌≤◌, ◌^◌,
 ghost use Rattle.workers.specs.Interleaves.{AllExpected, HasReceipts, Interleaves, IsExpected, numbered, replies_by, reply_by, step_by, steps_by};
 
 use crate::closed::is_by;
-use crate::same::{same_reply, same_step};
 use model::{Entry, Reply, Step, Who};
 
 /// The number of the feed's next step after an entry, if the entry is not the feed's, or is its
 /// next step.
+#[tactic(auto, using(std::proofs::lemmas::Grind::common_steps, model::proofs::Equality::step_decides))]
 fn after_entry(entry: &Entry, feed: u32, next: usize, steps: &[Step]) -> Option<usize>
     requires { next ≤ length steps.now }
     ensures within { IfSome result (λ n. n ≤ length steps.now) }
@@ -24,7 +24,7 @@ fn after_entry(entry: &Entry, feed: u32, next: usize, steps: &[Step]) -> Option<
     if next >= steps.len() || at as usize != next {
         return None;
     }
-    if !same_step(&entry.step, &steps[next]) {
+    if entry.step != steps[next] {
         return None;
     }
     Some(next + 1)
@@ -95,6 +95,7 @@ pub(crate) fn is_matched(history: &[Entry], feeds: &[Vec<Step>]) -> bool
 
 /// The number of the feed's next receipt after an entry, if the entry is not the feed's, or its
 /// reply is the next receipt.
+#[tactic(auto, using(std::proofs::lemmas::Grind::common_steps, model::proofs::Equality::reply_decides))]
 fn after_reply(entry: &Entry, feed: u32, next: usize, receipts: &[Reply]) -> Option<usize>
     requires { next ≤ length receipts.now }
     ensures within { IfSome result (λ n. n ≤ length receipts.now) }
@@ -104,7 +105,7 @@ fn after_reply(entry: &Entry, feed: u32, next: usize, receipts: &[Reply]) -> Opt
     if !is_by(entry.who, feed) {
         return Some(next);
     }
-    if next < receipts.len() && same_reply(&entry.reply, &receipts[next]) {
+    if next < receipts.len() && entry.reply == receipts[next] {
         Some(1 + next)
     } else {
         None
