@@ -244,7 +244,8 @@ fn index_of(place: u64) -> usize
     (place % BLOCK_PLACES) as usize
 }
 
-/// The places of all blocks, of which there is no last one.
+/// What each place has, also those that nothing was put into yet. One block is at hand, so that an
+/// append looks another up only once in 64 places.
 #[derive(Debug, Drop)]
 struct Blocks {
     // The block that places are put into, and its number.
@@ -275,7 +276,8 @@ impl Blocks {
         }
     }
 
-    /// Makes this block the current one.
+    /// Makes this block the current one, and lays that by which was. Where there is no memory for
+    /// that, nothing changes.
     fn turn_to(&mut self, number: u64) -> Result<(), NoMemory>
         ensures same { (place : ℕ) → kept self.new place ≡ kept self.old place }
         ensures turned { OnOk result (self.new.number ≡ number) }
@@ -322,11 +324,12 @@ impl Blocks {
 }
 
 /// Records by place, seen as the list of all that came in, with empty places for those that were
-/// forgotten. Memory is taken by the records that are not forgotten and, in blocks of 64 places, by
-/// their places: a block goes with its last record. So all that is forgotten takes is at most the
-/// other places of blocks that keep a record, and of the block that the next place is in.
+/// forgotten. A record takes memory until it is forgotten. Places take memory in blocks of 64: those
+/// blocks that keep a record, and the one that was put into last. So there is at most one block for
+/// each record that is not forgotten, and one more, however many were forgotten.
 #[derive(Debug, Drop)]
 pub struct Records {
+    // How many came in.
     count: u64,
     blocks: Blocks,
 }
