@@ -3,7 +3,6 @@
 use crate::audits::audit_all;
 use crate::progress::{Bar, Counting};
 use crate::run::BLOCK;
-use crate::words::FeedsWords;
 use forms::LineFault;
 use handler::Sample;
 use lines::{Counted, ServeFault, fault_reply, put_reply, read_feed};
@@ -30,13 +29,13 @@ struct Feeds {
 /// Runs each input as a feed, all at once over a store in memory, and then writes the reply lines to standard
 /// output, feed by feed in the order of the inputs. Tells the status to end with: 0 where all lines are answered, 1
 /// after a fault of input, output, memory or threads; where the feeds can't be read or run, nothing is written. Where
-/// the words ask for audits, audits each open tenant after the last reply; 1 too where an audit doesn't say yes. Where
-/// it `shows`, a bar tells how far the steps are.
+/// it `audits`, it audits each open tenant after the last reply; 1 too where an audit doesn't say yes. Where it `shows`,
+/// a bar tells how far the steps are.
 pub(crate) fn feeds_on<
     R: Threads + Wait + Sync + Print + Eprint + Clock + AllocGlobal,
     L: Log,
     I: Read + Drop,
->(rt: &R, told: &L, inputs: Vec<I>, words: &FeedsWords<'_>, shows: bool) -> u8 {
+>(rt: &R, told: &L, inputs: Vec<I>, audits: bool, shows: bool) -> u8 {
     let alloc = rt.alloc();
     let read = match read_all(alloc, inputs) {
         Ok(read) => read,
@@ -64,7 +63,7 @@ pub(crate) fn feeds_on<
     match ran {
         Ok(closed) => {
             let output = io::writer(rt);
-            write_all(told, alloc, output, &closed, faults.as_slice(), words.audit)
+            write_all(told, alloc, output, &closed, faults.as_slice(), audits)
         }
         Err(fault) => {
             tell_run(told, fault);

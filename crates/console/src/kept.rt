@@ -1,10 +1,10 @@
 //! What a run keeps of the past, which `--verbose` tells.
 
 use crate::complaints::Talk;
-use book::{Book, Kept};
+use book::Book;
 use handler::Sample;
 use log::{Log, info};
-use model::{MAX_UNITS, NoMemory, TenantName, Unit};
+use model::{Kept, MAX_UNITS, NoMemory, TenantName, Unit};
 use stable_log::Store;
 
 /// Tells the sums over all units of all tenants, where so much is told.

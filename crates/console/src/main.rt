@@ -154,7 +154,7 @@ fn feeds_as_asked<R: Threads + Wait + Sync + Files + Print + Eprint + Clock + Al
             return 1;
         }
     }
-    feeds_on(rt, &told, inputs, feeds, shows)
+    feeds_on(rt, &told, inputs, feeds.audit, shows)
 }
 
 /// `recall draw`: draws to the file that is named, or to standard output.

@@ -6,7 +6,7 @@ use crate::meeting::Meeting;
 use crate::steps::feeds;
 use crate::together::Together;
 use handler::Sample;
-use shared_log::MemoryStore;
+use stable_log::MemoryStore;
 use std::alloc::Global;
 use std::sync::Wait;
 use std::thread::Threads;

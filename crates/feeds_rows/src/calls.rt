@@ -4,7 +4,7 @@ ghost use Rattle.std.specs.Prelude.{◌≡◌, ◌<◌, ◌^◌, [], vec_len};
 
 use handler::Handler;
 use model::{Entry, Reply, Step};
-use shared_log::Store;
+use stable_log::Store;
 use std::alloc::Global;
 use std::sync::Wait;
 use std::thread::Threads;

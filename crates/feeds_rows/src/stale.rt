@@ -11,7 +11,7 @@ use crate::gates::Overtaking;
 use crate::steps::{both, deliver, open, post};
 use handler::Sample;
 use model::{Mark, NoMemory, Reply, Step};
-use shared_log::MemoryStore;
+use stable_log::MemoryStore;
 use std::alloc::Global;
 use std::sync::Wait;
 use std::sync::atomic::{AtomicBool, AtomicU32, Ordering};

@@ -2,7 +2,10 @@
 
 ghost use Rattle.std.specs.Prelude.{◌<◌, ◌^◌, IfOk, vec_len};
 
-use model::{Letter, NoMemory, Quota, Step, TenantName, Text, Texts, Unit};
+use model::{
+    Letter, MAX_HELD_QUOTA, MAX_LETTERS_QUOTA, MAX_OPTIMISM, MAX_VOLATILE_QUOTA, NoMemory, Quota,
+    Step, TenantName, Text, Texts, Unit,
+};
 use std::alloc::Global;
 
 fn name(text: &str) -> Result<TenantName, NoMemory> {
@@ -19,11 +22,11 @@ pub(crate) fn open(alloc: Global, tenant: &str, kinds: &[&str]) -> Result<Step, 
         tenant: name(tenant)?,
         kinds: Texts::new(names),
         quota: Quota {
-            volatile: 1024,
-            held: 1024,
-            letters: 1_000_000,
+            volatile: MAX_VOLATILE_QUOTA,
+            held: MAX_HELD_QUOTA,
+            letters: MAX_LETTERS_QUOTA,
         },
-        optimism: 16,
+        optimism: MAX_OPTIMISM,
     })
 }
 

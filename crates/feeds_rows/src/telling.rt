@@ -3,7 +3,7 @@
 ghost use Rattle.std.specs.Prelude.{◌≡◌};
 
 use model::Record;
-use shared_log::{MemoryStore, Store, StoreFault};
+use stable_log::{MemoryStore, Store, StoreFault};
 use std::io;
 use std::io::Write;
 use std::sync::atomic::{AtomicBool, Ordering};

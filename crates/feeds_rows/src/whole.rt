@@ -5,7 +5,7 @@ use crate::gates::Idle;
 use crate::steps::feeds;
 use handler::Sample;
 use model::{Entry, Mark, Reply, Who};
-use shared_log::MemoryStore;
+use stable_log::MemoryStore;
 use std::alloc::Global;
 use std::sync::Wait;
 use std::thread::Threads;

@@ -4,10 +4,10 @@
 use anyhow::bail;
 use audit::{Verdict, audit_line, check};
 use auditor::{audit_tenant, can_check};
-use book::{Book, Committed, Kept};
+use book::{Book, Committed};
 use handler::{Done, Sample};
 use lines::{Counted, ServeFault, read_step, serve, write_reply};
-use model::{Entry, Flaw, Move, Reply, Row, Seat, Step, TenantName, Text, Texts, Unit, Who};
+use model::{Entry, Flaw, Kept, Move, Reply, Row, Seat, Step, TenantName, Text, Texts, Unit, Who};
 use stable_log::{MemoryStore, Store};
 use std::alloc::Global;
 use std::io::BufRead;

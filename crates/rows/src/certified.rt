@@ -5,10 +5,8 @@
 
 use crate::answers::answer;
 use crate::calls::{self, Books, audit_of_lists, name_of, new_book, outcome_line};
-use model::{Move, Seat, TenantName, Text, Texts};
+use model::{MAX_UNITS, Move, Seat, TenantName, Text, Texts};
 use std::alloc::Global;
-
-const MOST_UNITS: u8 = 16;
 
 /// What a new book shows of tenant `a` before and after these lines.
 pub(crate) fn certified(alloc: Global, lines: &str) -> anyhow::Result<String> {
@@ -56,7 +54,7 @@ fn add_lists(
 /// What each unit of the tenant released.
 fn released(alloc: Global, book: &Books, name: &TenantName) -> anyhow::Result<Vec<Texts>> {
     let mut lists = Vec::new(alloc);
-    for number in 0..MOST_UNITS {
+    for number in 0..MAX_UNITS as u8 {
         match calls::released(book, name, number) {
             Some(outputs) => lists.push(copies(alloc, outputs)?)?,
             None => return Ok(lists),

@@ -8,10 +8,8 @@
 use crate::answers::push_replies;
 use crate::calls::{self, Books, name_of, new_book, outcome_line, step_of};
 use anyhow::Context;
-use model::{Entry, TenantName, Who};
+use model::{Entry, MAX_UNITS, TenantName, Who};
 use std::alloc::Global;
-
-const MOST_UNITS: u8 = 16;
 
 /// What a new book tells after these lines.
 pub(crate) fn told(alloc: Global, lines: &str) -> anyhow::Result<String> {
@@ -77,7 +75,7 @@ fn add_tenant(
 
 /// Adds a line for each unit of the tenant, with what it released.
 fn add_released(book: &Books, name: &TenantName, text: &mut String) -> anyhow::Result<()> {
-    for number in 0..MOST_UNITS {
+    for number in 0..MAX_UNITS as u8 {
         let Some(outputs) = calls::released(book, name, number) else {
             return Ok(());
         };

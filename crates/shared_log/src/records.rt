@@ -3,7 +3,7 @@
 ghost use Rattle.std.specs.Prelude.{◌≡◌, ◌<◌, ◌-◌, ◌/◌, ◌%◌, ◌++◌, ◌∷◌, [], ℕ, IfOk, IfErr, OnOk, OnErr, MatchOption, Some, None, length, slice_get, slice_set, take, true};
 ghost use Rattle.indexmap.specs.IndexMap.{IsUnchanged};
 ghost use Rattle.shared_log.specs.Logged.{IsHeld};
-ghost use Rattle.shared_log.specs.Records.{held, held_by, kept};
+ghost use Rattle.shared_log.specs.Records.{OtherPlaces, held, held_by, kept};
 
 use indexmap::IndexMap;
 use model::{NoMemory, Record};
@@ -207,7 +207,7 @@ fn lay_by(others: &mut Others, number: u64, block: Block) -> Result<(), Block>
 /// Empties a place of a block, and answers whether the block keeps no record now.
 fn clear_in(others: &mut Others, number: u64, at: usize) -> bool
     ensures own { held_by others.new number at ≡ None }
-    ensures rest { (other i : ℕ) → ((other ≡ number) × (i ≡ at) → ⊥) → held_by others.new other i ≡ held_by others.old other i }
+    ensures rest { OtherPlaces number at others.old others.new }
     ensures none { result ≡ true → (i : ℕ) → held_by others.new number i ≡ None }
 {
     match others.get_mut(&number) {
@@ -223,7 +223,7 @@ fn clear_in(others: &mut Others, number: u64, at: usize) -> bool
 /// Empties a place of a block, and lets the block go where that was its last record.
 fn empty_in(others: &mut Others, number: u64, at: usize)
     ensures own { held_by others.new number at ≡ None }
-    ensures rest { (other i : ℕ) → ((other ≡ number) × (i ≡ at) → ⊥) → held_by others.new other i ≡ held_by others.old other i }
+    ensures rest { OtherPlaces number at others.old others.new }
 {
     if clear_in(others, number, at) {
         let _ = take_out(others, number);
