@@ -5,6 +5,7 @@ use Rattle.std.specs.List.{filter, sum_by, flat_map}
 use Rattle.std.proofs.lemmas.List.Sums.{sum_by-cons, sum_by_push, length-filter}
 use Rattle.std.proofs.lemmas.List.{length-map}
 use Rattle.std.proofs.lemmas.Option.{slice_get_within, same_Some}
+use Rattle.std.proofs.Math.Seq.{take-append_seam}
 use native.Mathlib.Decide.{ℕ_discrete}
 use Rattle.model.specs.declared.names.Row.{Row}
 use Rattle.model.specs.Handler.{Turn, Meaning}
@@ -95,10 +96,6 @@ sum_line_path {nodes} {m = m} placed s f (suc j) x e =
 
 -- ---- letters
 
-take_append : {X : Type 0} (xs ys : List X) → take (length xs) (xs ++ ys) ≡ xs
-take_append [] ys = refl
-take_append (x ∷ xs) ys = ap (λ t. x ∷ t) (take_append xs ys)
-
 get_after : {X : Type 0} (xs ys : List X) (q : ℕ) → slice_get (xs ++ ys) (length xs + q) ≡ slice_get ys q
 get_after [] ys q = ap (slice_get ys) (let t : 0 + q ≡ q = omega arith in t)
 get_after (x ∷ xs) ys q = ap (slice_get (x ∷ xs ++ ys)) (let t : suc (length xs) + q ≡ suc (length xs + q) = omega arith in t) ∙ get_after xs ys q
@@ -120,7 +117,7 @@ letters_of_at place unit earlier done (s ∷ sends) zero msg e =
       source = refl;
       place_in = length done + 0;
       there = get_after done (s ∷ sends) 0;
-      number = let t : length done + 0 ≡ length done = omega arith in rw (t, take_append done (s ∷ sends)) refl;
+      number = let t : length done + 0 ≡ length done = omega arith in rw (t, take-append_seam done (s ∷ sends)) refl;
     })
 letters_of_at place unit earlier done (s ∷ sends) (suc l) msg e =
     subst (λ all. OneOf place unit earlier all msg) (append_assoc done (s ∷ []) sends) (letters_of_at place unit earlier (done ++ s ∷ []) sends l msg e)

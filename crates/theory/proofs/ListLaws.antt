@@ -40,6 +40,11 @@ pub or_right : (a b : Bool) → b ≡ true → (a || b) ≡ true
 or_right true b e = refl
 or_right false b e = e
 
+-- a second test that fails adds nothing
+pub or_false : (b : Bool) → b ≡ (b || false)
+or_false true = refl
+or_false false = refl
+
 -- the element after a write, at its place or at another
 pub get_set : {X : Type 0} (xs : List X) (i j : ℕ) (x y : X) → slice_get (slice_set xs i x) j ≡ Some y → ((j ≡ i) × (y ≡ x)) ⊎ ((j ≢ i) × (slice_get xs j ≡ Some y))
 get_set [] i j x y e = cc
@@ -151,6 +156,12 @@ set_get_same [] i x y e = cc
 set_get_same (z ∷ xs) zero x y e = refl
 set_get_same (z ∷ xs) (suc i) x y e = set_get_same xs i x y e
 
+-- an element that is written again where it stands changes nothing
+pub set_same : {X : Type 0} (xs : List X) (i : ℕ) (x : X) → slice_get xs i ≡ Some x → slice_set xs i x ≡ xs
+set_same [] i x e = refl
+set_same (y ∷ xs) zero x e = ap (λ z. z ∷ xs) (sym (same_Some y x e))
+set_same (y ∷ xs) (suc i) x e = ap (λ ys. y ∷ ys) (set_same xs i x e)
+
 -- the elements at other places
 pub set_get_other : {X : Type 0} (xs : List X) (i j : ℕ) (x : X) → j ≢ i → slice_get (slice_set xs i x) j ≡ slice_get xs j
 set_get_other [] i j x h = refl
@@ -227,6 +238,14 @@ lt_true a b e = grind (arith, nat_tests)
 -- what is less tests less
 pub true_lt : (a b : ℕ) → a < b → nat_lt a b ≡ true
 true_lt a b e = grind (arith, nat_tests)
+
+-- what does not test less is no less
+pub lt_false : (a b : ℕ) → nat_lt a b ≡ false → b ≤ a
+lt_false a b e = grind (arith, nat_tests)
+
+-- what is no less does not test less
+pub false_lt : (a b : ℕ) → b ≤ a → nat_lt a b ≡ false
+false_lt a b e = grind (arith, nat_tests)
 
 -- what tests at most is at most
 pub le_true : (a b : ℕ) → nat_le a b ≡ true → a ≤ b

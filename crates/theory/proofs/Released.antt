@@ -5,6 +5,7 @@ use Rattle.std.specs.List.{flat_map, take_while}
 use Rattle.std.proofs.lemmas.List.Sums.{take_while-cons}
 use Rattle.std.proofs.lemmas.List.{length-map, map-append}
 use Rattle.std.proofs.lemmas.Option.{slice_get_within, same_Some}
+use Rattle.std.proofs.Math.Seq.{drop-append_seam}
 use mathlib.Core.List.{IsPrefix}
 use native.Mathlib.Decide.{ℕ_discrete}
 use Rattle.model.specs.Handler.{Turn, Meaning}
@@ -107,10 +108,6 @@ map_drop f zero xs = refl
 map_drop f (suc k) [] = refl
 map_drop f (suc k) (x ∷ xs) = map_drop f k xs
 
-drop_front : {X : Type 0} (xs ys : List X) → drop (length xs) (xs ++ ys) ≡ ys
-drop_front [] ys = refl
-drop_front (x ∷ xs) ys = drop_front xs ys
-
 -- a released list with those that pass is all of those
 release_whole : {Y : Type 0} (p : ℕ → Bool) (f : ℕ → List Y) (path : List ℕ) (released : List Y) → Closed p path → IsPrefix released (flat_map f (take_while p path))
     → released ++ map (λ (o : ℕ × Y). o.1) (take_while (λ o. p o.0) (drop (length released) (pairs_of f path))) ≡ flat_map f (take_while p path)
@@ -119,7 +116,7 @@ release_whole {Y} p f path released closed pre =
     let seconds : map (λ (o : ℕ × Y). o.1) front ≡ released ++ pre.0 = pairs_seconds f (take_while p path) ∙ sym pre.1 in
     let size : length released ≤ length front = let t = length-map front (λ (o : ℕ × Y). o.1) in let k = ap length seconds in let z = length-append released pre.0 in omega arith in
     ap (λ z. released ++ map (λ (o : ℕ × Y). o.1) z) (take_while_drop (λ o. p o.0) (length released) (pairs_of f path) (rw (pairs_front p f path closed) size) ∙ ap (drop (length released)) (pairs_front p f path closed))
-    ∙ ap (λ z. released ++ z) (map_drop (λ (o : ℕ × Y). o.1) (length released) front ∙ ap (drop (length released)) seconds ∙ drop_front released pre.0)
+    ∙ ap (λ z. released ++ z) (map_drop (λ (o : ℕ × Y). o.1) (length released) front ∙ ap (drop (length released)) seconds ∙ drop-append_seam released pre.0)
     ∙ pre.1
 
 -- ---- worlds

@@ -5,7 +5,7 @@ use Rattle.std.specs.List.{filter, fold, flat_map, count_by}
 use Rattle.std.proofs.lemmas.Bool.Decides.{nat_tests}
 use Rattle.std.proofs.lemmas.Option.{slice_get_within, same_Some}
 use Rattle.std.proofs.lemmas.List.Sums.{sum_by-append}
-use Rattle.std.proofs.lemmas.List.{append-nil}
+use Rattle.std.proofs.lemmas.List.{append-nil, drop-append-le}
 use native.Mathlib.Decide.{ℕ_discrete}
 use Rattle.model.specs.declared.names.Seat.{Seat}
 use Rattle.model.specs.declared.names.Source.{Source}
@@ -61,11 +61,6 @@ without_other v u v' u' h (p ∷ ps) = go (is_between v u p) refl (is_between v'
     go true q false q' e = refl
     go false q true q' e = rw q' (ap (λ t. p.text ∷ t) e)
     go false q false q' e = rw q' e
-
-drop_append : {X : Type 0} (k : ℕ) (xs ys : List X) → k ≤ length xs → drop k (xs ++ ys) ≡ drop k xs ++ ys
-drop_append zero xs ys h = refl
-drop_append (suc k) [] ys h = absurd (omega arith)
-drop_append (suc k) (x ∷ xs) ys h = drop_append k xs ys (omega arith)
 
 pub drop_at : {X : Type 0} (xs : List X) (k : ℕ) (x : X) → slice_get xs k ≡ Some x → drop k xs ≡ x ∷ drop (suc k) xs
 drop_at [] k x e = cc
@@ -181,7 +176,7 @@ module _ {S : Type 0} (M : Meaning S) (all : Receipts S) where
       between_append u u' packets (packets_to u (sends_of x))
       ∙ ap (λ q. q ++ texts_between u u' (packets_to u (sends_of x))) e
       ∙ ap (λ q. drop t (texts_to u' path) ++ q) (between_own u u' (sends_of x))
-      ∙ sym (drop_append t (texts_to u' path) (texts_sent u' x) le)
+      ∙ sym (drop-append-le t (texts_to u' path) (texts_sent u' x) le)
       ∙ ap (drop t) (sym (texts_more u' path x))
 
   matches_more : (units : ℕ) (done : ℕ → List ℕ) (net : Network S) (packets : List Packet) (u x : ℕ) → u < units → Matches units done net
