@@ -3,6 +3,7 @@ use Rattle.std.proofs.Common.{◌≡◌, refl, ap, ℕ, zero, suc, ◌+◌, ◌<
 use Rattle.model.specs.declared.names.Mark.{Mark}
 use Rattle.model.specs.World.{greater_mark, no_mark}
 use Rattle.std.specs.List.{AllClonesOf, AppendsClonesOf}
+use Rattle.std.proofs.lemmas.List.{take_all}
 use Rattle.depvector.specs.Vectors.{joined, widened}
 
 -- a joined vector is as long as the first
@@ -27,13 +28,6 @@ pub joined_step : (own other now : List Mark) (i : ℕ) (d : Mark) → now ≡ j
     → set now i (greater_mark (get_or now i d) (get_or other i d)) ≡ joined own (take (i + 1) other)
 joined_step own other now i d is h k = rw (add-one i, is) (joined_more own other i d h k)
 
--- the first of a list that has no more
-take_whole : {X : Type 0} (xs : List X) (n : ℕ) → length xs ≤ n → take n xs ≡ xs
-take_whole [] zero h = refl
-take_whole [] (suc n) h = refl
-take_whole (x ∷ xs) zero h = absurd (omega arith)
-take_whole (x ∷ xs) (suc n) h = ap (λ ys. x ∷ ys) (take_whole xs n (omega arith))
-
 -- clones that are equal to what they are of
 same_clones : {X : Type 0} (x : X) (ys : List X) → AllClonesOf (λ a b. b ≡ a) x ys → ys ≡ replicate (length ys) x
 same_clones x [] all = refl
@@ -43,7 +37,7 @@ same_clones x (y ∷ ys) (inr e, all) = rw (e) (ap (λ zs. x ∷ zs) (same_clone
 -- a shorter vector that grew to n entries
 pub widened_by_clones : (own new : List Mark) (n : ℕ) → length own < n → AppendsClonesOf (λ a b. b ≡ a) (take n own) new no_mark → length new ≡ n → new ≡ widened own n
 widened_by_clones own new n h (ys, e, all) l =
-    let t : take n own ≡ own = take_whole own n (omega arith) in
+    let t : take n own ≡ own = take_all n own (omega arith) in
     let k : length own + length ys ≡ n = rw (e, t, length-append) at l in
     let m : length ys ≡ n - length own = omega (arith, k) in
     rw (e, t) (ap (λ zs. own ++ zs) (same_clones no_mark ys all ∙ ap (λ j. replicate j no_mark) m))
