@@ -1,5 +1,5 @@
 -- Laws of rows that are filed by unit.
-use Rattle.std.proofs.Common.{◌≡◌, inl, inr, refl, sym, ◌∙◌, ap, subst, ℕ, zero, suc, ◌+◌, ◌-◌, ◌<◌, ◌≤◌, Bool, true, false, cond, max, ◌||◌, ◌&&◌, List, [], ◌∷◌, ◌++◌, length, take, arith, length-append, zero-add}
+use Rattle.std.proofs.Common.{◌≡◌, inl, inr, refl, sym, ◌∙◌, ap, subst, ℕ, zero, suc, ◌+◌, ◌-◌, ◌<◌, ◌≤◌, Bool, true, false, cond, max, ◌&&◌, List, [], ◌∷◌, ◌++◌, length, take, arith, length-append, zero-add}
 use Rattle.std.proofs.lemmas.List.{append-nil}
 use Rattle.std.proofs.lemmas.List.Elements.{filter-append}
 use Rattle.std.specs.Prelude.{Option, Some, None, slice_get, ◌==◌, nat_lt, nat_le, IsTrue, ◌↔◌, slice_index}
@@ -7,7 +7,7 @@ use Rattle.model.specs.declared.names.Row.{Row}
 use Rattle.model.specs.declared.names.Mark.{Mark}
 use Rattle.model.specs.World.{incarnation_of, mark_told, mark_lost}
 use Rattle.model.proofs.Places.{get_below}
-use Rattle.theory.proofs.ListLaws.{bool_cases, eq_true, true_eq, any_at, at_any, and_both, both_and, get_take, take_get, get_append, lt_true, true_lt, le_true, true_le, or_cases, or_left, or_right, index_map}
+use Rattle.theory.proofs.ListLaws.{bool_cases, eq_true, true_eq, any_at, at_any, and_both, both_and, get_take, take_get, get_append, lt_true, true_lt, le_true, true_le, or_cases, or_left, or_right, index_map, or_false}
 use Rattle.theory.proofs.VectorLaw.{same_bools}
 use Rattle.incarnation.specs.Rows.{rows_of}
 use Rattle.std.proofs.lemmas.Option.{slice_get_within, same_Some}
@@ -255,11 +255,7 @@ latest_is rows f unit n o same none last = go (length (rows_of rows unit)) refl
 
 -- where nothing is filed
 pub tells_none : (rows : List Row) (known unit : ℕ) (mark : Mark) (b : Bool) → Ordered rows → filed_of rows unit ≡ nothing_filed → b ≡ (mark.incarnation == 0) → b ≡ mark_told (take known rows) unit mark
-tells_none rows known unit mark b o none is = is ∙ nothing (mark.incarnation == 0) ∙ tells_is rows nothing_filed known unit mark o (sym none)
-  where
-    nothing : (a : Bool) → a ≡ (a || false)
-    nothing true = refl
-    nothing false = refl
+tells_none rows known unit mark b o none is = is ∙ or_false (mark.incarnation == 0) ∙ tells_is rows nothing_filed known unit mark o (sym none)
 
 pub loses_none : (rows : List Row) (known unit : ℕ) (mark : Mark) → Ordered rows → filed_of rows unit ≡ nothing_filed → false ≡ mark_lost (take known rows) unit mark
 loses_none rows known unit mark o none = loses_is rows nothing_filed known unit mark false o (sym none) ((λ e. cc), (λ l. absurd (empty l.at l.row l.has_row)))
