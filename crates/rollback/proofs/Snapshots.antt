@@ -5,7 +5,7 @@ use Rattle.std.specs.List.{list_any, remove}
 use Rattle.std.specs.Option.{is_some, option_map_or}
 use Rattle.std.proofs.lemmas.Option.{slice_get_within}
 use Rattle.model.proofs.Places.{get_below}
-use Rattle.theory.proofs.ListLaws.{any_at, append_get, append_get_last, bool_cases, eq_true, or_cases}
+use Rattle.theory.proofs.ListLaws.{any_at, append_get, append_get_last, bool_cases, eq_true, or_cases, lt_false}
 use Rattle.checkpoint.specs.declared.snapshot.Snapshot.{Snapshot}
 use Rattle.checkpoint.specs.Shelves.{Shelved, Rises, IsShelved, IsTop, has_index, is_at, nearest_of, put_on, with_room}
 use Rattle.checkpoint.proofs.Nearest.{nearest_some, nearest_none}
@@ -51,12 +51,9 @@ shelved_nearest {P} s index (Some p) top r e =
 room_keeps : {P : Type 0} (others : List (Snapshot P)) (i : ℕ) (x : Snapshot P) → slice_get others i ≡ Some x → ((j : ℕ) × (slice_get (with_room others) j ≡ Some x)) ⊎ ((64 ≤ length others) × (slice_get others 0 ≡ Some x))
 room_keeps {P} others i x e = elim (bool_cases (nat_lt (length others) 64)) [
   | inl h ↦ inl (i, rw h e)
-  | inr h ↦ rw h (go others i e (many (length others) h))
+  | inr h ↦ rw h (go others i e (lt_false (length others) 64 h))
 ]
   where
-    many : (n : ℕ) → nat_lt n 64 ≡ false → 64 ≤ n
-    many n h = grind (arith, h)
-
     go : (xs : List (Snapshot P)) (i : ℕ) → slice_get xs i ≡ Some x → 64 ≤ length xs → ((j : ℕ) × (slice_get (remove xs 0) j ≡ Some x)) ⊎ ((64 ≤ length xs) × (slice_get xs 0 ≡ Some x))
     go [] i f m = cc
     go (y ∷ xs) zero f m = inr (m, f)
