@@ -1,37 +1,22 @@
 -- What a checkpoint puts on the shelf.
-use Rattle.std.proofs.Common.{◌≡◌, ◌⊎◌, inl, inr, refl, sym, ◌∙◌, ap, ℕ, zero, suc, ◌-◌, ◌<◌, ◌≤◌, true, false, cond, ◌||◌, List, [], ◌∷◌, ◌++◌, length, drop, arith, map}
+use Rattle.std.proofs.Common.{◌≡◌, ◌⊎◌, inl, inr, refl, sym, ◌∙◌, ap, ℕ, suc, ◌-◌, ◌<◌, ◌≤◌, true, false, cond, ◌||◌, List, [], ◌∷◌, ◌++◌, length, drop, arith, map}
 use Rattle.std.specs.Prelude.{Some, slice_get, nat_lt, ◌==◌}
 use Rattle.std.specs.List.{list_any, remove}
 use Rattle.std.specs.Option.{option_map_or}
-use Rattle.std.proofs.lemmas.Bool.Decides.{nat_tests}
-use Rattle.theory.proofs.ListLaws.{any_none, at_any, at_map, bool_cases, lt_true, map_at, or_left, or_right, true_eq}
+use Rattle.theory.proofs.ListLaws.{any_none, at_any, at_map, bool_cases, lt_true, map_at, or_left, or_right, true_eq, lt_false}
 use Rattle.model.specs.Handler.{Meaning}
 use Rattle.checkpoint.specs.declared.snapshot.Snapshot.{Snapshot as Shelf}
 use Rattle.checkpoint.specs.Shelves.{Shelved, IsTop, Rises, has_index, is_at, put_on, with_room}
 use Rattle.compact.specs.Compact.{Progress, Snapshot, Unit}
 use Rattle.compact.specs.Steps.{last_index, places as all_of, shelved_unit}
 use Rattle.compact.proofs.Words.{map_push}
+use Rattle.compact.proofs.Checkpoints.{last_greatest}
 use Rattle.rollback.specs.Units.{Recovering, IsKept, checkpointed, places, shelf_with}
 use Rattle.rollback.proofs.Forgetting.{unequal}
 use Rattle.rollback.proofs.Keeping.{last_top}
 use Rattle.rollback_laws.specs.Seen.{IsSeen, shelved_as}
 use Rattle.rollback_laws.specs.Laws.{CheckpointsAreSeen}
 use Rattle.rollback_laws.proofs.Places.{places_are}
-
--- where indices rise from the base on, none is above the last
-last_greatest : {S : Type 0} (base : ℕ) (xs : List (Snapshot S)) → ((i : ℕ) (t : Snapshot S) → slice_get xs i ≡ Some t → base < t.index)
-    → ((i j : ℕ) (t q : Snapshot S) → i < j → slice_get xs i ≡ Some t → slice_get xs j ≡ Some q → t.index < q.index)
-    → (base ≤ last_index base xs) × ((i : ℕ) (t : Snapshot S) → slice_get xs i ≡ Some t → t.index ≤ last_index base xs)
-last_greatest base [] above rising = (omega arith, λ i t e. absurd (cc e))
-last_greatest {S} base (y ∷ ys) above rising =
-    let rest = last_greatest y.index ys (λ i t e. rising 0 (suc i) y t (omega arith) refl e) (λ i j t q h e f. rising (suc i) (suc j) t q (omega arith) e f) in
-    let first = above 0 y refl in
-    let low = rest.0 in
-    (omega (arith, first, low), λ i t e. each i t e rest.0 rest.1)
-  where
-    each : (i : ℕ) (t : Snapshot S) → slice_get (y ∷ ys) i ≡ Some t → y.index ≤ last_index y.index ys → ((i : ℕ) (q : Snapshot S) → slice_get ys i ≡ Some q → q.index ≤ last_index y.index ys) → t.index ≤ last_index y.index ys
-    each zero t e low more = let same : y ≡ t = cc in let k : y.index ≡ t.index = ap (λ (z : Snapshot S). z.index) same in omega (arith, k, low)
-    each (suc i) t e low more = more i t e
 
 -- the last is the base or of the shelf
 last_there : {S : Type 0} (base : ℕ) (xs : List (Snapshot S)) → (base ≡ last_index base xs) ⊎ ((i : ℕ) × ((t : Snapshot S) × (slice_get xs i ≡ Some t) × (t.index ≡ last_index base xs)))
@@ -49,14 +34,8 @@ removed (y ∷ ys) t h = sym (map_push shelved_as ys t)
 roomed : {S : Type 0} (xs : List (Snapshot S)) (t : Snapshot S) → (n : ℕ) × (n ≤ 1) × (with_room (map shelved_as xs) ++ shelved_as t ∷ [] ≡ map shelved_as (drop n (xs ++ t ∷ [])))
 roomed {S} xs t = elim (bool_cases (nat_lt (length (map shelved_as xs)) 64)) [
   | inl e ↦ (0, omega arith, ap (λ b. cond b (map shelved_as xs) (remove (map shelved_as xs) 0) ++ shelved_as t ∷ []) e ∙ sym (map_push shelved_as xs t))
-  | inr e ↦ (1, omega arith, ap (λ b. cond b (map shelved_as xs) (remove (map shelved_as xs) 0) ++ shelved_as t ∷ []) e ∙ removed xs t (many (length (map shelved_as xs)) e))
+  | inr e ↦ (1, omega arith, ap (λ b. cond b (map shelved_as xs) (remove (map shelved_as xs) 0) ++ shelved_as t ∷ []) e ∙ removed xs t (lt_false (length (map shelved_as xs)) 64 e))
 ]
-  where
-    many : (n : ℕ) → nat_lt n 64 ≡ false → 64 ≤ n
-    many n h = grind (arith, h)
-
-not_less : (a b : ℕ) → nat_lt a b ≡ false → b ≤ a
-not_less a b e = grind (arith, nat_tests)
 
 module _ {S : Type 0} (sh : Shelved (Progress S)) (b : Snapshot S) (xs : List (Snapshot S)) (base : sh.base ≡ Some (shelved_as b)) (others : sh.others ≡ map shelved_as xs) (rises : Rises sh.base sh.others)
     (t : Snapshot S) (top : IsTop sh t.index) where
@@ -106,7 +85,7 @@ module _ {S : Type 0} (sh : Shelved (Progress S)) (b : Snapshot S) (xs : List (S
           ap (λ (z : Shelved (Progress S)). z.others) put ∙ ap (λ ys. with_room ys ++ shelved_as t ∷ []) others ∙ room.2 ∙ ap (λ z. map shelved_as (drop room.0 (cond z (xs ++ t ∷ []) xs))) (sym e),
         )
     | inr e ↦
-        let put : put_on sh (shelved_as t) ≡ sh = ap (λ z. cond z sh more) (present (not_less (last_index b.index xs) t.index e)) in (
+        let put : put_on sh (shelved_as t) ≡ sh = ap (λ z. cond z sh more) (present (lt_false (last_index b.index xs) t.index e)) in (
           0,
           omega arith,
           ap (λ (z : Shelved (Progress S)). z.base) put ∙ base,
