@@ -1,8 +1,9 @@
 -- How far a path is firm.
-use Rattle.std.proofs.Common.{◌≡◌, refl, sym, ◌∙◌, ℕ, zero, suc, ◌+◌, ◌-◌, ◌<◌, ◌≤◌, Bool, true, false, List, [], ◌∷◌, length, drop, map, arith}
+use Rattle.std.proofs.Common.{◌≡◌, refl, sym, ◌∙◌, ℕ, suc, ◌+◌, ◌-◌, ◌<◌, ◌≤◌, Bool, true, false, List, [], length, drop, map, arith}
 use Rattle.std.specs.Prelude.{Some, slice_get}
 use Rattle.std.proofs.lemmas.Option.{same_Some}
 use Rattle.std.proofs.lemmas.List.Sums.{take_while-cons}
+use Rattle.std.proofs.lemmas.List.{drop_all}
 use Rattle.model.specs.declared.names.Row.{Row}
 use Rattle.compact.specs.Compact.{Interval}
 use Rattle.compact.specs.Laws.{FirmByCount, firm_front, is_firm_by}
@@ -16,12 +17,6 @@ use Rattle.theory.proofs.Simulation.{drop_at}
 pub firm_by_count : FirmByCount
 firm_by_count rows stable_lengths vector = tails.firm_by_count rows stable_lengths vector
 
-drop_past : {X : Type 0} (xs : List X) (k : ℕ) → length xs ≤ k → drop k xs ≡ []
-drop_past [] zero h = refl
-drop_past [] (suc k) h = refl
-drop_past (x ∷ xs) zero h = absurd (omega (arith, h))
-drop_past (x ∷ xs) (suc k) h = drop_past xs k (omega (arith, h))
-
 module _ (rows : List Row) (stable_lengths : List ℕ) (intervals : List Interval) (k : ℕ) where
   -- how many from this place on are firm
   abbrev front : ℕ → ℕ
@@ -34,7 +29,7 @@ module _ (rows : List Row) (stable_lengths : List ℕ) (intervals : List Interva
   front_ends x at firm = rw (drop_at intervals k x at, take_while-cons (is_firm_by rows stable_lengths) x.vector (map (λ i. i.vector) (drop (suc k) intervals)), firm) refl
 
   pub front_ends_past : length intervals ≤ k → front k ≡ 0
-  front_ends_past h = rw (drop_past intervals k h) refl
+  front_ends_past h = rw (drop_all k intervals h) refl
 
 module _ {S : Type 0} (rows : List Row) (stable_lengths : List ℕ) (r : Recovering S) (k : ℕ) (base : r.base ≤ k) where
   abbrev test : Interval → Bool

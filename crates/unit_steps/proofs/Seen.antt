@@ -15,12 +15,12 @@ use Rattle.compact.specs.Compact.{Compact, Content, Interval, Letter, Progress, 
 use Rattle.depvector.specs.Vectors.{joined, widened}
 use Rattle.compact.specs.Laws.{firm_front}
 use Rattle.compact.specs.Steps.{Receipt, last_vector, letter_refusal, next_mark, next_vector, or_next, post_refusal, tests_of_number, tests_of_room}
+use Rattle.compact.proofs.Receipts.{refusal_append}
 use Rattle.model.specs.World.{incarnation_of}
 use Rattle.rollback.specs.Units.{IsKept, Recovering, unknown}
 use Rattle.rollback_laws.specs.Seen.{HasPlaces, IsSeen}
 use Rattle.rollback_laws.proofs.Places.{places_are_seen}
 use Rattle.unit_steps.specs.Receipts.{arrival_refusal, frontier_of, last_vector_of, letter_refused, mark_upon, past_tests, room_tests, vector_upon}
-use Rattle.unit_steps.proofs.Both.{refusal_of_both}
 use Rattle.unit_steps.specs.Laws.{FrontiersGoOn, LettersAreRefused, PostsAreRefused, TurnsAreRefused, VectorsAreMade, known_to}
 
 -- a vector is looked up in an interval
@@ -58,7 +58,7 @@ module _ {S : Type 0} (M : Meaning S) (r : Recovering S) (x : Unit S) (kept : Is
 
   letter : (c : Letter) (o : Option Content) → letter_refusal k x c o ≡ letter_refused (known_to k x) k.optimism k.quota.volatile r c.source c.number o
   letter c None = rw seen.up refl
-  letter c (Some content) = rw seen.up (refusal_of_both (past content.vector) (tests_of_number (taken_from x.now.sessions (FromUnit c.source)) c.number ++ tests_of_room k x content.text) ∙ letters c.source c.number content r.progress refl)
+  letter c (Some content) = rw seen.up (refusal_append (past content.vector) (tests_of_number (taken_from x.now.sessions (FromUnit c.source)) c.number ++ tests_of_room k x content.text) ∙ letters c.source c.number content r.progress refl)
 
   marks : (u : ℕ) → next_mark k u x ≡ mark_upon k.table u r
   marks u = λ i. record { incarnation = incarnation_of k.table u; index = there.long i }
