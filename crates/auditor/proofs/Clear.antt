@@ -1,6 +1,6 @@
 -- The audit of a book's tenant finds no flaw.
 use Rattle.std.proofs.Common.{◌≡◌, refl, sym, ◌∙◌, ap, subst, ℕ, zero, suc, ◌+◌, ◌<◌, ◌≤◌, List, [], ◌∷◌, ◌++◌, length, map, take, arith}
-use Rattle.std.proofs.lemmas.List.{length-map}
+use Rattle.std.proofs.lemmas.List.{length-map, take_all}
 use Rattle.std.specs.Prelude.{Option, Some, None, Result, Ok, Err, slice_get, option_map}
 use mathlib.Core.List.{IsPrefix}
 use Rattle.model.specs.Alone.{Event, alone}
@@ -46,12 +46,6 @@ take_none [] (suc u) e = refl
 take_none (y ∷ xs) zero e = cc
 take_none (y ∷ xs) (suc u) e = ap (λ ys. y ∷ ys) (take_none xs u e)
 
-take_most : {X : Type 0} (xs : List X) (n : ℕ) → length xs ≤ n → take n xs ≡ xs
-take_most [] zero h = refl
-take_most [] (suc n) h = refl
-take_most (x ∷ xs) zero h = absurd (omega arith)
-take_most (x ∷ xs) (suc n) h = ap (λ ys. x ∷ ys) (take_most xs n (omega arith))
-
 pub first_lists : (w : Option World) → [] ≡ take 0 (lists_at w)
 first_lists w = refl
 
@@ -90,7 +84,7 @@ module _ {S : Type 0} (M : Meaning S) where
       omega (arith, few, len)
 
   pub all_lists : (tenant : List ℕ) (history : List Entry) → take 16 (lists_at (world_of M tenant history)) ≡ lists_at (world_of M tenant history)
-  all_lists tenant history = take_most _ 16 (world_few (own tenant (pairs history)) (world_of M tenant history) refl)
+  all_lists tenant history = take_all 16 _ (world_few (own tenant (pairs history)) (world_of M tenant history) refl)
 
   pub seats_numbered : (tenant : List ℕ) (history : List Entry) (seats : List Seat) → seats ≡ seats_at (world_of M tenant history) → AreNumbered seats
   seats_numbered tenant history seats e =
