@@ -21,10 +21,10 @@ use Rattle.journal.specs.GoingOn.{IsPromise}
 use Rattle.journal.proofs.Outcomes.{same_outcome}
 use Rattle.book.proofs.Replays.{event_of, event_of_pair, name_of, own-push, pair_of, same_name, world_of-named}
 
-abbrev step_of : Entry → Step
+abbrev pub step_of : Entry → Step
 step_of e = e.step
 
-abbrev reply_of : Entry → Reply
+abbrev pub reply_of : Entry → Reply
 reply_of e = e.reply
 
 -- ---- one more entry, for a tenant

@@ -1,6 +1,7 @@
 -- Lines that are served twice.
 use Rattle.std.proofs.Common.{◌≡◌, ℕ, List, [], ◌∷◌, ◌++◌, length, map, take, drop, refl, sym, ap, subst, ◌∙◌, All, Option, Some, None, arith}
 use Rattle.std.proofs.lemmas.List.Elements.{All-nil, All-cons, All-head, All-tail}
+use Rattle.std.proofs.Math.Seq.{drop-append_seam, take-append_seam}
 use Rattle.model.specs.Handler.{Meaning}
 use Rattle.model.specs.declared.replies.Entry.{Entry}
 use Rattle.model.specs.declared.replies.Reply.{Reply}
@@ -10,7 +11,7 @@ use Rattle.book.specs.Entries.{Ledger}
 use Rattle.lines.specs.Serving.{line_step, Serves, IsRemembered, told, entered_before, entered, IsBadOr, AreReplies, EntersEach}
 use Rattle.lines.proofs.Runs.{enters_each}
 use Rattle.journal.specs.GoingOn.{IsPromise, IsRun, Repeats, GoesOn}
-use Rattle.journal.proofs.Histories.{same_history}
+use Rattle.journal.proofs.Histories.{same_history, step_of, reply_of}
 
 abbrev Told : Type 0
 Told = Who × Step × Reply
@@ -20,12 +21,6 @@ step_told x = x.1
 
 abbrev reply_told : Told → Reply
 reply_told x = x.2
-
-abbrev step_of : Entry → Step
-step_of e = e.step
-
-abbrev reply_of : Entry → Reply
-reply_of e = e.reply
 
 told-steps : (entries : List Entry) → map step_told (map told entries) ≡ map step_of entries
 told-steps [] = refl
@@ -87,14 +82,6 @@ entered-replies (l ∷ ls) (r ∷ rs) (r' ∷ rs') p q same =
 
 -- ---- one after the other
 
-drop_front : (xs ys : List Reply) → drop (length xs) (xs ++ ys) ≡ ys
-drop_front [] ys = refl
-drop_front (x ∷ xs) ys = drop_front xs ys
-
-take_front : (xs ys : List Reply) → take (length xs) (xs ++ ys) ≡ xs
-take_front [] ys = grind arith
-take_front (x ∷ xs) ys = ap (λ l. x ∷ l) (take_front xs ys)
-
 Serves-append : (first second : List (List ℕ)) (old mid new : Ledger) (rs rs' : List Reply) → Serves first old rs mid → Serves second mid rs' new
     → Serves (first ++ second) old (rs ++ rs') new
 Serves-append [] second old mid new rs rs' p q =
@@ -144,6 +131,6 @@ module _ {S : Type 0} (M : Meaning S) where
       } in
       let same : seen ++ missed ≡ all = repeats (first ++ second) (seen ++ missed) all new new' run whole in
       let long : length seen ≡ length first = Serves-length first start mid seen served in (
-        sym (ap (λ n. drop n (seen ++ missed)) (sym long) ∙ drop_front seen missed) ∙ ap (drop (length first)) same,
-        sym (ap (λ n. take n (seen ++ missed)) (sym long) ∙ take_front seen missed) ∙ ap (take (length first)) same,
+        sym (ap (λ n. drop n (seen ++ missed)) (sym long) ∙ drop-append_seam seen missed) ∙ ap (drop (length first)) same,
+        sym (ap (λ n. take n (seen ++ missed)) (sym long) ∙ take-append_seam seen missed) ∙ ap (take (length first)) same,
       )

@@ -2,6 +2,7 @@
 use Rattle.std.proofs.Common.{◌≡◌, ◌-◌, ℕ, List, [], ◌∷◌, ◌++◌, length, drop, true, refl, sym, ap, ◌∙◌, append_assoc, length-append, arith}
 use Rattle.std.specs.Prelude.{decimal, ◌==◌}
 use Rattle.std.specs.Cmp.Lexicographic.{pointwise}
+use Rattle.std.proofs.Math.Seq.{drop-append_seam}
 use Rattle.forms.specs.Writing.{data_text}
 use Rattle.json.specs.Print.{escape_byte}
 use Rattle.model.specs.declared.refusals.Refusal.TheVariants.{Memory}
@@ -9,16 +10,12 @@ use Rattle.model.specs.declared.replies.Reply.TheVariants.{Stopped, Refused}
 use Rattle.lines.specs.Serving.{reply_line}
 use Rattle.journal.specs.Promises.{tells_memory, memory_end, MemoryIsTold}
 
-drop_front : (xs ys : List ℕ) → drop (length xs) (xs ++ ys) ≡ ys
-drop_front [] ys = refl
-drop_front (x ∷ xs) ys = drop_front xs ys
-
 -- a text that ends so
 ends_so : (front : List ℕ) → tells_memory (front ++ memory_end) ≡ true
 ends_so front =
     let long : length (front ++ memory_end) - length memory_end ≡ length front = omega (arith, length-append front memory_end) in
     ap (λ n. pointwise (λ x y. x == y) memory_end (drop n (front ++ memory_end))) long
-    ∙ ap (pointwise (λ x y. x == y) memory_end) (drop_front front memory_end)
+    ∙ ap (pointwise (λ x y. x == y) memory_end) (drop-append_seam front memory_end)
 
 -- {"count":
 abbrev count_begins : List ℕ
