@@ -17,8 +17,8 @@ use Rattle.model.proofs.Places.{get_below}
 use Rattle.handler.specs.Inputs.{Input}
 use Rattle.compact.specs.Compact.{IsUnit, Progress, Unit, progress_after}
 use Rattle.compact.specs.Steps.{or_next}
+use Rattle.compact.proofs.Receipts.{refusal_append}
 use Rattle.rollback.specs.Units.{Recovering, asking, places}
-use Rattle.unit_steps.proofs.Both.{refusal_of_both}
 use Rattle.tenant.specs.Kept.{IsAsking, TenantState, Member}
 use Rattle.tenant.specs.Needs.{input_upon}
 use Rattle.tenant.specs.Outcomes.{done}
@@ -87,7 +87,7 @@ refused_stays M name live t w log s outcome r reply e told = (w, e ∙ ap (λ r.
 
 -- one that the first tests have
 pub refused_first : (w : World) (out : Outcome) (tests rest : List (Bool × Refusal)) (r : Refusal) → first_refusal tests ≡ Some r → outcome_or w out (first_refusal (tests ++ rest)) ≡ done (Refused r) w
-refused_first w out tests rest r e = ap (outcome_or w out) (refusal_of_both tests rest ∙ ap (λ o. or_next o (first_refusal rest)) e)
+refused_first w out tests rest r e = ap (outcome_or w out) (refusal_append tests rest ∙ ap (λ o. or_next o (first_refusal rest)) e)
 
 -- a unit that is not there
 pub refused_none : (w : World) (u : ℕ) (f : WorldMember → Outcome) → slice_get w.members u ≡ None → at_unit w u f ≡ done (Refused NoUnit) w

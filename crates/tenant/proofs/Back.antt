@@ -25,7 +25,7 @@ use Rattle.model.specs.Records.{IsHonest, quiet}
 use Rattle.model.specs.Steps.{Outcome, first_refusal, is_device, notice, restart, start_of}
 use Rattle.model.specs.World.{World, incarnation_of}
 use Rattle.model.proofs.Places.{get_below}
-use Rattle.theory.proofs.ListLaws.{get_set, set_get_other, set_get_same}
+use Rattle.theory.proofs.ListLaws.{get_set, set_get_other, set_get_same, true_lt}
 use Rattle.shared_log.specs.Logged.{Grows, IsLeftOf, Logged, places_of}
 use Rattle.shared_log.proofs.LeftLaws.{same_grows}
 use Rattle.orphan.specs.Tests.{is_orphan_by}
@@ -49,7 +49,7 @@ use Rattle.tenant.specs.Represents.{AreLast, IsCompact, IsMember, Leaves}
 use Rattle.tenant.proofs.Touching.{failing_asked, notice_asked, quiet_asked, restart_asked}
 use Rattle.tenant.proofs.Fetching.{whole_fetched}
 use Rattle.tenant.proofs.Follow.{KeepsUnit, is_up, keeps, leaves, no_unit, none_kept, not_up, with_one}
-use Rattle.tenant.proofs.Killing.{hold_cut, whole_hold}
+use Rattle.tenant.proofs.Killing.{hold_cut, whole_hold, few_places}
 use Rattle.tenant.proofs.Lasts.{last_taken}
 use Rattle.tenant.proofs.Standing.{closed}
 use Rattle.shared_log.proofs.PlacesLaws.{places_are}
@@ -92,14 +92,8 @@ none_true e f = cc (e, f)
 
 -- ---- numbers
 
-test_true : (a b : ℕ) → a < b → nat_lt a b ≡ true
-test_true a b h = grind (arith, nat_tests)
-
 spans : (kept stable base index : ℕ) → base ≤ index → min kept stable - 1 - base - (index - base) ≡ min kept stable - 1 - index
 spans kept stable base index h = omega (arith, h)
-
-pub not_above : (a b : ℕ) → nat_le a b ≡ true → a ≤ b
-not_above a b e = grind (arith, nat_tests)
 
 pub above : (a b : ℕ) → nat_le a b ≡ false → b < a
 above a b e = grind (arith, nat_tests)
@@ -193,7 +187,7 @@ module _ {S : Type 0} (M : Meaning S) (name : List ℕ) (t : TenantState S) (w :
           refused_closes (Notice u) said q after records honest device
           (leaves M name (live_in name after.records) whole (notice w u said) (reach_notice said) _ (record { reply = Refused q; state = k })
           (notices_follow M name k w whole st u said some_progress (λ y at less none. absurd (none_or_some (first_refusal (tests_of_back k u said)) q none e)))
-          (is_up t live k is u (notice_of k u said some_progress) m x up ∙ ap (λ b. cond b (going said some_progress) staying) (test_true (kept_places k x.unit) (all_of x.unit) cut) ∙ ap (or_refused k _) e)
+          (is_up t live k is u (notice_of k u said some_progress) m x up ∙ ap (λ b. cond b (going said some_progress) staying) (true_lt (kept_places k x.unit) (all_of x.unit) cut) ∙ ap (or_refused k _) e)
           t (same_live after records))
 
     -- ---- it goes back
@@ -318,14 +312,11 @@ module _ {S : Type 0} (M : Meaning S) (name : List ℕ) (t : TenantState S) (w :
         hold_after =
             let few : places r ≤ 2 ^ 32 = x.is.kept.few in
             let path = it.path in
-            hold_cut x.unit.hold (kept_places k x.unit) (all_of x.unit) (whole_hold M name k w whole st u x.unit x.at) (low (kept_places k x.unit) (all_of x.unit) target (places r) last long path) (limit (all_of x.unit) (places r) long few)
+            hold_cut x.unit.hold (kept_places k x.unit) (all_of x.unit) (whole_hold M name k w whole st u x.unit x.at) (low (kept_places k x.unit) (all_of x.unit) target (places r) last long path) (few_places (all_of x.unit) (places r) long few)
             ∙ (λ i. outputs_to (x.is.outputs i) (sym last i))
           where
             low : (n l target p : ℕ) → target + 1 ≡ n → l ≡ p → target < p → n ≤ l
             low n l target p e f h = omega (arith, e, f, h)
-
-            limit : (n p : ℕ) → n ≡ p → p ≤ 2 ^ 32 → n ≤ 4294967296
-            limit n p e h = omega (arith, e, h)
 
         abbrev v2 : TenantState S
         v2 = gone_back t u m target (incarnation_of t.table u + 1) wt.progress
@@ -422,7 +413,7 @@ module _ {S : Type 0} (M : Meaning S) (name : List ℕ) (t : TenantState S) (w :
             (closes (Notice u) quiet (Noticed (Some (record { incarnation = incarnation_of t.table u + 1; index = target + 1 }))) v2 after
             (leaves M name (live_in name after.records) whole (notice w u quiet) (reach_notice quiet) _ (record { reply = Noticed (Some (record { incarnation = incarnation_of t.table u + 1; index = target + 1 })); state = state })
             (notices_follow M name k w whole st u quiet p (λ y at less none. only (λ (z : Unit S). IsRebuilt M k z whole p) back.rebuilt y at))
-            (is_up t live k is u (notice_of k u quiet p) m x up ∙ ap (λ c. cond c (going quiet p) staying) (test_true (kept_places k x.unit) (all_of x.unit) (some_cut cut)) ∙ ap (or_refused k _) (no_refusal room) ∙ (λ i. record { reply = Noticed (Some (start_is i)); state = state }))
+            (is_up t live k is u (notice_of k u quiet p) m x up ∙ ap (λ c. cond c (going quiet p) staying) (true_lt (kept_places k x.unit) (all_of x.unit) (some_cut cut)) ∙ ap (or_refused k _) (no_refusal room) ∙ (λ i. record { reply = Noticed (Some (start_is i)); state = state }))
             v2 is_after)
             wt.grows (quiet_asked _) not_device)
 
@@ -469,7 +460,7 @@ module _ {S : Type 0} (M : Meaning S) (name : List ℕ) (t : TenantState S) (w :
           not_cut y at less =
               let e = same_Some x.unit y (sym x.at ∙ at) in
               let h : kept_places k x.unit < all_of x.unit = subst (λ (z : Unit S). kept_places k z < all_of z) (sym e) less in
-              none_true (test_true (kept_places k x.unit) (all_of x.unit) h) (all_kept whole_path)
+              none_true (true_lt (kept_places k x.unit) (all_of x.unit) h) (all_kept whole_path)
 
   pub restart_refused_by : (q : Refusal) → restart_refusal t.table u (slice_get t.members u) ≡ Some q → Did M name w t (Restart u) quiet (Refused q) before before
   restart_refused_by q e = go (slice_get t.members u) refl e

@@ -1,10 +1,9 @@
 -- Outputs that wait, all of earlier intervals than one more.
-use Rattle.std.proofs.Common.{◌≡◌, inl, inr, refl, ◌∙◌, ap, ℕ, suc, ◌+◌, ◌<◌, ◌≤◌, true, false, cond, List, [], ◌∷◌, ◌++◌, ◌-◌, length, arith}
+use Rattle.std.proofs.Common.{◌≡◌, inl, inr, refl, ◌∙◌, ap, ℕ, suc, ◌+◌, ◌<◌, ◌≤◌, true, cond, List, [], ◌∷◌, ◌++◌, ◌-◌, length, arith}
 use Rattle.std.specs.Prelude.{Some, slice_get, nat_lt}
 use Rattle.std.proofs.lemmas.List.{append-nil}
 use Rattle.std.proofs.lemmas.List.Sums.{take_while-cons}
-use Rattle.std.proofs.lemmas.Bool.Decides.{nat_tests}
-use Rattle.theory.proofs.ListLaws.{get_append_any, get_take_while, lt_true, map_at, take_while_passes, true_lt}
+use Rattle.theory.proofs.ListLaws.{get_append_any, get_take_while, lt_true, map_at, take_while_passes, true_lt, false_lt}
 use Rattle.model.specs.declared.names.Mark.{Mark}
 use Rattle.output_commit.specs.declared.held.Held.{Held}
 use Rattle.output_commit.specs.Holds.{held_below, held_of}
@@ -23,13 +22,10 @@ below_all (o ∷ os) rest n h =
     let first : nat_lt o.mark.index n ≡ true = true_lt o.mark.index n (h 0 o refl) in
     below_cons o (os ++ rest) n ∙ ap (λ b. cond b (o ∷ held_below (os ++ rest) n) []) first ∙ ap (λ xs. o ∷ xs) (below_all os rest n (λ i x e. h (suc i) x e))
 
-not_below : (n : ℕ) → nat_lt n n ≡ false
-not_below n = grind (arith, nat_tests)
-
 -- and none of an interval that is not
 none_below : (mark : Mark) (texts : List (List ℕ)) → held_below (held_of mark texts) mark.index ≡ []
 none_below mark [] = refl
-none_below mark (text ∷ texts) = below_cons (record { mark = mark; text = text }) (held_of mark texts) mark.index ∙ ap (λ b. cond b (record { mark = mark; text = text } ∷ held_below (held_of mark texts) mark.index) []) (not_below mark.index)
+none_below mark (text ∷ texts) = below_cons (record { mark = mark; text = text }) (held_of mark texts) mark.index ∙ ap (λ b. cond b (record { mark = mark; text = text } ∷ held_below (held_of mark texts) mark.index) []) (false_lt mark.index mark.index (omega arith))
 
 -- what was added is taken back
 pub added_back : (os : List Held) (mark : Mark) (texts : List (List ℕ)) (top : ℕ) → AreBelow os top → top ≤ mark.index → held_below (os ++ held_of mark texts) mark.index ≡ os

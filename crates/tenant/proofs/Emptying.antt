@@ -17,7 +17,7 @@ use Rattle.model.specs.Records.{letter_of, vector_of}
 use Rattle.model.specs.World.{Member, World, executed}
 use Rattle.model.proofs.Places.{get_below}
 use Rattle.theory.proofs.Certificate.{Invariant, reachable_invariant}
-use Rattle.theory.proofs.ListLaws.{any_at, any_none, at_map, bool_cases, eq_true, get_drop, get_set, get_take, or_cases, set_get_other, set_get_same, true_eq}
+use Rattle.theory.proofs.ListLaws.{any_at, any_none, at_map, bool_cases, eq_true, get_drop, get_set, get_take, or_cases, set_get_other, set_get_same, true_eq, or_false}
 use Rattle.layer_laws.specs.Laws.{frontier}
 use Rattle.compact.specs.Compact.{Compact, Interval, IsUnit, Letter, Unit, interval_of}
 use Rattle.compact.specs.Forgetting.{emptied}
@@ -47,10 +47,6 @@ shelf_base (Some b) n e = (b, refl, same_Some b.index n e)
 abbrev is_of : ℕ → Option ℕ → Bool
 is_of l None = false
 is_of l (Some n) = n == l
-
-or_false : (b : Bool) → b ≡ (b || false)
-or_false true = refl
-or_false false = refl
 
 or_true : (b : Bool) → true ≡ (b || true)
 or_true true = refl

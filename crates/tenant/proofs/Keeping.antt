@@ -23,7 +23,7 @@ use Rattle.model.specs.Keeping.{Shelf, after_join, after_open, after_return, cha
 use Rattle.model.specs.Steps.{Outcome, flush_reply, kind_or_0}
 use Rattle.model.specs.World.{World, Member as InWorld}
 use Rattle.model.proofs.Places.{get_below}
-use Rattle.theory.proofs.ListLaws.{at_map, set_get_same}
+use Rattle.theory.proofs.ListLaws.{at_map, set_get_same, set_same}
 use Rattle.session.specs.Counts.{Counts, sent_one}
 use Rattle.compact.specs.Compact.{Letter, Progress, Unit}
 use Rattle.compact.specs.Steps.{last_mark, letters_by, places as all_of}
@@ -58,11 +58,6 @@ pub no_letters : {S : Type 0} (t v : TenantState S) → v.letters ≡ t.letters 
 no_letters t v e = record { made = []; letters = e ∙ sym (append-nil t.letters); whole = λ i c h. absurd (cc h) }
 
 -- ---- checkpoints, by lists
-
-set_same : {X : Type 0} (xs : List X) (i : ℕ) (x : X) → slice_get xs i ≡ Some x → slice_set xs i x ≡ xs
-set_same [] i x e = refl
-set_same (y ∷ xs) zero x e = ap (λ z. z ∷ xs) (sym (same_Some y x e))
-set_same (y ∷ xs) (suc i) x e = ap (λ ys. y ∷ ys) (set_same xs i x e)
 
 abbrev of_member : {S : Type 0} → Member S → Shelf
 of_member m = shelf_of m.recovering

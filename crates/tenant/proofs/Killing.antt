@@ -51,6 +51,10 @@ whole_hold M name k w log s u x at =
     ∙ ap (held_outputs M w) same
     ∙ sym here.hold
 
+-- a path has as many places as an index tells apart, at most
+pub few_places : (n p : ℕ) → n ≡ p → p ≤ 2 ^ 32 → n ≤ 4294967296
+few_places n p e h = omega (arith, e, h)
+
 -- a cut to all that is stable
 pub hold_cut : (hold : List Held) (stable all : ℕ) → held_below hold all ≡ hold → stable ≤ all → all ≤ 4294967296 → held_below hold stable ≡ outputs_to hold stable
 hold_cut hold stable all whole h few = elim (bool_cases (nat_lt stable 4294967296)) [
@@ -90,7 +94,7 @@ module _ {S : Type 0} (M : Meaning S) (name : List ℕ) (live : ℕ → List ℕ
           kept = kept_killed r (killed r).outside (killed r).intervals (killed r).volatile (length r.intervals - length r.volatile) i.kept refl (omega (arith, some)) refl refl;
           seen = seen;
           own = i.own;
-          outputs = hold_cut x.hold x.stable (all_of x) (whole_hold M name k w log s.2 u x at) low (limit (all_of x) (places r) long few) ∙ (λ j. outputs_to (i.outputs j) (stable j));
+          outputs = hold_cut x.hold x.stable (all_of x) (whole_hold M name k w log s.2 u x at) low (few_places (all_of x) (places r) long few) ∙ (λ j. outputs_to (i.outputs j) (stable j));
           known = i.known;
           stable = i.stable ∙ ap (λ n. Some n) least;
           frontier = i.frontier;
@@ -100,9 +104,6 @@ module _ {S : Type 0} (M : Meaning S) (name : List ℕ) (live : ℕ → List ℕ
       where
         stable_low : (a p v n : ℕ) → a ≡ p - v → n ≡ p → a ≤ n
         stable_low a p v n e f = omega (arith, e, f)
-
-        limit : (n p : ℕ) → n ≡ p → p ≤ 2 ^ 32 → n ≤ 4294967296
-        limit n p e h = omega (arith, e, h)
 
     pub kill_done : is_some m.recovering.progress ≡ true → Leaves M name live (kill w u) (Killed (length m.recovering.volatile)) (record t { members = slice_set t.members u (killed_member m) }) log
     kill_done e =

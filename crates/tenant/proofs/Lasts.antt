@@ -1,13 +1,7 @@
 -- Places that are the last of a unit's live ones.
-use Rattle.std.proofs.Common.{◌≡◌, refl, sym, ◌∙◌, ap, ℕ, zero, suc, ◌+◌, ◌-◌, ◌≤◌, min, List, [], ◌∷◌, ◌++◌, length, take, drop, arith, length-append, length-drop, length-take}
-use Rattle.std.proofs.lemmas.List.{drop-append-le, drop-take}
+use Rattle.std.proofs.Common.{◌≡◌, sym, ◌∙◌, ap, ℕ, ◌+◌, ◌-◌, ◌≤◌, min, List, [], ◌++◌, length, take, drop, arith, length-append, length-drop, length-take}
+use Rattle.std.proofs.lemmas.List.{drop-append-le, drop-take, drop_all}
 use Rattle.tenant.specs.Represents.{AreLast}
-
-drop_all : {X : Type 0} (n : ℕ) (xs : List X) → length xs ≤ n → drop n xs ≡ []
-drop_all zero [] h = refl
-drop_all (suc n) [] h = refl
-drop_all zero (x ∷ xs) h = absurd (omega (arith, h))
-drop_all (suc n) (x ∷ xs) h = drop_all n xs (omega (arith, h))
 
 pub last_none : (live : List ℕ) → AreLast [] live
 last_none live = sym (drop_all (length live - 0) live (omega arith))

@@ -1,17 +1,13 @@
 -- Outputs that leave.
 use Rattle.std.proofs.Common.{◌≡◌, refl, sym, ◌∙◌, ap, ℕ, zero, suc, ◌+◌, ◌<◌, ◌≤◌, true, false, cond, List, [], ◌∷◌, ◌++◌, length, drop, map, arith}
 use Rattle.std.specs.Prelude.{Some, nat_lt, slice_get}
-use Rattle.std.proofs.lemmas.Bool.Decides.{nat_tests}
 use Rattle.std.proofs.lemmas.List.{append-nil, append_assoc}
 use Rattle.std.proofs.lemmas.List.Sums.{take_while-cons}
 use Rattle.std.proofs.lemmas.Option.{same_Some}
-use Rattle.theory.proofs.ListLaws.{true_lt}
+use Rattle.theory.proofs.ListLaws.{true_lt, false_lt}
 use Rattle.output_commit.specs.declared.held.Held.{Held}
 use Rattle.output_commit.specs.Holds.{held_below, first_is_firm}
 use Rattle.tenant.specs.Kept.{AreMoved, firm_texts, unfirm}
-
-not_lt : (a b : ℕ) → b ≤ a → nat_lt a b ≡ false
-not_lt a b h = grind (arith, nat_tests)
 
 -- the first of them is firm
 below_one : (f : ℕ) (o : Held) (left : List Held) → nat_lt o.mark.index f ≡ true → held_below (o ∷ left) f ≡ o ∷ held_below left f
@@ -71,4 +67,4 @@ firm_next f outputs i o e h =
 pub firm_end : (f : ℕ) (outputs : List Held) (i : ℕ) (o : Held) → slice_get outputs i ≡ Some o → f ≤ o.mark.index → firm_texts (drop i outputs) f ≡ []
 firm_end f outputs i o e h =
     ap (λ os. firm_texts os f) (dropped outputs i o e)
-    ∙ ap (λ (os : List Held). map (λ (h : Held). h.text) os) (below_none f o (drop (suc i) outputs) (not_lt o.mark.index f h))
+    ∙ ap (λ (os : List Held). map (λ (h : Held). h.text) os) (below_none f o (drop (suc i) outputs) (false_lt o.mark.index f h))

@@ -1,5 +1,5 @@
 -- A unit's base moves on, and the tenant stands for the world that it stood for.
-use Rattle.std.proofs.Common.{◌≡◌, ◌⊎◌, inl, inr, refl, sym, ◌∙◌, ap, subst, ℕ, zero, suc, ◌+◌, ◌-◌, ◌<◌, ◌≤◌, Bool, true, false, cond, min, List, [], ◌∷◌, ◌++◌, length, take, drop, arith, length-set, length-drop, append-nil}
+use Rattle.std.proofs.Common.{◌≡◌, ◌⊎◌, inl, inr, refl, sym, ◌∙◌, ap, subst, ℕ, suc, ◌+◌, ◌-◌, ◌<◌, ◌≤◌, Bool, true, false, cond, min, List, [], ◌∷◌, ◌++◌, length, take, drop, arith, length-set, length-drop, append-nil}
 use Rattle.std.specs.Prelude.{IfSome, Option, Some, None, slice_get, slice_set, nat_le, option_and_then, option_map, ◌==◌, bytes_eq}
 use Rattle.std.specs.List.{fold, list_any}
 use Rattle.std.specs.Option.{option_map_or}
@@ -15,7 +15,7 @@ use Rattle.model.specs.declared.steps.TenantStep.{TenantStep}
 use Rattle.model.specs.Failures.{HasRisen}
 use Rattle.model.specs.Handler.{Meaning}
 use Rattle.model.specs.World.{World}
-use Rattle.theory.proofs.ListLaws.{bool_cases, eq_same, eq_true, get_drop, get_set, get_take, le_true, or_left, or_right, true_eq}
+use Rattle.theory.proofs.ListLaws.{bool_cases, eq_same, eq_true, get_drop, get_set, get_take, le_true, or_left, or_right, true_eq, set_same}
 use Rattle.checkpoint.specs.declared.snapshot.Snapshot.{Snapshot as Shelf}
 use Rattle.checkpoint.specs.Shelves.{Shelved, based_at, has_index, is_at, later_of, nearest_of}
 use Rattle.compact.specs.Compact.{Compact, Interval, Letter, Represents, Snapshot, Unit}
@@ -95,11 +95,6 @@ next_within r f last e None g = tt
 next_within r f last e (Some b) g = let n = (next_is r f b (sym g)).1 in omega (arith, n, e)
 
 -- ---- lists
-
-set_same : {X : Type 0} (xs : List X) (i : ℕ) (x : X) → slice_get xs i ≡ Some x → slice_set xs i x ≡ xs
-set_same [] i x e = refl
-set_same (y ∷ xs) zero x e = ap (λ z. z ∷ xs) (sym (same_Some y x e))
-set_same (y ∷ xs) (suc i) x e = ap (λ ys. y ∷ ys) (set_same xs i x e)
 
 -- the last places without the first of both
 last_dropped : (own live : List ℕ) (n : ℕ) → AreLast own live → AreLast (drop n own) (drop n live)

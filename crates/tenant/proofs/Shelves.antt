@@ -8,7 +8,7 @@ use Rattle.std.proofs.lemmas.List.Sums.{take_while-cons}
 use Rattle.std.proofs.lemmas.Option.{same_Some}
 use Rattle.model.specs.Keeping.{Shelf, based, cut, later, put, with_room as room_of}
 use Rattle.model.specs.Lists.{has}
-use Rattle.theory.proofs.ListLaws.{any_at, bool_cases, eq_true, le_true, lt_true, true_le, true_lt}
+use Rattle.theory.proofs.ListLaws.{any_at, bool_cases, eq_true, le_true, lt_true, true_le, true_lt, false_lt}
 use Rattle.checkpoint.specs.declared.snapshot.Snapshot.{Snapshot}
 use Rattle.checkpoint.specs.Shelves.{Rises, cut_at, has_index, is_at, later_of, put_on, with_room}
 use Rattle.compact.specs.Compact.{Progress}
@@ -65,9 +65,6 @@ all_above n (x ∷ xs) h =
     ap (λ b. cond b (x.index ∷ filter (nat_lt n) (indices xs)) (filter (nat_lt n) (indices xs))) (true_lt n x.index (h 0 x refl))
     ∙ ap (λ is. x.index ∷ is) (all_above n xs (λ i y e. h (suc i) y e))
 
-not_below : (a b : ℕ) → b ≤ a → nat_lt a b ≡ false
-not_below a b low = elim (bool_cases (nat_lt a b)) [ inr e ↦ e | inl e ↦ absurd (let h = lt_true a b e in omega (arith, h, low)) ]
-
 one : (n : ℕ) → (1 + n) + 1 ≡ suc (n + 1)
 one n = omega arith
 
@@ -78,7 +75,7 @@ behind_is n [] rising e = absurd (cc e)
 behind_is {P} n (z ∷ xs) rising e = go (z.index == n) refl e (λ h. behind_is n xs (λ i j x y lt f g. rising (suc i) (suc j) x y (omega (arith, lt)) f g) h)
   where
     goes : z.index ≤ n → filter (nat_lt n) (indices (z ∷ xs)) ≡ filter (nat_lt n) (indices xs)
-    goes low = ap (λ b. cond b (z.index ∷ filter (nat_lt n) (indices xs)) (filter (nat_lt n) (indices xs))) (not_below n z.index low)
+    goes low = ap (λ b. cond b (z.index ∷ filter (nat_lt n) (indices xs)) (filter (nat_lt n) (indices xs))) (false_lt n z.index low)
 
     go : (b : Bool) → (z.index == n) ≡ b → (b || list_any (is_at n) xs) ≡ true → (list_any (is_at n) xs ≡ true → indices (drop (position_or_len (is_at n) xs + 1) xs) ≡ filter (nat_lt n) (indices xs))
         → indices (drop (cond (not b) (1 + prefix_len (λ y. not (is_at n y)) xs) 0 + 1) (z ∷ xs)) ≡ filter (nat_lt n) (indices (z ∷ xs))

@@ -2,7 +2,7 @@ use Rattle.std.proofs.Common.{sym, ◌∙◌, ◌+◌, length}
 use Rattle.std.proofs.lemmas.Option.{slice_get_within}
 use Rattle.rollback.specs.Units.{places}
 use Rattle.tenant.specs.Kept.{Member}
-use Rattle.tenant.proofs.Back.{above, not_above, notice_learns, notice_not_up, notice_returns, notice_worn}
+use Rattle.tenant.proofs.Back.{above, notice_learns, notice_not_up, notice_returns, notice_worn}
 use Rattle.tenant.proofs.Others.{either_beside, returned_beside}
 use Rattle.tenant.proofs.Results.{if_ok}
 use Rattle.tenant.proofs.Standing.{opened}
@@ -11,6 +11,7 @@ use Rattle.model.specs.declared.names.Start.{Start}
 use Rattle.tenant.specs.Kept.{TenantState}
 use Rattle.tenant.proofs.Keeping.{no_letters, one_same, returned_shelves}
 use Rattle.tenant.proofs.tenant.Tenant.notice.Goals as goal
+use Rattle.theory.proofs.ListLaws.{le_true}
 
 pub returns-in-Err-clause-did : goal.returns-in-Err-clause-did
 returns-in-Err-clause-did g c = λ w s.
@@ -29,7 +30,7 @@ returns-then-is_last-clause-did g c = λ w s.
     let target = c.in-Some.target in
     rw (c.learn_rows.ensures m found, c.twice.ensures.reply, c.twice.ensures.plain.1)
     (notice_learns g.H.Handler.meaning c.args.tenant.now c.args.self.now w c.args.log.now (opened s) c.args.unit m found target (c.in-Some.ensures.target m found) (c.in-Some.ensures.kept m found) c.in-Ok.ensures.up
-    (not_above (places m.recovering) (target + 1) (sym (c.is_last.ensures m found) ∙ c.if-is_last.true)))
+    (le_true (places m.recovering) (target + 1) (sym (c.is_last.ensures m found) ∙ c.if-is_last.true)))
 
 pub returns-then-is_worn_out-clause-did : goal.returns-then-is_worn_out-clause-did
 returns-then-is_worn_out-clause-did g c = λ w s.
