@@ -36,7 +36,7 @@ use Rattle.rollback_laws.proofs.Places.{places_are_seen}
 use Rattle.rollback_laws.proofs.Standing.{units_are_ready}
 use Rattle.unit_steps.specs.Receipts.{IsFrontier, frontier_of}
 use Rattle.unit_steps.proofs.Seen.{frontiers_go_on}
-use Rattle.tenant.specs.Kept.{IsFlushed, TenantState, Member, flushed_member, up_refusal}
+use Rattle.tenant.specs.Kept.{MakesStable, TenantState, Member, flushed_member, up_refusal}
 use Rattle.tenant.specs.Stands.{Did, IsStanding, live_in}
 use Rattle.tenant.specs.Represents.{AreLast, IsCompact, IsMember}
 use Rattle.tenant.proofs.Follow.{KeepsUnit, is_up, keeps, leaves, not_up}
@@ -107,7 +107,7 @@ module _ {S : Type 0} (M : Meaning S) (name : List ℕ) (t : TenantState S) (w :
 
   module _ (m : Member S) (found : slice_get t.members u ≡ Some m) (up : is_some m.recovering.progress ≡ true) (after : Logged) (v : TenantState S) (said : Said)
       (logged : after.records ≡ before.records ++ map Some (take said.appended m.recovering.volatile)) (few : said.appended ≤ length m.recovering.volatile)
-      (ended : (said.end ≡ Whole) ↔ (said.appended ≡ length m.recovering.volatile)) (some : said.end ≡ NoMemory → 0 < said.appended) (f : IsFlushed t u said.appended m v) where
+      (ended : (said.end ≡ Whole) ↔ (said.appended ≡ length m.recovering.volatile)) (some : said.end ≡ NoMemory → 0 < said.appended) (f : MakesStable t u said.appended m v) where
     abbrev r : Recovering S
     r = m.recovering
 

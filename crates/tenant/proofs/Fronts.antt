@@ -7,7 +7,7 @@ use Rattle.model.proofs.Places.{get_below}
 use Rattle.theory.proofs.ListLaws.{set_get_other, set_get_same}
 use Rattle.unit_steps.specs.Receipts.{IsFrontier, frontier_of}
 use Rattle.rollback.specs.Units.{stable_places}
-use Rattle.tenant.specs.Kept.{GoOn, IsFlushed, TenantState, Member, flushed_member}
+use Rattle.tenant.specs.Kept.{GoOn, MakesStable, TenantState, Member, flushed_member}
 
 module _ {S : Type 0} (table : List Row) (lengths : List ℕ) (members : List (Member S)) (old : List ℕ) where
   -- those before this place have gone on
@@ -47,7 +47,7 @@ module _ {S : Type 0} (v : TenantState S) (u count at : ℕ) (same : at ≡ u) (
   there_too = ap (slice_get v.members) same ∙ found
 
   pub flushed_by : (seen_members : List (Member S)) (seen_lengths : List ℕ) → seen_members ≡ members → seen_lengths ≡ lengths → GoOn v.table seen_lengths seen_members v.frontiers fronts
-      → IsFlushed v u count m (record v { members = members; stable_lengths = lengths; frontiers = fronts })
+      → MakesStable v u count m (record v { members = members; stable_lengths = lengths; frontiers = fronts })
   flushed_by seen_members seen_lengths a b go = record {
     quota = refl;
     optimism = refl;

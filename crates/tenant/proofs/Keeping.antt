@@ -34,7 +34,7 @@ use Rattle.shared_log.specs.Logged.{Logged}
 use Rattle.rollback_laws.specs.Seen.{IsSeen}
 use Rattle.tenant.specs.declared.answer.Answer.{Answer}
 use Rattle.tenant.specs.Keeping.{AddsLetters, Bases, IsKeeping, KeepsOn, KeepsPast, OpensPast, SameShelves, Shelves, shelf_of, shelves_of}
-use Rattle.tenant.specs.Kept.{IsFlushed, TenantState, Member, checkpointed_member, fitted_member, flushed_member, gone_back, joined_kept, opened_kept, received_kept, received_member, with_begun}
+use Rattle.tenant.specs.Kept.{MakesStable, TenantState, Member, checkpointed_member, fitted_member, flushed_member, gone_back, joined_kept, opened_kept, received_kept, received_member, with_begun}
 use Rattle.tenant.specs.Outcomes.{done}
 use Rattle.tenant.specs.Represents.{StandsFor}
 use Rattle.tenant.specs.Returns.{Returns}
@@ -276,7 +276,7 @@ module _ {S : Type 0} (M : Meaning S) (name : List ℕ) (t mid v : TenantState S
 
 -- ---- a flush
 
-module _ {S : Type 0} (M : Meaning S) (name : List ℕ) (t mid v : TenantState S) (before middle : Logged) (u : ℕ) (m : Member S) (said : Said) (found : slice_get t.members u ≡ Some m) (f : IsFlushed t u said.appended m mid)
+module _ {S : Type 0} (M : Meaning S) (name : List ℕ) (t mid v : TenantState S) (before middle : Logged) (u : ℕ) (m : Member S) (said : Said) (found : slice_get t.members u ≡ Some m) (f : MakesStable t u said.appended m mid)
     (done_so : (w : World) → Stands M name t w before.records → Did M name w mid (Flush u) said (flush_reply said.end said.appended) before middle)
     (moved : (w : World) (shelves : List Shelf) → Stands M name mid w middle.records → KeepsPast mid w shelves → KeepsPast v w (where_added w said.appended shelves)) where
   after_is : (end : End) (z : World) (shelves : List Shelf) → shelves_after z (Flush u) (flush_reply end said.appended) shelves ≡ where_added z said.appended shelves

@@ -149,7 +149,7 @@ GoOn {S} table stable_lengths members before after =
     → slice_get after u ≡ Some (frontier_of table stable_lengths m.recovering f)
 
 -- So many more intervals of the unit are stable, and the frontiers have gone on. All else is as it was.
-pub record IsFlushed {S : Type 0} (before : TenantState S) (u count : ℕ) (m : Member S)
+pub record MakesStable {S : Type 0} (before : TenantState S) (u count : ℕ) (m : Member S)
     (after : TenantState S) : Type 0 where
   pub quota : after.quota ≡ before.quota
   pub optimism : after.optimism ≡ before.optimism

@@ -10,7 +10,7 @@ ghost use Rattle.model.specs.declared.steps.TenantStep.TheVariants.{Flush};
 ghost use Rattle.rollback.specs.Units.{stable_places};
 ghost use Rattle.unit_steps.specs.Receipts.{IsFrontier, frontier_of};
 ghost use Rattle.tenant.specs.Keeping.{KeepsOn};
-ghost use Rattle.tenant.specs.Kept.{GoOn, IsFlushed, TenantState, Member as MemberOf, flushed_member};
+ghost use Rattle.tenant.specs.Kept.{GoOn, MakesStable, TenantState, Member as MemberOf, flushed_member};
 ghost use Rattle.tenant.specs.Stands.{Did, Stands};
 
 use crate::answer::Answer;
@@ -180,7 +180,7 @@ impl<H: Handler> Tenant<H> {
         requires few { (m : MemberOf H.State) → slice_get self.old.members unit ≡ Some m
             → count ≤ length m.recovering.volatile }
         ensures { (m : MemberOf H.State) → slice_get self.old.members unit ≡ Some m
-            → IsFlushed self.old unit count m self.new }
+            → MakesStable self.old unit count m self.new }
     {
         mark_stable(
             &mut self.members,
