@@ -128,7 +128,7 @@ pub record IsAnswered {S : Type 0} (M : Meaning S) (step : Step) (said : Said) (
   pub others_stand : KeepsOthers M (addressed step).0 before.log.records after.log.records
 
 -- the tenants and the log's records are as they were, and the count of the device's failures never falls
-pub record IsKept {K : Type 0} (before after : Holding K) : Type 0 where
+pub record HoldsAsBefore {K : Type 0} (before after : Holding K) : Type 0 where
   pub tenants : (tenant : List ℕ) → after.at tenant ≡ before.at tenant
   pub order : after.names ≡ before.names
   pub records : after.log.records ≡ before.log.records

@@ -12,7 +12,7 @@ ghost use Rattle.shared_log.specs.Logged.{Logged};
 ghost use Rattle.book.specs.Commits.{needs_at};
 ghost use Rattle.book.specs.Entries.{memory_reply as reply_of_memory};
 ghost use Rattle.book.specs.Keeping.{KeepsOnAt};
-ghost use Rattle.book.specs.History.{DidAt, IsAnswered, IsKept, KeepsOthers, LogsAt, StepsAt, holding, opened_by};
+ghost use Rattle.book.specs.History.{DidAt, IsAnswered, HoldsAsBefore, KeepsOthers, LogsAt, StepsAt, holding, opened_by};
 
 use handler::{Ask, Done, Handler};
 use indexmap::IndexMap;
@@ -185,7 +185,7 @@ pub(crate) fn answer<H: Handler, S: Store>(
     ensures kept { IfOk result (λ a. a.kept ≡ a.reply) }
     ensures answered { IfOk result (λ a.
         IsAnswered H.meaning step.now a.said a.reply (holding tenants.old log.old) (holding tenants.new log.new)) }
-    ensures err { OnErr result (IsKept (holding tenants.old log.old) (holding tenants.new log.new)) }
+    ensures err { OnErr result (HoldsAsBefore (holding tenants.old log.old) (holding tenants.new log.new)) }
 {
     let own_step = step.tenant_step(alloc)?;
     let name = step.tenant();
@@ -266,9 +266,9 @@ pub(crate) fn answer_with<H: Handler, S: Store>(
     ensures answered { IfOk result (λ o.
         IfSome o (λ a.
         IsAnswered H.meaning step.now a.said a.reply (holding tenants.old log.old) (holding tenants.new log.new))) }
-    ensures stale { IfOk result (λ o. IfNone o (IsKept (holding tenants.old log.old) (holding tenants.new log.new))) }
+    ensures stale { IfOk result (λ o. IfNone o (HoldsAsBefore (holding tenants.old log.old) (holding tenants.new log.new))) }
     ensures stale_log { IfOk result (λ o. IfNone o (log.new ≡ log.old)) }
-    ensures err { OnErr result (IsKept (holding tenants.old log.old) (holding tenants.new log.new)) }
+    ensures err { OnErr result (HoldsAsBefore (holding tenants.old log.old) (holding tenants.new log.new)) }
 {
     let own_step = step.tenant_step(alloc)?;
     let name = step.tenant();
