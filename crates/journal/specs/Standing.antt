@@ -9,8 +9,8 @@ EndsWith None bytes = ⊤
 EndsWith (Some all) bytes = (before : List ℕ) × (all ≡ before ++ bytes)
 
 -- these are the last bytes of a file, and all that it has is synced
-abbrev pub IsStanding : Option (List ℕ) → Option (List ℕ) → List ℕ → Type 0
-IsStanding contents synced bytes = EndsWith contents bytes × Keeps contents synced
+abbrev pub EndsSynced : Option (List ℕ) → Option (List ℕ) → List ℕ → Type 0
+EndsSynced contents synced bytes = EndsWith contents bytes × Keeps contents synced
 
 -- a reader that journals: the reader below, the file, what was read and could not be made to last, how many lines were ended in the file (at most 2 ^ 64 - 1), whether the file ends with a line feed or is empty, and whether the file failed
 pub record Journal (R F : Type 0) : Type 0 where

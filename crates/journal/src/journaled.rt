@@ -4,7 +4,7 @@ ghost use Rattle.std.specs.Prelude.{◌≡◌, ◌<◌, ◌≤◌, ◌+◌, ◌-
 ghost use Rattle.std.specs.Io.{ReadsAtMost};
 ghost use Rattle.std.specs.Io.KnownBytes.{Appends, Keeps, ReadConsumes};
 ghost use Rattle.journal.specs.Measuring.{line_feeds};
-ghost use Rattle.journal.specs.Standing.{IsStanding, lasting, left, ends_after};
+ghost use Rattle.journal.specs.Standing.{EndsSynced, lasting, left, ends_after};
 
 use crate::durable::Durable;
 use std::alloc::{AllocError, Global};
@@ -94,7 +94,7 @@ impl<R: Read, F: Durable> Read for Journaled<R, F> {
             Appends (F.contents self.old.file) (F.contents self.new.file)
             (lasting self.old.is_ended (take n buf.new))) }
         ensures stands { 0 < length buf.old
-            → IfOk result (λ n. IsStanding (F.contents self.new.file) (F.synced self.new.file) (take n buf.new)) }
+            → IfOk result (λ n. EndsSynced (F.contents self.new.file) (F.synced self.new.file) (take n buf.new)) }
         ensures ended { 0 < length buf.old → IfOk result (λ n. self.new.is_ended ≡ ends_after (take n buf.new)) }
         ensures lines { 0 < length buf.old
             → IfOk result (λ n.
@@ -132,7 +132,7 @@ fn failed() -> io::Error {
 /// Appends what lasts of a block, and syncs it. Tells how many lines end in it.
 fn make_last<F: Durable>(file: &mut F, block: &[u8], is_ended: &mut bool) -> Result<u64, Failed>
     ensures grows { OnOk result (Appends (F.contents file.old) (F.contents file.new) (lasting is_ended.old block.now)) }
-    ensures stands { OnOk result (IsStanding (F.contents file.new) (F.synced file.new) block.now) }
+    ensures stands { OnOk result (EndsSynced (F.contents file.new) (F.synced file.new) block.now) }
     ensures ended { OnOk result (is_ended.new ≡ ends_after block.now) }
     ensures lines { IfOk result (λ n. n ≡ line_feeds (lasting is_ended.old block.now)) }
 {
@@ -148,7 +148,7 @@ fn make_last<F: Durable>(file: &mut F, block: &[u8], is_ended: &mut bool) -> Res
 #[tactic(auto, using(crate::proofs::Ends::ends_with_none))]
 fn end_file<F: Durable>(file: &mut F, is_ended: &mut bool) -> Result<u64, Failed>
     ensures grows { OnOk result (Appends (F.contents file.old) (F.contents file.new) (lasting is_ended.old [])) }
-    ensures stands { OnOk result (IsStanding (F.contents file.new) (F.synced file.new) []) }
+    ensures stands { OnOk result (EndsSynced (F.contents file.new) (F.synced file.new) []) }
     ensures ended { OnOk result (is_ended.new ≡ true) }
     ensures lines { IfOk result (λ n. n ≡ line_feeds (lasting is_ended.old [])) }
 {
@@ -164,7 +164,7 @@ fn end_file<F: Durable>(file: &mut F, is_ended: &mut bool) -> Result<u64, Failed
 /// Appends bytes and syncs the file.
 fn put_synced<F: Durable>(file: &mut F, bytes: &[u8]) -> Result<(), Failed>
     ensures grows { OnOk result (Appends (F.contents file.old) (F.contents file.new) bytes.now) }
-    ensures stands { OnOk result (IsStanding (F.contents file.new) (F.synced file.new) bytes.now) }
+    ensures stands { OnOk result (EndsSynced (F.contents file.new) (F.synced file.new) bytes.now) }
 {
     put_all(file, bytes)?;
     match file.sync() {
