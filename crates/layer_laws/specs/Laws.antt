@@ -87,7 +87,7 @@ IsCountedOne c (Some source) = IsCounted c source
 
 -- The sessions along a path with one more node are those before it with its receipt and its sends counted,
 -- and all of these can be counted.
-pub record GoesOn {S : Type 0} (M : Meaning S) (w : World) (path : List ℕ) (x : ℕ) : Type 0 where
+pub record SessionsGoOnBy {S : Type 0} (M : Meaning S) (w : World) (path : List ℕ) (x : ℕ) : Type 0 where
   pub more : sessions_along M w.nodes (length w.members) (path ++ x ∷ [])
       ≡ sent_all (taken_one (sessions_along M w.nodes (length w.members) path) (source_of w.nodes (node_at w.nodes x).cause)) (from_end (executed M w).sends x [])
   pub source : IsCountedOne (sessions_along M w.nodes (length w.members) path) (source_of w.nodes (node_at w.nodes x).cause)
@@ -96,7 +96,7 @@ pub record GoesOn {S : Type 0} (M : Meaning S) (w : World) (path : List ℕ) (x 
 -- At first a unit's sessions are none, and they go on along its path.
 abbrev pub SessionsGoOn : {S : Type 0} → Meaning S → Type 0
 SessionsGoOn M = (w : World) → Reachable M w → (sessions_along M w.nodes (length w.members) [] ≡ no_counts (length w.members))
-    × ((u : ℕ) (m : Member) → slice_get w.members u ≡ Some m → (i x : ℕ) → slice_get m.path i ≡ Some x → GoesOn M w (take i m.path) x)
+    × ((u : ℕ) (m : Member) → slice_get w.members u ≡ Some m → (i x : ℕ) → slice_get m.path i ≡ Some x → SessionsGoOnBy M w (take i m.path) x)
 
 -- ---- orphans and what is unstable
 
