@@ -19,7 +19,7 @@ use Rattle.book.specs.Entries.{Ledger, memory_reply}
 use Rattle.forms.specs.Reading.{step_of_line}
 use Rattle.lines.specs.Lines.{LinesRead}
 use Rattle.written.specs.Beginnings.{AppendsBeginning}
-use Rattle.lines.specs.Serving.{line_step, Answered, AnsweredLine, Serves, IsRemembered, told, entered_before, IsBadOr, EntersEach, reply_line, ServedSome, TookLine, Broken}
+use Rattle.lines.specs.Serving.{line_step, AnsweredStep, AnsweredLine, Serves, IsRemembered, told, entered_before, IsBadOr, EntersEach, reply_line, ServedSome, TookLine, Broken}
 use Rattle.lines.proofs.Parts.{LinesRead-more, TakesPart-none}
 
 -- a line that is too long is no step
@@ -29,10 +29,10 @@ line_step-long line long = ap (λ b. cond b (step_of_line line) None) (lt-leb (l
 
 -- a line that is too long, answered
 pub long_answered : (line : List ℕ) (old : Ledger) → MAX_LINE_BYTES < length line → AnsweredLine line old (Refused BadLine) old
-long_answered line old long = (subst (λ s. Answered s old (Refused BadLine) old) (sym (line_step-long line long)) (inr (refl, refl)), λ _. refl)
+long_answered line old long = (subst (λ s. AnsweredStep s old (Refused BadLine) old) (sym (line_step-long line long)) (inr (refl, refl)), λ _. refl)
 
 -- a line that was held, answered
-pub held_answered : (line : List ℕ) (old new : Ledger) (reply : Reply) → length line ≤ MAX_LINE_BYTES → Answered (line_step line) old reply new → AnsweredLine line old reply new
+pub held_answered : (line : List ℕ) (old new : Ledger) (reply : Reply) → length line ≤ MAX_LINE_BYTES → AnsweredStep (line_step line) old reply new → AnsweredLine line old reply new
 held_answered line old new reply fits answered = (answered, λ long. absurd (omega (arith, long)))
 
 -- what stays and then grows
@@ -113,7 +113,7 @@ memory_reply_is (Release tenant unit) reply kept is = absurd (kept.0 is)
 memory_reply_is (Status tenant unit) reply kept is = absurd (kept.0 is)
 
 -- what one line adds to the history, before what later lines add
-one_line : (read : Option Step) (old mid : Ledger) (reply : Reply) → IsRemembered reply → Answered read old reply mid
+one_line : (read : Option Step) (old mid : Ledger) (reply : Reply) → IsRemembered reply → AnsweredStep read old reply mid
     → IsBadOr read reply × (entries : List Entry) × (mid.history ≡ old.history ++ entries) × ((others : List Entry) → map told (entries ++ others) ≡ entered_before read reply (map told others))
 one_line None old mid reply kept (inl (is, same)) = absurd (kept.0 is)
 one_line None old mid reply kept (inr (is, same)) = (is, [], ap (λ l. l.history) same ∙ sym (append-nil old.history), λ others. refl)

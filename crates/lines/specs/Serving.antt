@@ -34,13 +34,13 @@ abbrev pub IsUnread : Ledger → Reply → Ledger → Type 0
 IsUnread old reply new = (reply ≡ Refused Memory) × (new ≡ old)
 
 -- A line that is no step was told to be bad, and a step was entered, or the line was not read for want of memory.
-abbrev pub Answered : Option Step → Ledger → Reply → Ledger → Type 0
-Answered None old reply new = IsUnread old reply new ⊎ ((reply ≡ Refused BadLine) × (new ≡ old))
-Answered (Some step) old reply new = IsUnread old reply new ⊎ IsEntered old Caller step reply new
+abbrev pub AnsweredStep : Option Step → Ledger → Reply → Ledger → Type 0
+AnsweredStep None old reply new = IsUnread old reply new ⊎ ((reply ≡ Refused BadLine) × (new ≡ old))
+AnsweredStep (Some step) old reply new = IsUnread old reply new ⊎ IsEntered old Caller step reply new
 
 -- a line was answered, and one that is too long was told to be bad whatever memory there was
 abbrev pub AnsweredLine : List ℕ → Ledger → Reply → Ledger → Type 0
-AnsweredLine line old reply new = Answered (line_step line) old reply new × (MAX_LINE_BYTES < length line → reply ≡ Refused BadLine)
+AnsweredLine line old reply new = AnsweredStep (line_step line) old reply new × (MAX_LINE_BYTES < length line → reply ≡ Refused BadLine)
 
 -- a reply's line, with its line feed
 abbrev pub reply_line : Reply → List ℕ
