@@ -65,13 +65,13 @@ pub record IsKept {S : Type 0} (u : Recovering S) : Type 0 where
 -- ---- a receipt
 
 -- The counts have room for a receipt and so many sends, and an entry for each unit within the width.
-pub record Fits (c : Counts) (source : Source) (width count : ℕ) : Type 0 where
+pub record CountsFit (c : Counts) (source : Source) (width count : ℕ) : Type 0 where
   pub room : HasRoom c source count
   pub within : width ≤ length c.units
 
 -- the progress after a receipt from the source and its turn
-abbrev pub after_turn : {S : Type 0} → Progress S → Source → ℕ → Turn S → Progress S
-after_turn p source width turn = record { state = turn.state; sessions = sent_all (advanced p.sessions source) (sends_within width turn) }
+abbrev pub progress_after_turn : {S : Type 0} → Progress S → Source → ℕ → Turn S → Progress S
+progress_after_turn p source width turn = record { state = turn.state; sessions = sent_all (advanced p.sessions source) (sends_within width turn) }
 
 -- what a turn sends to which units, and what it puts out
 pub record Effects : Type 0 where
@@ -113,8 +113,8 @@ abbrev pub marked_stable : {S : Type 0} → Recovering S → ℕ → Recovering 
 marked_stable u count = record u { volatile = drop count u.volatile }
 
 -- without progress and without the intervals that are not stable
-abbrev pub killed : {S : Type 0} → Recovering S → Recovering S
-killed u =
+abbrev pub killed_recovering : {S : Type 0} → Recovering S → Recovering S
+killed_recovering u =
     let kept = length u.intervals - length u.volatile in
     record u { progress = None; outside = u.outside - from_outside (drop kept u.intervals); intervals = take kept u.intervals; volatile = [] }
 

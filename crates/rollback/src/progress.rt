@@ -6,7 +6,7 @@ ghost use Rattle.session.specs.Counts.{sent_to, widened};
 ghost use Rattle.layer_laws.specs.Laws.{sent_all};
 ghost use Rattle.compact.specs.Compact.{Progress as ProgressOf, fitted};
 ghost use Rattle.compact.specs.Steps.{first_progress};
-ghost use Rattle.rollback.specs.Units.{after_turn, effects_of, Fits};
+ghost use Rattle.rollback.specs.Units.{progress_after_turn, effects_of, CountsFit};
 
 use crate::effects::Effects;
 use handler::{Handler, Turn};
@@ -59,7 +59,7 @@ pub(crate) fn copy<H: Handler>(
 
 /// Whether a receipt from the source can be counted, and so many sends to units within the width.
 pub(crate) fn has_room(sessions: &Sessions, source: Source, sends: usize, width: usize) -> bool
-    ensures { IsTrue result ↔ Fits sessions.now source width sends }
+    ensures { IsTrue result ↔ CountsFit sessions.now source width sends }
 {
     width <= sessions.len() && sessions.has_room(source, sends)
 }
@@ -72,8 +72,8 @@ pub(crate) fn advance<S: Drop>(
     turn: Turn<S>,
     width: usize,
 ) -> Effects
-    requires { Fits progress.old.sessions source width (length turn.sends) }
-    ensures progress { progress.new ≡ after_turn progress.old source width turn }
+    requires { CountsFit progress.old.sessions source width (length turn.sends) }
+    ensures progress { progress.new ≡ progress_after_turn progress.old source width turn }
     ensures effects { result ≡ effects_of turn }
 {
     let Turn {
@@ -108,7 +108,7 @@ pub(crate) fn has_room_in<S>(
     sends: usize,
     width: usize,
 ) -> bool
-    ensures { IsTrue result → (p : ProgressOf S) → progress.now ≡ Some p → Fits p.sessions source width sends }
+    ensures { IsTrue result → (p : ProgressOf S) → progress.now ≡ Some p → CountsFit p.sessions source width sends }
 {
     match progress {
         Some(progress) => has_room(&progress.sessions, source, sends, width),
@@ -123,8 +123,8 @@ pub(crate) fn go_on<S: Drop>(
     turn: Turn<S>,
     width: usize,
 ) -> Effects
-    requires { (p : ProgressOf S) → progress.old ≡ Some p → Fits p.sessions source width (length turn.sends) }
-    ensures progress { progress.new ≡ option_map (λ p. after_turn p source width turn) progress.old }
+    requires { (p : ProgressOf S) → progress.old ≡ Some p → CountsFit p.sessions source width (length turn.sends) }
+    ensures progress { progress.new ≡ option_map (λ p. progress_after_turn p source width turn) progress.old }
     ensures effects { result ≡ effects_of turn }
 {
     match progress {

@@ -11,7 +11,7 @@ ghost use Rattle.session.specs.Counts.{widened};
 ghost use Rattle.compact.specs.Compact.{Progress as ProgressOf};
 ghost use Rattle.compact.specs.Laws.{replayed};
 ghost use Rattle.compact.specs.Steps.{from_outside};
-ghost use Rattle.rollback.specs.Units.{asking, begun_unit, checkpointed, cut_behind, effects_of, forgotten, killed, marked_stable, places, records_to, restored, stable_places, took, widened_to, BeginsBy, CountsOutside, Fits, IsTarget, KeepsShelved, OrphansAreTail};
+ghost use Rattle.rollback.specs.Units.{asking, begun_unit, checkpointed, cut_behind, effects_of, forgotten, killed_recovering, marked_stable, places, records_to, restored, stable_places, took, widened_to, BeginsBy, CountsOutside, CountsFit, IsTarget, KeepsShelved, OrphansAreTail};
 
 use crate::effects::Effects;
 use crate::interval::Interval;
@@ -234,7 +234,7 @@ impl<H: Handler> RecoveryUnit<H> {
     /// Whether the unit is up and can count the receipt of a record and so many sends.
     fn has_room(&self, logged: &Record, sends: usize) -> bool
         ensures { IsTrue result → (p : ProgressOf H.State) → self.now.progress ≡ Some p
-            → Fits p.sessions logged.now.source (length logged.now.vector) sends }
+            → CountsFit p.sessions logged.now.source (length logged.now.vector) sends }
     {
         let width = logged.vector.as_slice().len();
         progress::has_room_in(&self.progress, logged.source, sends, width)
@@ -252,7 +252,7 @@ impl<H: Handler> RecoveryUnit<H> {
     /// lost. Takes no memory, and time by the intervals that go.
     pub fn kill(&mut self) -> u64
         ensures lost { result ≡ length self.old.volatile }
-        ensures unit { self.new ≡ killed self.old }
+        ensures unit { self.new ≡ killed_recovering self.old }
         ensures outside { (before : ℕ) → CountsOutside before self.old → CountsOutside before self.new }
     {
         let lost = self.volatile.clear();

@@ -8,7 +8,7 @@ use Rattle.model.specs.Handler.{Meaning}
 use Rattle.volatile_log.specs.Logs.{records_below}
 use Rattle.compact.specs.Compact.{Snapshot, Unit}
 use Rattle.compact.specs.Steps.{flushed_unit, from_outside, killed_unit}
-use Rattle.rollback.specs.Units.{Recovering, IsKept, killed, marked_stable}
+use Rattle.rollback.specs.Units.{Recovering, IsKept, killed_recovering, marked_stable}
 use Rattle.rollback.proofs.Cuts.{below_is, all_pass}
 use Rattle.rollback_laws.specs.Seen.{IsSeen, shelved_as}
 use Rattle.rollback_laws.specs.Laws.{FlushesAreSeen, FrontiersAreSeen, KillsAreSeen}
@@ -39,7 +39,7 @@ module _ {S : Type 0} (r : Recovering S) (x : Unit S) (k : IsKept r) (s : IsSeen
       let none : st - st ≡ 0 = omega arith in
       (λ i. records_below (s.volatile i) (s.stable i)) ∙ below_is r.volatile st st k.marks ∙ ap (λ n. take n r.volatile) none
 
-  kill_seen : IsSeen (killed r) (killed_unit x)
+  kill_seen : IsSeen (killed_recovering r) (killed_unit x)
   kill_seen = record {
     seat = s.seat;
     up = refl;

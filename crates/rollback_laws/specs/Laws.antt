@@ -13,7 +13,7 @@ use Rattle.compact.specs.Compact.{Compact, Interval, Progress, Snapshot, Unit}
 use Rattle.compact.specs.Steps.{Receipt, first_unit, fitted_unit, flushed_unit, going_on, kept_places, killed_unit, last_vector, next_record, places as all_of, receiving_unit, shelved_unit, turn_of_receipt}
 use Rattle.compact.specs.StepLaws.{StandsCompact}
 use Rattle.compact.specs.Forgetting.{rebased}
-use Rattle.rollback.specs.Units.{Recovering, IsKept, IsTarget, asking, begun_unit, checkpointed, forgotten, killed, marked_stable, places, took, widened_to}
+use Rattle.rollback.specs.Units.{Recovering, IsKept, IsTarget, asking, begun_unit, checkpointed, forgotten, killed_recovering, marked_stable, places, took, widened_to}
 use Rattle.rollback_laws.specs.Seen.{BeginsAt, HasPlaces, IsRead, IsReady, IsRestored, IsSeen}
 
 -- ---- beginning and joins
@@ -31,7 +31,7 @@ PlacesAreSeen {S} M = (r : Recovering S) (x : Unit S) → IsKept r → IsSeen r 
 -- ---- kill and flush
 
 abbrev pub KillsAreSeen : {S : Type 0} → Meaning S → Type 0
-KillsAreSeen {S} M = (r : Recovering S) (x : Unit S) → IsKept r → IsSeen r x → IsSeen (killed r) (killed_unit x)
+KillsAreSeen {S} M = (r : Recovering S) (x : Unit S) → IsKept r → IsSeen r x → IsSeen (killed_recovering r) (killed_unit x)
 
 abbrev pub FlushesAreSeen : {S : Type 0} → Meaning S → Type 0
 FlushesAreSeen {S} M = (r : Recovering S) (x : Unit S) → IsKept r → IsSeen r x → (place count : ℕ) → count ≤ length r.volatile → IsSeen (marked_stable r count) (flushed_unit place count x)

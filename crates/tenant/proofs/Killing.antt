@@ -27,7 +27,7 @@ use Rattle.compact.specs.StepLaws.{StandsCompact}
 use Rattle.compact.proofs.Cuts.{cut_hold, cut_member}
 use Rattle.compact.proofs.Recovery.{kills_follow}
 use Rattle.compact.proofs.Tests.{places_are}
-use Rattle.rollback.specs.Units.{killed, places}
+use Rattle.rollback.specs.Units.{killed_recovering, places}
 use Rattle.rollback.proofs.Keeping.{kept_killed}
 use Rattle.rollback_laws.proofs.Failures.{kills_are_seen}
 use Rattle.rollback_laws.proofs.Places.{places_are_seen}
@@ -89,9 +89,9 @@ module _ {S : Type 0} (M : Meaning S) (name : List ℕ) (live : ℕ → List ℕ
         let count = ready.live in
         let least : x.stable ≡ min x.stable x.stable = omega arith in
         let low : x.stable ≤ all_of x = (let a = i.seen.stable in stable_low x.stable (places r) (length r.volatile) (all_of x) a long) in
-        let stable : x.stable ≡ places (killed r) = least ∙ seen.stable ∙ (let z : places (killed r) - 0 ≡ places (killed r) = omega arith in z) in
+        let stable : x.stable ≡ places (killed_recovering r) = least ∙ seen.stable ∙ (let z : places (killed_recovering r) - 0 ≡ places (killed_recovering r) = omega arith in z) in
         record {
-          kept = kept_killed r (killed r).outside (killed r).intervals (killed r).volatile (length r.intervals - length r.volatile) i.kept refl (omega (arith, some)) refl refl;
+          kept = kept_killed r (killed_recovering r).outside (killed_recovering r).intervals (killed_recovering r).volatile (length r.intervals - length r.volatile) i.kept refl (omega (arith, some)) refl refl;
           seen = seen;
           own = i.own;
           outputs = hold_cut x.hold x.stable (all_of x) (whole_hold M name k w log s.2 u x at) low (few_places (all_of x) (places r) long few) ∙ (λ j. outputs_to (i.outputs j) (stable j));

@@ -27,7 +27,7 @@ use Rattle.checkpoint.specs.declared.snapshot.Snapshot.{Snapshot}
 use Rattle.checkpoint.specs.Shelves.{nearest_of}
 use Rattle.orphan.specs.Tests.{is_orphan_by}
 use Rattle.compact.specs.Compact.{Letter, Progress, Content}
-use Rattle.rollback.specs.Units.{Recovering, begun_unit, checkpointed, cut_behind, killed, marked_stable, places, restored, stable_places, widened_to, asking, took}
+use Rattle.rollback.specs.Units.{Recovering, begun_unit, checkpointed, cut_behind, killed_recovering, marked_stable, places, restored, stable_places, widened_to, asking, took}
 use Rattle.unit_steps.specs.Receipts.{IsFrontier, frontier_of, Known, letter_refused, mark_upon, turn_refused, vector_upon}
 use Rattle.compact.specs.Steps.{Receipt, letters_by}
 
@@ -103,7 +103,7 @@ outputs_to outputs n = cond (nat_lt n (2 ^ 32)) (held_below outputs n) outputs
 
 abbrev pub killed_member : {S : Type 0} → Member S → Member S
 killed_member m =
-    record m { recovering = killed m.recovering; outputs = outputs_to m.outputs (places (killed m.recovering)) }
+    record m { recovering = killed_recovering m.recovering; outputs = outputs_to m.outputs (places (killed_recovering m.recovering)) }
 
 -- ---- checkpoint
 
