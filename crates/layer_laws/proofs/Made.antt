@@ -21,7 +21,7 @@ use Rattle.theory.proofs.Certificate.{Invariant, reachable_invariant}
 use Rattle.theory.proofs.VectorJoin.{vectors_join}
 use Rattle.depvector.specs.Vectors.{mark_for, joined, widened, begun_vector}
 use Rattle.depvector.proofs.Joins.{length-joined}
-use Rattle.layer_laws.specs.Laws.{IsMade, VectorsAreMade, vector_before, vector_received}
+use Rattle.layer_laws.specs.Laws.{IsMade, NodeVectorsAreMade, vector_before, vector_received}
 use Rattle.layer_laws.proofs.Marks.{mark_for-joined}
 use Rattle.layer_laws.proofs.Numbers.{length-numbers, get_or-numbers}
 
@@ -145,5 +145,5 @@ module _ {S : Type 0} (M : Meaning S) (w : World) (g : Invariant M w) where
 
 module _ {S : Type 0} (M : Meaning S) where
   -- every node's vector is made so
-  pub vectors_are_made : VectorsAreMade M
+  pub vectors_are_made : NodeVectorsAreMade M
   vectors_are_made w r x h = made M w (reachable_invariant M r) x h (λ u. vectors_join M w r x u h)

@@ -45,8 +45,8 @@ pub record IsMade (nodes : List Node) (x : ℕ) : Type 0 where
   pub own : (node_at nodes x).unit < (node_at nodes x).units
 
 -- so it is of every node
-abbrev pub VectorsAreMade : {S : Type 0} → Meaning S → Type 0
-VectorsAreMade M = (w : World) → Reachable M w → (x : ℕ) → x < length w.nodes → IsMade w.nodes x
+abbrev pub NodeVectorsAreMade : {S : Type 0} → Meaning S → Type 0
+NodeVectorsAreMade M = (w : World) → Reachable M w → (x : ℕ) → x < length w.nodes → IsMade w.nodes x
 
 -- ---- sessions
 
@@ -135,13 +135,13 @@ is_first_firm w (o ∷ outputs) = is_firm w o.0
 
 -- A front is firm by the unit's frontier just where there is one and its node is firm;
 -- and what can be taken, one after another, are the outputs that can be released.
-pub record TellsFirm {S : Type 0} (M : Meaning S) (w : World) (u : ℕ) (m : Member) : Type 0 where
+pub record FrontierTells {S : Type 0} (M : Meaning S) (w : World) (u : ℕ) (m : Member) : Type 0 where
   pub lent : slice_index (frontiers w) u ≡ frontier w m
   pub front : first_is_firm (frontier w m) (held_outputs M w m) ≡ is_first_firm w (held M w m)
   pub all : map (λ h. h.text) (held_below (held_outputs M w m) (frontier w m)) ≡ map (λ o. o.1) (releasable M w m)
 
 abbrev pub FrontiersTell : {S : Type 0} → Meaning S → Type 0
-FrontiersTell M = (w : World) → Reachable M w → (u : ℕ) (m : Member) → slice_get w.members u ≡ Some m → TellsFirm M w u m
+FrontiersTell M = (w : World) → Reachable M w → (u : ℕ) (m : Member) → slice_get w.members u ≡ Some m → FrontierTells M w u m
 
 -- ---- volatile logs
 

@@ -7,13 +7,13 @@
 //! `is_orphan` of a past's vector are the definitions' tests of that past.
 #![tactic(auto)]
 
-ghost use Rattle.layer_laws.specs.Laws.{FirstOrphanCuts, FrontiersTell, SessionsGoOn, SessionsTell, UnstableAreCounted, VectorsAreMade, VolatileLogsFollow};
+ghost use Rattle.layer_laws.specs.Laws.{FirstOrphanCuts, FrontiersTell, SessionsGoOn, SessionsTell, UnstableAreCounted, NodeVectorsAreMade, VolatileLogsFollow};
 
 use handler::Handler;
 
 /// A node's vector is what `widen`, `join` and `set_own` make of those of the node before it and of its letter's sender.
 pub fn vectors_are_made<H: Handler>()
-    ensures { VectorsAreMade H.meaning }
+    ensures { NodeVectorsAreMade H.meaning }
 {}
 
 /// The sessions along a unit's path answer `Next`, `Repeat` and `Gap` as the tests of a receipt's
