@@ -8,7 +8,7 @@ use Rattle.model.specs.Handler.{Meaning}
 use Rattle.checkpoint.specs.declared.snapshot.Snapshot.{Snapshot as Shelf}
 use Rattle.checkpoint.specs.Shelves.{Shelved, IsTop, Rises, has_index, is_at, put_on, with_room}
 use Rattle.compact.specs.Compact.{Progress, Snapshot, Unit}
-use Rattle.compact.specs.Steps.{last_index, places as all_of, shelved_unit}
+use Rattle.compact.specs.Steps.{last_shelved, places as all_of, shelved_unit}
 use Rattle.compact.proofs.Words.{map_push}
 use Rattle.compact.proofs.Checkpoints.{last_greatest}
 use Rattle.rollback.specs.Units.{Recovering, IsKept, checkpointed, places, shelf_with}
@@ -19,7 +19,7 @@ use Rattle.rollback_laws.specs.Laws.{CheckpointsAreSeen}
 use Rattle.rollback_laws.proofs.Places.{places_are}
 
 -- the last is the base or of the shelf
-last_there : {S : Type 0} (base : ℕ) (xs : List (Snapshot S)) → (base ≡ last_index base xs) ⊎ ((i : ℕ) × ((t : Snapshot S) × (slice_get xs i ≡ Some t) × (t.index ≡ last_index base xs)))
+last_there : {S : Type 0} (base : ℕ) (xs : List (Snapshot S)) → (base ≡ last_shelved base xs) ⊎ ((i : ℕ) × ((t : Snapshot S) × (slice_get xs i ≡ Some t) × (t.index ≡ last_shelved base xs)))
 last_there base [] = inl refl
 last_there base (y ∷ ys) = elim (last_there y.index ys) [
   | inl e ↦ inr (0, (y, refl, e))
@@ -42,11 +42,11 @@ module _ {S : Type 0} (sh : Shelved (Progress S)) (b : Snapshot S) (xs : List (S
   there : (i : ℕ) (y : Snapshot S) → slice_get xs i ≡ Some y → slice_get sh.others i ≡ Some (shelved_as y)
   there i y e = ap (λ ys. slice_get ys i) others ∙ at_map shelved_as xs i y e
 
-  bounds : (b.index ≤ last_index b.index xs) × ((i : ℕ) (y : Snapshot S) → slice_get xs i ≡ Some y → y.index ≤ last_index b.index xs)
+  bounds : (b.index ≤ last_shelved b.index xs) × ((i : ℕ) (y : Snapshot S) → slice_get xs i ≡ Some y → y.index ≤ last_shelved b.index xs)
   bounds = last_greatest b.index xs (λ i y e. rises.above (shelved_as b) i (shelved_as y) base (there i y e)) (λ i j y z h e f. rises.rising i j (shelved_as y) (shelved_as z) h (there i y e) (there j z f))
 
   -- none is at an index above the last
-  absent : last_index b.index xs < t.index → has_index sh t.index ≡ false
+  absent : last_shelved b.index xs < t.index → has_index sh t.index ≡ false
   absent h =
       let first : (b.index == t.index) ≡ false = let low = bounds.0 in unequal b.index t.index (λ q. omega (arith, q, h, low)) in
       let rest : list_any (is_at t.index) (map shelved_as xs) ≡ false = any_none (is_at t.index) (map shelved_as xs) (λ i y e.
@@ -57,7 +57,7 @@ module _ {S : Type 0} (sh : Shelved (Progress S)) (b : Snapshot S) (xs : List (S
       (λ j. option_map_or (is_at t.index) (base j) false || list_any (is_at t.index) (others j)) ∙ (λ j. first j || rest j)
 
   -- one is at the top where the last is no less
-  present : t.index ≤ last_index b.index xs → has_index sh t.index ≡ true
+  present : t.index ≤ last_shelved b.index xs → has_index sh t.index ≡ true
   present h = elim (last_there b.index xs) [
     | inl e ↦
         let low : b.index ≤ t.index = top (shelved_as b) (inl base) in
@@ -65,7 +65,7 @@ module _ {S : Type 0} (sh : Shelved (Progress S)) (b : Snapshot S) (xs : List (S
         or_left (option_map_or (is_at t.index) sh.base false) (list_any (is_at t.index) sh.others) (ap (λ o. option_map_or (is_at t.index) o false) base ∙ true_eq b.index t.index at)
     | inr f ↦
         let y = f.1.0 in
-        let e : y.index ≡ last_index b.index xs = f.1.2 in
+        let e : y.index ≡ last_shelved b.index xs = f.1.2 in
         let low : y.index ≤ t.index = top (shelved_as y) (inr (f.0, there f.0 y f.1.1)) in
         let at : y.index ≡ t.index = omega (arith, e, h, low) in
         or_right (option_map_or (is_at t.index) sh.base false) (list_any (is_at t.index) sh.others) (at_any (is_at t.index) sh.others f.0 (shelved_as y) (there f.0 y f.1.1) (true_eq y.index t.index at))
@@ -74,10 +74,10 @@ module _ {S : Type 0} (sh : Shelved (Progress S)) (b : Snapshot S) (xs : List (S
   abbrev more : Shelved (Progress S)
   more = record sh { others = with_room sh.others ++ shelved_as t ∷ [] }
 
-  put_seen : (n : ℕ) × (n ≤ 1) × ((put_on sh (shelved_as t)).base ≡ Some (shelved_as b)) × ((put_on sh (shelved_as t)).others ≡ map shelved_as (drop n (cond (nat_lt (last_index b.index xs) t.index) (xs ++ t ∷ []) xs)))
-  put_seen = elim (bool_cases (nat_lt (last_index b.index xs) t.index)) [
+  put_seen : (n : ℕ) × (n ≤ 1) × ((put_on sh (shelved_as t)).base ≡ Some (shelved_as b)) × ((put_on sh (shelved_as t)).others ≡ map shelved_as (drop n (cond (nat_lt (last_shelved b.index xs) t.index) (xs ++ t ∷ []) xs)))
+  put_seen = elim (bool_cases (nat_lt (last_shelved b.index xs) t.index)) [
     | inl e ↦
-        let put : put_on sh (shelved_as t) ≡ more = ap (λ z. cond z sh more) (absent (lt_true (last_index b.index xs) t.index e)) in
+        let put : put_on sh (shelved_as t) ≡ more = ap (λ z. cond z sh more) (absent (lt_true (last_shelved b.index xs) t.index e)) in
         let room = roomed xs t in (
           room.0,
           room.1,
@@ -85,7 +85,7 @@ module _ {S : Type 0} (sh : Shelved (Progress S)) (b : Snapshot S) (xs : List (S
           ap (λ (z : Shelved (Progress S)). z.others) put ∙ ap (λ ys. with_room ys ++ shelved_as t ∷ []) others ∙ room.2 ∙ ap (λ z. map shelved_as (drop room.0 (cond z (xs ++ t ∷ []) xs))) (sym e),
         )
     | inr e ↦
-        let put : put_on sh (shelved_as t) ≡ sh = ap (λ z. cond z sh more) (present (lt_false (last_index b.index xs) t.index e)) in (
+        let put : put_on sh (shelved_as t) ≡ sh = ap (λ z. cond z sh more) (present (lt_false (last_shelved b.index xs) t.index e)) in (
           0,
           omega arith,
           ap (λ (z : Shelved (Progress S)). z.base) put ∙ base,

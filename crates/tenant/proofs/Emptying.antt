@@ -20,7 +20,7 @@ use Rattle.theory.proofs.Certificate.{Invariant, reachable_invariant}
 use Rattle.theory.proofs.ListLaws.{any_at, any_none, at_map, bool_cases, eq_true, get_drop, get_set, get_take, or_cases, set_get_other, set_get_same, true_eq, or_false}
 use Rattle.layer_laws.specs.Laws.{frontier}
 use Rattle.compact.specs.Compact.{Compact, Interval, IsUnit, Letter, Unit, interval_of}
-use Rattle.compact.specs.Forgetting.{emptied}
+use Rattle.compact.specs.Forgetting.{without_content}
 use Rattle.compact.specs.StepLaws.{StandsCompact}
 use Rattle.checkpoint.specs.declared.snapshot.Snapshot.{Snapshot as SnapshotOf}
 use Rattle.checkpoint.specs.Shelves.{is_at}
@@ -74,7 +74,7 @@ was_by letters (Some n) l c e = go (slice_get letters n) refl e
     go None f e =
         let other : (n == l) ≡ false = is_not n l (λ same. let none : slice_get letters l ≡ None = ap (slice_get letters) (sym same) ∙ f in cc (none, e)) in
         record { was = c; at = e; receiver = refl; content = or_false (is_none c.content) ∙ ap (λ b. is_none c.content || b) (sym other) }
-    go (Some d) f e = elim (get_set letters n l (emptied d) c e) [
+    go (Some d) f e = elim (get_set letters n l (without_content d) c e) [
       | inl h ↦
           let same : (n == l) ≡ true = true_eq n l (sym h.0) in
           record {

@@ -3,7 +3,7 @@ use Rattle.std.specs.Prelude.{◌≡◌, ℕ, ◌-◌, false, List, [], drop, mi
 use Rattle.std.specs.List.{fold}
 use Rattle.checkpoint.specs.Shelves.{nearest_of}
 use Rattle.compact.specs.Compact.{Interval, Letter}
-use Rattle.compact.specs.Forgetting.{emptied}
+use Rattle.compact.specs.Forgetting.{without_content}
 use Rattle.rollback.specs.Units.{Recovering, forgotten, places}
 use Rattle.shared_log.specs.Logged.{Grows, Logged, OthersKept, places_of}
 use Rattle.tenant.specs.Kept.{TenantState, Member}
@@ -20,7 +20,7 @@ passed r base = take (base - r.base) (drop 1 r.intervals)
 
 abbrev pub emptied_at : List Letter → ℕ → Option Letter → List Letter
 emptied_at letters l None = letters
-emptied_at letters l (Some c) = slice_set letters l (emptied c)
+emptied_at letters l (Some c) = slice_set letters l (without_content c)
 
 -- without the content of the letter of this number, if there is one
 abbrev pub emptied_by : List Letter → Option ℕ → List Letter

@@ -2,7 +2,7 @@
 
 ghost use Rattle.std.specs.Prelude.{◌≡◌, ◌<◌, List, Some, length, slice_get, slice_set};
 ghost use Rattle.model.specs.World.{World};
-ghost use Rattle.compact.specs.Forgetting.{emptied};
+ghost use Rattle.compact.specs.Forgetting.{without_content};
 ghost use Rattle.rollback.specs.Units.{places};
 ghost use Rattle.tenant.specs.Bases.{IsBeside, LetsGo, emptied_all, emptied_by, given_up, moved_kept, moved_letters, moved_member, next_base, passed};
 ghost use Rattle.tenant.specs.Keeping.{Bases, KeepsPast, based_one};
@@ -20,7 +20,7 @@ use unit_steps::SentLetter;
 
 /// The letter gives up its content.
 fn empty(sent: &mut SentLetter)
-    ensures { sent.new ≡ emptied sent.old }
+    ensures { sent.new ≡ without_content sent.old }
 {
     sent.content = None;
 }
