@@ -14,7 +14,7 @@ use Rattle.std.proofs.lemmas.Option.{slice_get_within, same_Some}
 use native.Mathlib.Decide.{dec_lt}
 use Rattle.incarnation.specs.Starts.{IsFirstLow}
 use Rattle.std.proofs.lemmas.List.{length-map, map-append}
-use Rattle.incarnation.specs.Filed.{Filed, nothing_filed, places_from, filed_of, filed_at, Files, IsFiled, Ordered, place_below, is_told_by, LosesAt, with_row}
+use Rattle.incarnation.specs.Filed.{Filed, nothing_filed, row_places_from, filed_of, filed_at, Files, IsFiled, Ordered, place_below, is_told_by, LosesAt, with_row}
 
 abbrev if_of : {X : Type 0} → Row → ℕ → X → List X
 if_of r unit x = cond (r.unit == unit) (x ∷ []) []
@@ -24,10 +24,10 @@ if_of r unit x = cond (r.unit == unit) (x ∷ []) []
 pub rows_of-append : (rows : List Row) (r : Row) (unit : ℕ) → rows_of (rows ++ r ∷ []) unit ≡ rows_of rows unit ++ if_of r unit r
 rows_of-append rows r unit = filter-append (λ q. q.unit == unit) rows (r ∷ [])
 
-pub places_from-append : (k : ℕ) (rows : List Row) (r : Row) (unit : ℕ) → places_from k (rows ++ r ∷ []) unit ≡ places_from k rows unit ++ if_of r unit (k + length rows)
-places_from-append k [] r unit = ap (λ p. if_of r unit p) (let e : k ≡ k + 0 = omega arith in e)
-places_from-append k (q ∷ rows) r unit =
-    go _ _ _ (q.unit == unit) (places_from-append (k + 1) rows r unit ∙ ap (λ p. places_from (k + 1) rows unit ++ if_of r unit p) (let e : (k + 1) + length rows ≡ k + suc (length rows) = omega arith in e))
+pub row_places_from-append : (k : ℕ) (rows : List Row) (r : Row) (unit : ℕ) → row_places_from k (rows ++ r ∷ []) unit ≡ row_places_from k rows unit ++ if_of r unit (k + length rows)
+row_places_from-append k [] r unit = ap (λ p. if_of r unit p) (let e : k ≡ k + 0 = omega arith in e)
+row_places_from-append k (q ∷ rows) r unit =
+    go _ _ _ (q.unit == unit) (row_places_from-append (k + 1) rows r unit ∙ ap (λ p. row_places_from (k + 1) rows unit ++ if_of r unit p) (let e : (k + 1) + length rows ≡ k + suc (length rows) = omega arith in e))
   where
     go : (xs ys zs : List ℕ) (b : Bool) → xs ≡ ys ++ zs → cond b (k ∷ xs) xs ≡ cond b (k ∷ ys) ys ++ zs
     go xs ys zs true e = ap (λ t. k ∷ t) e
@@ -52,7 +52,7 @@ incarnation_of-append (q ∷ rows) r unit = go _ _ (q.unit == unit) (r.unit == u
 pub record RowIsFiled (rows : List Row) (k unit i : ℕ) (r : Row) : Type 0 where
   pub at : ℕ
   pub has_row : slice_get (rows_of rows unit) at ≡ Some r
-  pub has_place : slice_get (places_from k rows unit) at ≡ Some (k + i)
+  pub has_place : slice_get (row_places_from k rows unit) at ≡ Some (k + i)
 
 pub row_filed : (rows : List Row) (k unit i : ℕ) (r : Row) → slice_get rows i ≡ Some r → r.unit ≡ unit → RowIsFiled rows k unit i r
 row_filed [] k unit i r e own = cc
@@ -63,7 +63,7 @@ row_filed (q ∷ rows) k unit zero r e own =
 row_filed (q ∷ rows) k unit (suc i) r e own =
     let f = row_filed rows (k + 1) unit i r e own in
     let s : (k + 1) + i ≡ k + suc i = omega arith in
-    let p : slice_get (places_from (k + 1) rows unit) f.at ≡ Some (k + suc i) = f.has_place ∙ ap Some s in
+    let p : slice_get (row_places_from (k + 1) rows unit) f.at ≡ Some (k + suc i) = f.has_place ∙ ap Some s in
     elim (bool_cases (q.unit == unit)) [
       | inl b ↦ record { at = suc f.at; has_row = rw b f.has_row; has_place = rw b p }
       | inr b ↦ record { at = f.at; has_row = rw b f.has_row; has_place = rw b p }
@@ -82,19 +82,19 @@ placed_later : {rows : List Row} {k unit j p : ℕ} (q : Row) (at : ℕ) (b : Bo
     → slice_get (cond b (q ∷ rows_of rows unit) (rows_of rows unit)) at ≡ slice_get (rows_of rows unit) j → FiledIsRow (q ∷ rows) k unit at p
 placed_later q at b e t same = let a = t.is in record { i = suc t.i; row = t.row; is = omega arith; found = t.found; own = t.own; has_row = rw e (same ∙ t.has_row) }
 
-placed_here : (q : Row) (rows : List Row) (k unit p : ℕ) → (q.unit == unit) ≡ true → ((j : ℕ) → slice_get (places_from (k + 1) rows unit) j ≡ Some p → FiledIsRow rows (k + 1) unit j p)
-    → (j : ℕ) → slice_get (k ∷ places_from (k + 1) rows unit) j ≡ Some p → FiledIsRow (q ∷ rows) k unit j p
+placed_here : (q : Row) (rows : List Row) (k unit p : ℕ) → (q.unit == unit) ≡ true → ((j : ℕ) → slice_get (row_places_from (k + 1) rows unit) j ≡ Some p → FiledIsRow rows (k + 1) unit j p)
+    → (j : ℕ) → slice_get (k ∷ row_places_from (k + 1) rows unit) j ≡ Some p → FiledIsRow (q ∷ rows) k unit j p
 placed_here q rows k unit p b further zero e = let h : k ≡ p = same_Some k p e in record { i = 0; row = q; is = omega arith; found = refl; own = eq_true _ _ b; has_row = rw b refl }
 placed_here q rows k unit p b further (suc j) e = placed_later q (suc j) true b (further j e) refl
 
-pub filed_row : (rows : List Row) (k unit j p : ℕ) → slice_get (places_from k rows unit) j ≡ Some p → FiledIsRow rows k unit j p
+pub filed_row : (rows : List Row) (k unit j p : ℕ) → slice_get (row_places_from k rows unit) j ≡ Some p → FiledIsRow rows k unit j p
 filed_row [] k unit j p e = cc
 filed_row (q ∷ rows) k unit j p e = elim (bool_cases (q.unit == unit)) [
   | inl b ↦ placed_here q rows k unit p b (λ i h. filed_row rows (k + 1) unit i p h) j (rw b at e)
   | inr b ↦ placed_later q j false b (filed_row rows (k + 1) unit j p (rw b at e)) refl
 ]
 
-pub places_long : (rows : List Row) (k unit : ℕ) → length (rows_of rows unit) ≡ length (places_from k rows unit)
+pub places_long : (rows : List Row) (k unit : ℕ) → length (rows_of rows unit) ≡ length (row_places_from k rows unit)
 places_long [] k unit = refl
 places_long (q ∷ rows) k unit = go _ _ (q.unit == unit) (places_long rows (k + 1) unit)
   where
@@ -150,7 +150,7 @@ tells_is rows f known unit mark o is = rw is (same_bools (is_told_by (filed_of r
           let s : a.1.0.incarnation ≡ incarnation = eq_true _ _ b.1 in
           let k = t.1 in
           let j : d.at ≡ incarnation - 1 = omega arith in
-          let p : slice_get (places_from 0 rows unit) (incarnation - 1) ≡ Some a.0 = rw (← j) (d.has_place ∙ ap Some (zero-add a.0)) in
+          let p : slice_get (row_places_from 0 rows unit) (incarnation - 1) ≡ Some a.0 = rw (← j) (d.has_place ∙ ap Some (zero-add a.0)) in
           or_right (incarnation == 0) _ (rw p (true_lt a.0 known (omega arith)))
     ]
 
@@ -204,8 +204,8 @@ files_append rows files now r f next is = record { filed = λ u. is u ∙ filed 
   where
     filed : (u : ℕ) → with_row r (length rows) u (filed_at files u) ≡ filed_of (rows ++ r ∷ []) u
     filed u = rw f.filed (elim (bool_cases (r.unit == u)) [
-      | inl b ↦ rw b (sym (same_filed (rows_of-append rows r u ∙ rw b refl) (places_from-append 0 rows r u ∙ rw (b, zero-add) refl)))
-      | inr b ↦ rw b (sym (same_filed (rows_of-append rows r u ∙ rw (b, append-nil) refl) (places_from-append 0 rows r u ∙ rw (b, append-nil) refl)))
+      | inl b ↦ rw b (sym (same_filed (rows_of-append rows r u ∙ rw b refl) (row_places_from-append 0 rows r u ∙ rw (b, zero-add) refl)))
+      | inr b ↦ rw b (sym (same_filed (rows_of-append rows r u ∙ rw (b, append-nil) refl) (row_places_from-append 0 rows r u ∙ rw (b, append-nil) refl)))
     ])
 
     counted : (u : ℕ) → incarnation_of (rows ++ r ∷ []) u ≡ length (rows_of (rows ++ r ∷ []) u)

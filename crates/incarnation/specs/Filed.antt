@@ -14,13 +14,13 @@ abbrev pub nothing_filed : Filed
 nothing_filed = record { rows = []; places = [] }
 
 -- the places of the unit's rows, where the first row has the place k
-abbrev pub places_from : ℕ → List Row → ℕ → List ℕ
-places_from k [] unit = []
-places_from k (r ∷ rows) unit = cond (r.unit == unit) (k ∷ places_from (k + 1) rows unit) (places_from (k + 1) rows unit)
+abbrev pub row_places_from : ℕ → List Row → ℕ → List ℕ
+row_places_from k [] unit = []
+row_places_from k (r ∷ rows) unit = cond (r.unit == unit) (k ∷ row_places_from (k + 1) rows unit) (row_places_from (k + 1) rows unit)
 
 -- what is to be filed for a unit
 abbrev pub filed_of : List Row → ℕ → Filed
-filed_of rows unit = record { rows = rows_of rows unit; places = places_from 0 rows unit }
+filed_of rows unit = record { rows = rows_of rows unit; places = row_places_from 0 rows unit }
 
 -- what is filed for a unit; nothing past the end
 abbrev pub filed_at : List Filed → ℕ → Filed
