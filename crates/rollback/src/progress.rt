@@ -2,7 +2,7 @@
 
 ghost use Rattle.std.specs.Prelude.{◌≡◌, ◌+◌, ◌<◌, ◌≤◌, ◌^◌, ◌↔◌, ℕ, IfOk, IsTrue, OnErr, Some, length, nat_lt, option_map};
 ghost use Rattle.std.specs.List.{filter};
-ghost use Rattle.session.specs.Counts.{sent_to, widened};
+ghost use Rattle.session.specs.Counts.{sent_to, widened_counts};
 ghost use Rattle.layer_laws.specs.Laws.{sent_all};
 ghost use Rattle.compact.specs.Compact.{Progress as ProgressOf, fitted};
 ghost use Rattle.compact.specs.Steps.{first_progress};
@@ -149,7 +149,7 @@ pub(crate) fn widened_sessions<S>(
     progress: &Option<Progress<S>>,
     n: usize,
 ) -> Result<Option<Sessions>, NoMemory>
-    ensures { IfOk result (λ sessions. sessions ≡ option_map (λ p. widened p.sessions n) progress.now) }
+    ensures { IfOk result (λ sessions. sessions ≡ option_map (λ p. widened_counts p.sessions n) progress.now) }
 {
     match progress {
         Some(progress) => {
@@ -163,7 +163,7 @@ pub(crate) fn widened_sessions<S>(
 
 /// Puts these sessions in the place of the progress's own. Takes no memory.
 pub(crate) fn fit<S: Drop>(progress: &mut Option<Progress<S>>, sessions: Option<Sessions>)
-    ensures { (n : ℕ) → sessions ≡ option_map (λ p. widened p.sessions n) progress.old
+    ensures { (n : ℕ) → sessions ≡ option_map (λ p. widened_counts p.sessions n) progress.old
         → progress.new ≡ option_map (fitted n) progress.old }
 {
     match progress {

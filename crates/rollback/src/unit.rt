@@ -7,7 +7,7 @@ ghost use Rattle.model.specs.declared.records.Record.{Record as RecordOf};
 ghost use Rattle.checkpoint.specs.Shelves.{has_index, nearest_of};
 ghost use Rattle.handler.specs.Inputs.{turn_upon_input};
 ghost use Rattle.orphan.specs.Tests.{is_orphan_by};
-ghost use Rattle.session.specs.Counts.{widened};
+ghost use Rattle.session.specs.Counts.{widened_counts};
 ghost use Rattle.compact.specs.Compact.{Progress as ProgressOf};
 ghost use Rattle.compact.specs.Laws.{replayed};
 ghost use Rattle.compact.specs.Steps.{from_outside};
@@ -282,14 +282,14 @@ impl<H: Handler> RecoveryUnit<H> {
     ///
     /// `NoMemory` where the copy finds no memory.
     pub fn widened_sessions(&self, n: usize) -> Result<Option<Sessions>, NoMemory>
-        ensures { IfOk result (λ sessions. sessions ≡ option_map (λ p. widened p.sessions n) self.now.progress) }
+        ensures { IfOk result (λ sessions. sessions ≡ option_map (λ p. widened_counts p.sessions n) self.now.progress) }
     {
         progress::widened_sessions(&self.progress, n)
     }
 
     /// Adds the entries that `widened_sessions` made. Takes no memory.
     pub fn fit(&mut self, sessions: Option<Sessions>)
-        ensures { (n : ℕ) → sessions ≡ option_map (λ p. widened p.sessions n) self.old.progress
+        ensures { (n : ℕ) → sessions ≡ option_map (λ p. widened_counts p.sessions n) self.old.progress
             → self.new ≡ widened_to self.old n }
     {
         progress::fit(&mut self.progress, sessions);

@@ -55,5 +55,5 @@ sent_one c unit =
     record c { units = slice_set c.units unit (record x { sent = x.sent + 1 }) }
 
 -- the counts of a tenant that has n units now
-abbrev pub widened : Counts → ℕ → Counts
-widened c n = record c { units = padded nothing c.units n }
+abbrev pub widened_counts : Counts → ℕ → Counts
+widened_counts c n = record c { units = padded nothing c.units n }

@@ -3,7 +3,7 @@
 ghost use Rattle.std.specs.Prelude.{◌≡◌, ◌+◌, ◌<◌, ◌≤◌, ◌^◌, ◌↔◌, ℕ, IfOk, IsTrue, OnErr, length, slice_index_or};
 ghost use Rattle.session.specs.Arrivals.{arrival_of};
 ghost use Rattle.model.specs.Lists.{padded};
-ghost use Rattle.session.specs.Counts.{advanced, no_counts, nothing, sent_one, sent_to, taken_from, widened, HasRoom, IsCounted};
+ghost use Rattle.session.specs.Counts.{advanced, no_counts, nothing, sent_one, sent_to, taken_from, widened_counts, HasRoom, IsCounted};
 
 use crate::arrival::Arrival;
 use crate::exchange::Exchange;
@@ -132,7 +132,7 @@ impl Sessions {
     /// ones with which nothing was exchanged. Takes no memory.
     pub fn cut(&mut self, snapshot: &Sessions)
         requires { length snapshot.now.units ≤ length self.old.units }
-        ensures { self.new ≡ widened snapshot.now (length self.old.units) }
+        ensures { self.new ≡ widened_counts snapshot.now (length self.old.units) }
     {
         self.outside = snapshot.outside;
         cut_all(self.units.as_mut_slice(), snapshot.units.as_slice());
@@ -145,7 +145,7 @@ impl Sessions {
     ///
     /// `NoMemory` where the entries find no memory; the counts stay as they were.
     pub fn widen(&mut self, n: usize) -> Result<(), NoMemory>
-        ensures ok { IfOk result (λ _. self.new ≡ widened self.old n) }
+        ensures ok { IfOk result (λ _. self.new ≡ widened_counts self.old n) }
         ensures err { OnErr result (self.new ≡ self.old) }
     {
         if self.units.len() < n {

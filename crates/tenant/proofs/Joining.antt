@@ -18,7 +18,7 @@ use Rattle.model.specs.Alone.Reachable.{stepped}
 use Rattle.model.proofs.Places.{get_below}
 use Rattle.theory.proofs.ListLaws.{append_get, append_get_last, get_append, map_at, take_get, true_le}
 use Rattle.output_commit.specs.Holds.{Line}
-use Rattle.session.specs.Counts.{Counts, widened}
+use Rattle.session.specs.Counts.{Counts, widened_counts}
 use Rattle.compact.specs.Compact.{Compact, Unit}
 use Rattle.compact.specs.Steps.{first_unit, fitted_unit, join_kind_of, joined_state}
 use Rattle.compact.proofs.Joins.{joins_follow}
@@ -39,9 +39,9 @@ fit_one n (x ∷ members) zero m last e = ap (λ y. fitted_member n y ∷ (map (
 fit_one n (x ∷ members) (suc at) m last e = ap (λ ys. x ∷ ys) (fit_one n members at m last e)
 
 pub fitted_one : {S : Type 0} (n : ℕ) (members mid after : List (Member S)) (at : ℕ) (last : Member S) (sessions : Option Counts) → at < length members
-    → ((m : Member S) → slice_get members at ≡ Some m → sessions ≡ option_map (λ p. widened p.sessions n) m.recovering.progress)
+    → ((m : Member S) → slice_get members at ≡ Some m → sessions ≡ option_map (λ p. widened_counts p.sessions n) m.recovering.progress)
     → mid ≡ fitted_from n members (at + 1) ++ last ∷ []
-    → ((n : ℕ) (m : Member S) → slice_get mid at ≡ Some m → sessions ≡ option_map (λ p. widened p.sessions n) m.recovering.progress → after ≡ slice_set mid at (fitted_member n m))
+    → ((n : ℕ) (m : Member S) → slice_get mid at ≡ Some m → sessions ≡ option_map (λ p. widened_counts p.sessions n) m.recovering.progress → after ≡ slice_set mid at (fitted_member n m))
     → after ≡ fitted_from n members at ++ last ∷ []
 fitted_one {S} n members mid after at last sessions within made so_far fit =
     let m = get_below members at within in

@@ -1,7 +1,7 @@
 //! The step `join`.
 
 ghost use Rattle.std.specs.Prelude.{◌≡◌, ◌<◌, ◌+◌, ◌∷◌, [], ◌++◌, ℕ, IfOk, OnErr, OnOk, Some, length, option_map, slice_get, slice_set};
-ghost use Rattle.session.specs.Counts.{widened};
+ghost use Rattle.session.specs.Counts.{widened_counts};
 ghost use Rattle.model.specs.Steps.{join as join_of};
 ghost use Rattle.model.specs.Keeping.{after_join};
 ghost use Rattle.tenant.specs.Keeping.{Shelves};
@@ -26,7 +26,7 @@ fn sessions_at<H: Handler>(
 ) -> Result<Option<Sessions>, NoMemory>
     requires { at < length members.now.items }
     ensures { IfOk result (λ sessions. (m : MemberOf H.State) → slice_get members.now.items at ≡ Some m
-        → sessions ≡ option_map (λ p. widened p.sessions width) m.recovering.progress) }
+        → sessions ≡ option_map (λ p. widened_counts p.sessions width) m.recovering.progress) }
 {
     members[at].widened_sessions(width)
 }
@@ -35,7 +35,7 @@ fn sessions_at<H: Handler>(
 fn fit_at<H: Handler>(members: &mut Vec<Member<H>>, at: usize, sessions: Option<Sessions>)
     requires { at < length members.old.items }
     ensures { (n : ℕ) (m : MemberOf H.State) → slice_get members.old.items at ≡ Some m
-        → sessions ≡ option_map (λ p. widened p.sessions n) m.recovering.progress
+        → sessions ≡ option_map (λ p. widened_counts p.sessions n) m.recovering.progress
         → members.new.items ≡ slice_set members.old.items at (fitted_member n m) }
 {
     let member = &mut members[at];

@@ -9,7 +9,7 @@ ghost use Rattle.checkpoint.specs.declared.snapshot.Snapshot.{Snapshot as Snapsh
 ghost use Rattle.checkpoint.specs.Shelves.{has_index, nearest_of};
 ghost use Rattle.compact.specs.Compact.{Progress as ProgressOf};
 ghost use Rattle.rollback.specs.Units.{IsKept, IsTarget, OrphansAreTail, places, restored, stable_places};
-ghost use Rattle.session.specs.Counts.{widened};
+ghost use Rattle.session.specs.Counts.{widened_counts};
 ghost use Rattle.rollback_laws.specs.Seen.{IsSeen};
 ghost use Rattle.tenant.specs.Bases.{next_base, rebased_member};
 ghost use Rattle.tenant.specs.Keeping.{shelved_count};
@@ -211,14 +211,14 @@ impl<H: Handler> Member<H> {
     /// What it took and sent with entries for `n` units, where it is up.
     pub(crate) fn widened_sessions(&self, n: usize) -> Result<Option<Sessions>, NoMemory>
         ensures { IfOk result (λ sessions.
-            sessions ≡ option_map (λ p. widened p.sessions n) self.now.recovering.progress) }
+            sessions ≡ option_map (λ p. widened_counts p.sessions n) self.now.recovering.progress) }
     {
         self.recovering.widened_sessions(n)
     }
 
     /// Adds the entries that `widened_sessions` made. Takes no memory.
     pub(crate) fn fit(&mut self, sessions: Option<Sessions>)
-        ensures { (n : ℕ) → sessions ≡ option_map (λ p. widened p.sessions n) self.old.recovering.progress
+        ensures { (n : ℕ) → sessions ≡ option_map (λ p. widened_counts p.sessions n) self.old.recovering.progress
             → self.new ≡ fitted_member n self.old }
     {
         self.recovering.fit(sessions);
