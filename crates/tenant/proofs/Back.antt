@@ -41,7 +41,7 @@ use Rattle.rollback_laws.proofs.Places.{places_are_seen}
 use Rattle.rollback_laws.proofs.Restores.{restores_are_seen}
 use Rattle.rollback_laws.proofs.Standing.{units_are_ready}
 use Rattle.tenant.specs.declared.answer.Answer.{Answer}
-use Rattle.tenant.specs.Kept.{TenantState, Member, gone_back, kept_before, kept_length, live_count, outputs_to, restart_refusal, returned, returned_member, up_refusal}
+use Rattle.tenant.specs.Kept.{TenantState, Member, returned_kept, kept_before, kept_length, live_count, outputs_to, restart_refusal, returned, returned_member, up_refusal}
 use Rattle.tenant.specs.Outcomes.{failing}
 use Rattle.tenant.specs.Returns.{Failed, Returns, Went}
 use Rattle.tenant.specs.Stands.{Did, IsStanding, live_in}
@@ -319,7 +319,7 @@ module _ {S : Type 0} (M : Meaning S) (name : List ℕ) (t : TenantState S) (w :
             low n l target p e f h = omega (arith, e, f, h)
 
         abbrev v2 : TenantState S
-        v2 = gone_back t u m target (incarnation_of t.table u + 1) wt.progress
+        v2 = returned_kept t u m target (incarnation_of t.table u + 1) wt.progress
 
         one : IsMember v2 (live_in name after.records) u q after_unit
         one = record {

@@ -134,24 +134,24 @@ module _ {S : Type 0} (M : Meaning S) (kinds : List (List ℕ)) (quota : Quota) 
   abbrev k : Compact S
   k = (opened_of M kinds quota optimism).state
 
-  begun : AllBegin M width quota optimism t.members k
-  begun = all_begin M width quota optimism kinds [] (record { quota = quota; optimism = optimism; table = []; units = []; letters = [] })
+  all_begun : AllBegin M width quota optimism t.members k
+  all_begun = all_begin M width quota optimism kinds [] (record { quota = quota; optimism = optimism; table = []; units = []; letters = [] })
       (record { same = refl; each = λ u m x e f. absurd (cc e); table = refl; letters = refl; quotas = refl; optimisms = refl })
 
   count : length k.units ≡ width
-  count = sym (begun.same) ∙ count_all M width quota optimism kinds [] ∙ (let e : 0 + length kinds ≡ length kinds = omega arith in e)
+  count = sym (all_begun.same) ∙ count_all M width quota optimism kinds [] ∙ (let e : 0 + length kinds ≡ length kinds = omega arith in e)
 
   opened_is : (live : ℕ → List ℕ) → IsCompact t live k
   opened_is live = record {
-    quota = begun.quotas;
-    optimism = begun.optimisms;
-    table = begun.table;
-    width = begun.same;
+    quota = all_begun.quotas;
+    optimism = all_begun.optimisms;
+    table = all_begun.table;
+    width = all_begun.same;
     stables = counted width 1 ∙ sym count;
     fronts = counted width 1 ∙ sym count;
     lines = counted width [] ∙ sym count;
     members = λ u m x e f.
-        let b = begun.each u m x e f in
+        let b = all_begun.each u m x e f in
         let within : u < width = (let a = slice_get_within k.units u x f in omega (arith, a, count)) in
         subst (λ (m : Member S). IsMember t live u m x) (sym b.member) (subst (λ (x : Unit S). IsMember t live u (begun_member M width b.seat 0) x) (sym b.unit) (record {
           kept = kept_begun M width b.seat;
@@ -164,7 +164,7 @@ module _ {S : Type 0} (M : Meaning S) (kinds : List (List ℕ)) (quota : Quota) 
           released = replicated width u [] within;
           places = last_none (live u);
         }));
-    letters = begun.letters;
+    letters = all_begun.letters;
   }
 
   pub open_done : can_open M kinds quota optimism ≡ true → (name : List ℕ) (live : ℕ → List ℕ) (log : List Record) → Leaves M name live (open_new M kinds quota optimism) (Opened (length kinds)) t log

@@ -9,7 +9,7 @@ use Rattle.model.specs.World.{incarnation_of}
 use Rattle.shared_log.specs.Logged.{Grows, Logged, OthersKept, places_of}
 use Rattle.compact.specs.Compact.{Progress}
 use Rattle.tenant.specs.declared.answer.Answer.{Answer}
-use Rattle.tenant.specs.Kept.{IsReplayed, TenantState, Member, gone_back, live_count}
+use Rattle.tenant.specs.Kept.{IsReplayed, TenantState, Member, returned_kept, live_count}
 use Rattle.tenant.specs.Outcomes.{IsPlain}
 use Rattle.tenant.specs.Returns.{Went}
 use Rattle.tenant.proofs.Places.{places_same}
@@ -25,7 +25,7 @@ module _ (name : List ℕ) (u : ℕ) (before mid after : Logged) (same : mid.rec
     alike : q ≡ m
     alike = same_Some q m (sym there ∙ found)
 
-    pub went : (a.reply ≡ given) × IsPlain a → IsReplayed M before.records (places_of name u before) q.recovering target (length t.members) progress → v ≡ gone_back t u m target (incarnation_of t.table u + 1) progress → keep ≡ target - q.recovering.base → skipped ≡ length (places_of name u before) - live_count q.recovering
+    pub went : (a.reply ≡ given) × IsPlain a → IsReplayed M before.records (places_of name u before) q.recovering target (length t.members) progress → v ≡ returned_kept t u m target (incarnation_of t.table u + 1) progress → keep ≡ target - q.recovering.base → skipped ≡ length (places_of name u before) - live_count q.recovering
         → places_of name u after ≡ take (skipped + keep) (places_of name u mid) → OthersKept name u mid after → Grows mid.records [] after.records → Went M name t u m target given a v before after
     went plain replayed back count skips own others grows = record {
       said = plain.1.1;

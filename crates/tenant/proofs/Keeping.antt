@@ -34,7 +34,7 @@ use Rattle.shared_log.specs.Logged.{Logged}
 use Rattle.rollback_laws.specs.Seen.{IsSeen}
 use Rattle.tenant.specs.declared.answer.Answer.{Answer}
 use Rattle.tenant.specs.Keeping.{AddsLetters, Bases, IsKeeping, KeepsOn, KeepsPast, OpensPast, SameShelves, Shelves, shelf_of, shelves_of}
-use Rattle.tenant.specs.Kept.{MakesStable, TenantState, Member, checkpointed_member, fitted_member, flushed_member, gone_back, joined_kept, opened_kept, received_kept, received_member, with_begun}
+use Rattle.tenant.specs.Kept.{MakesStable, TenantState, Member, checkpointed_member, fitted_member, flushed_member, returned_kept, joined_kept, opened_kept, received_kept, received_member, with_begun}
 use Rattle.tenant.specs.Outcomes.{done}
 use Rattle.tenant.specs.Represents.{StandsFor}
 use Rattle.tenant.specs.Returns.{Returns}
@@ -102,7 +102,7 @@ one_joined {S} M t v kind e = record {
 }
 
 -- a unit went back
-pub one_back : {S : Type 0} (t v : TenantState S) (u : ℕ) (m : Member S) → slice_get t.members u ≡ Some m → (target incarnation : ℕ) (progress : Option (Progress S)) → v ≡ gone_back t u m target incarnation progress → Shelves (changed (cut (target + 1)) u) t v
+pub one_back : {S : Type 0} (t v : TenantState S) (u : ℕ) (m : Member S) → slice_get t.members u ≡ Some m → (target incarnation : ℕ) (progress : Option (Progress S)) → v ≡ returned_kept t u m target incarnation progress → Shelves (changed (cut (target + 1)) u) t v
 one_back {S} t v u m found target incarnation progress e =
     one_changed t u m found _ v (ap (λ (z : TenantState S). z.members) e) (cut (target + 1)) (cut_is m.recovering (target + 1)) (no_letters t v (ap (λ (z : TenantState S). z.letters) e))
 

@@ -207,8 +207,8 @@ abbrev pub returned_member : {S : Type 0} → Member S → ℕ → Option (Progr
 returned_member m target progress known = record m { recovering = returned m.recovering target progress; outputs = outputs_to m.outputs (target + 1); known = known }
 
 -- with the unit gone back to the target, and a row that says so
-abbrev pub gone_back : {S : Type 0} → TenantState S → ℕ → Member S → ℕ → ℕ → Option (Progress S) → TenantState S
-gone_back t u m target incarnation progress = record t {
+abbrev pub returned_kept : {S : Type 0} → TenantState S → ℕ → Member S → ℕ → ℕ → Option (Progress S) → TenantState S
+returned_kept t u m target incarnation progress = record t {
   table = t.table ++ record { unit = u; incarnation = incarnation; start = target + 1 } ∷ [];
   members = slice_set t.members u (returned_member m target progress (length t.table + 1));
   stable_lengths = slice_set t.stable_lengths u (stable_places (returned m.recovering target progress));

@@ -9,7 +9,7 @@ use Rattle.model.specs.declared.replies.Reply.TheVariants.{Refused}
 use Rattle.compact.specs.Compact.{Progress}
 use Rattle.shared_log.specs.Logged.{Grows, Logged, OthersKept, places_of}
 use Rattle.tenant.specs.declared.answer.Answer.{Answer}
-use Rattle.tenant.specs.Kept.{IsReplayed, TenantState, Member, gone_back, live_count}
+use Rattle.tenant.specs.Kept.{IsReplayed, TenantState, Member, returned_kept, live_count}
 use Rattle.model.specs.Records.{quiet}
 use Rattle.tenant.specs.Outcomes.{failing}
 
@@ -20,7 +20,7 @@ pub record Went {S : Type 0} (M : Meaning S) (name : List ℕ) (t : TenantState 
   pub reply : a.reply ≡ given
   pub progress : Option (Progress S)
   pub replayed : IsReplayed M before.records (places_of name u before) m.recovering target (length t.members) progress
-  pub back : v ≡ gone_back t u m target (incarnation_of t.table u + 1) progress
+  pub back : v ≡ returned_kept t u m target (incarnation_of t.table u + 1) progress
   pub own : places_of name u after ≡ take (length (places_of name u before) - live_count m.recovering + (target - m.recovering.base)) (places_of name u before)
   pub others : OthersKept name u before after
   pub grows : Grows before.records [] after.records

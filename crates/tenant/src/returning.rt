@@ -5,7 +5,7 @@ ghost use Rattle.model.specs.Failures.{HasRisen};
 ghost use Rattle.model.specs.World.{incarnation_of};
 ghost use Rattle.rollback.specs.Units.{IsTarget, OrphansAreTail, stable_places};
 ghost use Rattle.shared_log.specs.Logged.{Grows, OthersKept, places_of};
-ghost use Rattle.tenant.specs.Kept.{AreFetched, IsReplayed, Member as MemberOf, gone_back, kept_length, returned, returned_member};
+ghost use Rattle.tenant.specs.Kept.{AreFetched, IsReplayed, Member as MemberOf, returned_kept, kept_length, returned, returned_member};
 ghost use Rattle.tenant.specs.Returns.{Returns};
 
 use crate::answer::Answer;
@@ -191,7 +191,7 @@ impl<H: Handler> Tenant<H> {
             → IsTarget m.recovering target }
         requires room { incarnation_of self.old.table unit < MAX_INCARNATION }
         ensures ok { OnOk result ((m : MemberOf H.State) → slice_get self.old.members unit ≡ Some m
-            → self.new ≡ gone_back self.old unit m target (incarnation_of self.old.table unit + 1) progress) }
+            → self.new ≡ returned_kept self.old unit m target (incarnation_of self.old.table unit + 1) progress) }
         ensures err { OnErr result (self.new ≡ self.old) }
     {
         self.table.append(Row {
