@@ -6,7 +6,7 @@ use Rattle.std.specs.Option.{option_map_or}
 use Rattle.std.proofs.lemmas.Option.{slice_get_within, same_Some}
 use Rattle.theory.proofs.ListLaws.{get_append, get_drop, get_take, at_any, true_eq}
 use Rattle.checkpoint.specs.declared.snapshot.Snapshot.{Snapshot}
-use Rattle.checkpoint.specs.Shelves.{Shelved, Rises, IsShelved, IsTop, is_at, has_index, with_room}
+use Rattle.checkpoint.specs.Shelves.{Shelved, Rises, IsShelved, IsTop, is_at, has_index, making_room}
 
 -- an empty shelf
 pub rises_none : {S : Type 0} → Rises {S = S} None []
@@ -31,8 +31,8 @@ remove_first [] i x e = cc
 remove_first (y ∷ xs) i x e = e
 
 -- the others once there is room
-with_room_at : {S : Type 0} (others : List (Snapshot S)) (i : ℕ) (x : Snapshot S) → slice_get (with_room others) i ≡ Some x → slice_get others (i + (cond (nat_lt (length others) 64) 0 1)) ≡ Some x
-with_room_at others i x e = go (nat_lt (length others) 64) e
+making_room_at : {S : Type 0} (others : List (Snapshot S)) (i : ℕ) (x : Snapshot S) → slice_get (making_room others) i ≡ Some x → slice_get others (i + (cond (nat_lt (length others) 64) 0 1)) ≡ Some x
+making_room_at others i x e = go (nat_lt (length others) 64) e
   where
     go : (b : Bool) → slice_get (cond b others (remove others 0)) i ≡ Some x → slice_get others (i + cond b 0 1) ≡ Some x
     go true f = let k : i + 0 ≡ i = omega arith in rw k f
@@ -48,7 +48,7 @@ not_at s index x none (inr t) is = absurd (go (option_map_or (is_at index) s.bas
     go false p q = cc (p, q)
 
 -- one more snapshot above all
-pub rises_put : {S : Type 0} (base : Option (Snapshot S)) (others now : List (Snapshot S)) (z : Snapshot S) → now ≡ with_room others ++ z ∷ []
+pub rises_put : {S : Type 0} (base : Option (Snapshot S)) (others now : List (Snapshot S)) (z : Snapshot S) → now ≡ making_room others ++ z ∷ []
     → has_index (record { base = base; others = others }) z.index ≡ false → IsTop (record { base = base; others = others }) z.index → Rises base others → Rises base now
 rises_put {S} base others now z is none top r = rw is (record { above = above; rising = rising })
   where
@@ -58,17 +58,17 @@ rises_put {S} base others now z is none top r = rw is (record { above = above; r
     below : (x : Snapshot S) → IsShelved s x → x.index < z.index
     below x there = let n = not_at s z.index x none there in let t = top x there in omega (arith, n, t)
 
-    above : (b : Snapshot S) (i : ℕ) (x : Snapshot S) → base ≡ Some b → slice_get (with_room others ++ z ∷ []) i ≡ Some x → b.index < x.index
-    above b i x e f = elim (get_append (with_room others) z x i f) [
-      | inl h ↦ r.above b (i + cond (nat_lt (length others) 64) 0 1) x e (with_room_at others i x h)
+    above : (b : Snapshot S) (i : ℕ) (x : Snapshot S) → base ≡ Some b → slice_get (making_room others ++ z ∷ []) i ≡ Some x → b.index < x.index
+    above b i x e f = elim (get_append (making_room others) z x i f) [
+      | inl h ↦ r.above b (i + cond (nat_lt (length others) 64) 0 1) x e (making_room_at others i x h)
       | inr h ↦ rw h.1 (below b (inl e))
     ]
 
-    rising : (i j : ℕ) (x y : Snapshot S) → i < j → slice_get (with_room others ++ z ∷ []) i ≡ Some x → slice_get (with_room others ++ z ∷ []) j ≡ Some y → x.index < y.index
-    rising i j x y h e f = elim (get_append (with_room others) z x i e) [
-      | inr p ↦ absurd (let k = slice_get_within (with_room others ++ z ∷ []) j y f in let l = length-append (with_room others) (z ∷ []) in omega (arith, p.0, k, h, l))
-      | inl p ↦ elim (get_append (with_room others) z y j f) [
-        | inl q ↦ r.rising (i + cond (nat_lt (length others) 64) 0 1) (j + cond (nat_lt (length others) 64) 0 1) x y (omega arith) (with_room_at others i x p) (with_room_at others j y q)
-        | inr q ↦ rw q.1 (below x (inr (i + cond (nat_lt (length others) 64) 0 1, with_room_at others i x p)))
+    rising : (i j : ℕ) (x y : Snapshot S) → i < j → slice_get (making_room others ++ z ∷ []) i ≡ Some x → slice_get (making_room others ++ z ∷ []) j ≡ Some y → x.index < y.index
+    rising i j x y h e f = elim (get_append (making_room others) z x i e) [
+      | inr p ↦ absurd (let k = slice_get_within (making_room others ++ z ∷ []) j y f in let l = length-append (making_room others) (z ∷ []) in omega (arith, p.0, k, h, l))
+      | inl p ↦ elim (get_append (making_room others) z y j f) [
+        | inl q ↦ r.rising (i + cond (nat_lt (length others) 64) 0 1) (j + cond (nat_lt (length others) 64) 0 1) x y (omega arith) (making_room_at others i x p) (making_room_at others j y q)
+        | inr q ↦ rw q.1 (below x (inr (i + cond (nat_lt (length others) 64) 0 1, making_room_at others i x p)))
       ]
     ]

@@ -38,12 +38,12 @@ abbrev pub has_index : {S : Type 0} → Shelved S → ℕ → Bool
 has_index s index = option_map_or (is_at index) s.base false || list_any (is_at index) s.others
 
 -- as many others as may be kept: then the one first put goes
-abbrev pub with_room : {S : Type 0} → List (Snapshot S) → List (Snapshot S)
-with_room others = cond (nat_lt (length others) MAX_CHECKPOINTS) others (remove others 0)
+abbrev pub making_room : {S : Type 0} → List (Snapshot S) → List (Snapshot S)
+making_room others = cond (nat_lt (length others) MAX_CHECKPOINTS) others (remove others 0)
 
 -- one more snapshot; one at an index that is shelved leaves the shelf as it is
 abbrev pub put_on : {S : Type 0} → Shelved S → Snapshot S → Shelved S
-put_on s x = cond (has_index s x.index) s (record s { others = with_room s.others ++ x ∷ [] })
+put_on s x = cond (has_index s x.index) s (record s { others = making_room s.others ++ x ∷ [] })
 
 -- this snapshot, where it is not above the index, else the best so far
 abbrev pub later_of : {S : Type 0} → ℕ → Option (Snapshot S) → Snapshot S → Option (Snapshot S)

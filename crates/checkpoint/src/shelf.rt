@@ -3,7 +3,7 @@
 ghost use Rattle.std.specs.Prelude.{◌≡◌, ◌≤◌, [], ◌∷◌, ◌++◌, None, IfOk, IsTrue, OnErr, MatchOption, Some, ◌+◌, ◌<◌, drop, false, true, nat_lt, slice_get, length};
 ghost use Rattle.std.specs.List.{list_all, list_any, position_or_len, prefix_len};
 ghost use Rattle.std.specs.Option.{option_copied, option_map_or};
-ghost use Rattle.checkpoint.specs.Shelves.{based_at, cut_at, has_index, is_at, is_within, later_of as later_by, nearest_of, put_on, tops, with_room, AllAbove, IsNearest, IsTop, Rises};
+ghost use Rattle.checkpoint.specs.Shelves.{based_at, cut_at, has_index, is_at, is_within, later_of as later_by, nearest_of, put_on, tops, making_room, AllAbove, IsNearest, IsTop, Rises};
 
 use crate::snapshot::Snapshot;
 use model::{MAX_CHECKPOINTS, NoMemory};
@@ -109,7 +109,7 @@ impl<S: Drop> Shelf<S> {
 
 /// Adds a snapshot at the end, where at most 64 are kept. Where that finds no memory, all stay.
 fn push_last<S: Drop>(others: &mut Vec<Snapshot<S>>, snapshot: Snapshot<S>) -> Result<(), NoMemory>
-    ensures ok { IfOk result (λ _. others.new.items ≡ with_room others.old.items ++ snapshot ∷ []) }
+    ensures ok { IfOk result (λ _. others.new.items ≡ making_room others.old.items ++ snapshot ∷ []) }
     ensures err { OnErr result (others.new.items ≡ others.old.items) }
 {
     others.reserve(1)?;

@@ -7,7 +7,7 @@ use Rattle.std.specs.List.{remove}
 use Rattle.std.proofs.lemmas.Option.{slice_get_within}
 use Rattle.theory.proofs.ListLaws.{get_append, get_drop}
 use Rattle.checkpoint.specs.declared.snapshot.Snapshot.{Snapshot}
-use Rattle.checkpoint.specs.Shelves.{Shelved, IsTop, Rises, has_index, put_on, with_room}
+use Rattle.checkpoint.specs.Shelves.{Shelved, IsTop, Rises, has_index, put_on, making_room}
 use Rattle.checkpoint.proofs.Rising.{rises_put, remove_first}
 use Rattle.model.specs.declared.records.Record.{Record}
 use Rattle.compact.specs.Compact.{Interval, Progress}
@@ -74,7 +74,7 @@ kept_took u progress outside intervals volatile i r k room mark is was more =
 
 -- ---- one more snapshot
 
-room_there : {P : Type 0} (others : List (Snapshot P)) (i : ℕ) (x : Snapshot P) → slice_get (with_room others) i ≡ Some x → (j : ℕ) × (slice_get others j ≡ Some x)
+room_there : {P : Type 0} (others : List (Snapshot P)) (i : ℕ) (x : Snapshot P) → slice_get (making_room others) i ≡ Some x → (j : ℕ) × (slice_get others j ≡ Some x)
 room_there {P} others i x e = go (nat_lt (length others) 64) e
   where
     go : (b : Bool) → slice_get (cond b others (remove others 0)) i ≡ Some x → (j : ℕ) × (slice_get others j ≡ Some x)
@@ -85,10 +85,10 @@ room_there {P} others i x e = go (nat_lt (length others) 64) e
 put_top : {P : Type 0} (s : Shelved P) (x : Snapshot P) → IsTop s x.index → IsTop (put_on s x) x.index
 put_top {P} s x top = go (has_index s x.index)
   where
-    go : (b : Bool) → IsTop (cond b s (record s { others = with_room s.others ++ x ∷ [] })) x.index
+    go : (b : Bool) → IsTop (cond b s (record s { others = making_room s.others ++ x ∷ [] })) x.index
     go true y there = top y there
     go false y (inl e) = top y (inl e)
-    go false y (inr t) = elim (get_append (with_room s.others) x y t.0 t.1) [
+    go false y (inr t) = elim (get_append (making_room s.others) x y t.0 t.1) [
       | inl h ↦ top y (inr (room_there s.others t.0 y h))
       | inr h ↦ let k = h.1 in rw k (omega arith)
     ]
@@ -96,16 +96,16 @@ put_top {P} s x top = go (has_index s x.index)
 put_base : {P : Type 0} (s : Shelved P) (x : Snapshot P) → (put_on s x).base ≡ s.base
 put_base {P} s x = go (has_index s x.index)
   where
-    go : (b : Bool) → (cond b s (record s { others = with_room s.others ++ x ∷ [] })).base ≡ s.base
+    go : (b : Bool) → (cond b s (record s { others = making_room s.others ++ x ∷ [] })).base ≡ s.base
     go true = refl
     go false = refl
 
 pub put_rises : {P : Type 0} (s : Shelved P) (x : Snapshot P) → IsTop s x.index → Rises s.base s.others → Rises (put_on s x).base (put_on s x).others
 put_rises {P} s x top r = go (has_index s x.index) refl
   where
-    go : (b : Bool) → has_index s x.index ≡ b → Rises (cond b s (record s { others = with_room s.others ++ x ∷ [] })).base (cond b s (record s { others = with_room s.others ++ x ∷ [] })).others
+    go : (b : Bool) → has_index s x.index ≡ b → Rises (cond b s (record s { others = making_room s.others ++ x ∷ [] })).base (cond b s (record s { others = making_room s.others ++ x ∷ [] })).others
     go true e = r
-    go false e = rises_put s.base s.others (with_room s.others ++ x ∷ []) x refl e top r
+    go false e = rises_put s.base s.others (making_room s.others ++ x ∷ []) x refl e top r
 
 -- no snapshot is above the last interval, where all are stable
 pub last_top : {S : Type 0} (u : Recovering S) (index : ℕ) → IsKept u → length u.volatile ≡ 0 → index ≡ (u.base + length u.intervals) - 1 → IsTop u.shelf index

@@ -7,7 +7,7 @@ use Rattle.std.proofs.lemmas.Option.{slice_get_within}
 use Rattle.model.proofs.Places.{get_below}
 use Rattle.theory.proofs.ListLaws.{any_at, append_get, append_get_last, bool_cases, eq_true, or_cases, lt_false}
 use Rattle.checkpoint.specs.declared.snapshot.Snapshot.{Snapshot}
-use Rattle.checkpoint.specs.Shelves.{Shelved, Rises, IsShelved, IsTop, has_index, is_at, nearest_of, put_on, with_room}
+use Rattle.checkpoint.specs.Shelves.{Shelved, Rises, IsShelved, IsTop, has_index, is_at, nearest_of, put_on, making_room}
 use Rattle.checkpoint.proofs.Nearest.{nearest_some, nearest_none}
 use Rattle.rollback.specs.Units.{IsKept, KeepsShelved, Recovering, shelf_with}
 use Rattle.rollback.proofs.Keeping.{put_rises}
@@ -35,9 +35,9 @@ has_there {P} s n e = elim (or_cases (option_map_or (is_at n) s.base false) (lis
 put_there : {P : Type 0} (s : Shelved P) (x : Snapshot P) → (y : Snapshot P) × IsShelved (put_on s x) y × (y.index ≡ x.index)
 put_there {P} s x = go (has_index s x.index) refl
   where
-    go : (b : Bool) → has_index s x.index ≡ b → (y : Snapshot P) × IsShelved (cond b s (record s { others = with_room s.others ++ x ∷ [] })) y × (y.index ≡ x.index)
+    go : (b : Bool) → has_index s x.index ≡ b → (y : Snapshot P) × IsShelved (cond b s (record s { others = making_room s.others ++ x ∷ [] })) y × (y.index ≡ x.index)
     go true e = has_there s x.index e
-    go false e = (x, inr (length (with_room s.others), append_get_last (with_room s.others) x), refl)
+    go false e = (x, inr (length (making_room s.others), append_get_last (making_room s.others) x), refl)
 
 pub shelved_nearest : {P : Type 0} (s : Shelved P) (index : ℕ) (o : Option P) → IsTop s index → Rises s.base s.others → is_some o ≡ true → option_map (λ (x : Snapshot P). x.index) (nearest_of (shelf_with s index o) index) ≡ Some index
 shelved_nearest s index None top r e = cc
@@ -48,7 +48,7 @@ shelved_nearest {P} s index (Some p) top r e =
     rw is at (nearest_at (put_on s x) t.0 (put_rises s x top r) t.1)
 
 -- what was shelved stays, but for the first where there is no room
-room_keeps : {P : Type 0} (others : List (Snapshot P)) (i : ℕ) (x : Snapshot P) → slice_get others i ≡ Some x → ((j : ℕ) × (slice_get (with_room others) j ≡ Some x)) ⊎ ((64 ≤ length others) × (slice_get others 0 ≡ Some x))
+room_keeps : {P : Type 0} (others : List (Snapshot P)) (i : ℕ) (x : Snapshot P) → slice_get others i ≡ Some x → ((j : ℕ) × (slice_get (making_room others) j ≡ Some x)) ⊎ ((64 ≤ length others) × (slice_get others 0 ≡ Some x))
 room_keeps {P} others i x e = elim (bool_cases (nat_lt (length others) 64)) [
   | inl h ↦ inl (i, rw h e)
   | inr h ↦ rw h (go others i e (lt_false (length others) 64 h))
@@ -62,14 +62,14 @@ room_keeps {P} others i x e = elim (bool_cases (nat_lt (length others) 64)) [
 put_keeps : {P : Type 0} (s : Shelved P) (x : Snapshot P) → KeepsShelved s (put_on s x)
 put_keeps {P} s x = go (has_index s x.index)
   where
-    go : (b : Bool) → KeepsShelved s (cond b s (record s { others = with_room s.others ++ x ∷ [] }))
+    go : (b : Bool) → KeepsShelved s (cond b s (record s { others = making_room s.others ++ x ∷ [] }))
     go true = record { base = refl; others = λ y there. inl there }
     go false = record { base = refl; others = kept }
       where
-        kept : (y : Snapshot P) → IsShelved s y → IsShelved (record s { others = with_room s.others ++ x ∷ [] }) y ⊎ ((64 ≤ length s.others) × (slice_get s.others 0 ≡ Some y))
+        kept : (y : Snapshot P) → IsShelved s y → IsShelved (record s { others = making_room s.others ++ x ∷ [] }) y ⊎ ((64 ≤ length s.others) × (slice_get s.others 0 ≡ Some y))
         kept y (inl e) = inl (inl e)
         kept y (inr t) = elim (room_keeps s.others t.0 y t.1) [
-          | inl h ↦ inl (inr (h.0, append_get (with_room s.others) (x ∷ []) h.0 y h.1))
+          | inl h ↦ inl (inr (h.0, append_get (making_room s.others) (x ∷ []) h.0 y h.1))
           | inr h ↦ inr h
         ]
 

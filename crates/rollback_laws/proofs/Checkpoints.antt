@@ -6,7 +6,7 @@ use Rattle.std.specs.Option.{option_map_or}
 use Rattle.theory.proofs.ListLaws.{any_none, at_any, at_map, bool_cases, lt_true, map_at, or_left, or_right, true_eq, lt_false}
 use Rattle.model.specs.Handler.{Meaning}
 use Rattle.checkpoint.specs.declared.snapshot.Snapshot.{Snapshot as Shelf}
-use Rattle.checkpoint.specs.Shelves.{Shelved, IsTop, Rises, has_index, is_at, put_on, with_room}
+use Rattle.checkpoint.specs.Shelves.{Shelved, IsTop, Rises, has_index, is_at, put_on, making_room}
 use Rattle.compact.specs.Compact.{Progress, Snapshot, Unit}
 use Rattle.compact.specs.Steps.{last_shelved, places as all_of, shelved_unit}
 use Rattle.compact.proofs.Words.{map_push}
@@ -31,7 +31,7 @@ removed [] t h = absurd (omega (arith, h))
 removed (y ∷ ys) t h = sym (map_push shelved_as ys t)
 
 -- one more where there is room, and else the first goes
-roomed : {S : Type 0} (xs : List (Snapshot S)) (t : Snapshot S) → (n : ℕ) × (n ≤ 1) × (with_room (map shelved_as xs) ++ shelved_as t ∷ [] ≡ map shelved_as (drop n (xs ++ t ∷ [])))
+roomed : {S : Type 0} (xs : List (Snapshot S)) (t : Snapshot S) → (n : ℕ) × (n ≤ 1) × (making_room (map shelved_as xs) ++ shelved_as t ∷ [] ≡ map shelved_as (drop n (xs ++ t ∷ [])))
 roomed {S} xs t = elim (bool_cases (nat_lt (length (map shelved_as xs)) 64)) [
   | inl e ↦ (0, omega arith, ap (λ b. cond b (map shelved_as xs) (remove (map shelved_as xs) 0) ++ shelved_as t ∷ []) e ∙ sym (map_push shelved_as xs t))
   | inr e ↦ (1, omega arith, ap (λ b. cond b (map shelved_as xs) (remove (map shelved_as xs) 0) ++ shelved_as t ∷ []) e ∙ removed xs t (lt_false (length (map shelved_as xs)) 64 e))
@@ -72,7 +72,7 @@ module _ {S : Type 0} (sh : Shelved (Progress S)) (b : Snapshot S) (xs : List (S
   ]
 
   abbrev more : Shelved (Progress S)
-  more = record sh { others = with_room sh.others ++ shelved_as t ∷ [] }
+  more = record sh { others = making_room sh.others ++ shelved_as t ∷ [] }
 
   put_seen : (n : ℕ) × (n ≤ 1) × ((put_on sh (shelved_as t)).base ≡ Some (shelved_as b)) × ((put_on sh (shelved_as t)).others ≡ map shelved_as (drop n (cond (nat_lt (last_shelved b.index xs) t.index) (xs ++ t ∷ []) xs)))
   put_seen = elim (bool_cases (nat_lt (last_shelved b.index xs) t.index)) [
@@ -82,7 +82,7 @@ module _ {S : Type 0} (sh : Shelved (Progress S)) (b : Snapshot S) (xs : List (S
           room.0,
           room.1,
           ap (λ (z : Shelved (Progress S)). z.base) put ∙ base,
-          ap (λ (z : Shelved (Progress S)). z.others) put ∙ ap (λ ys. with_room ys ++ shelved_as t ∷ []) others ∙ room.2 ∙ ap (λ z. map shelved_as (drop room.0 (cond z (xs ++ t ∷ []) xs))) (sym e),
+          ap (λ (z : Shelved (Progress S)). z.others) put ∙ ap (λ ys. making_room ys ++ shelved_as t ∷ []) others ∙ room.2 ∙ ap (λ z. map shelved_as (drop room.0 (cond z (xs ++ t ∷ []) xs))) (sym e),
         )
     | inr e ↦
         let put : put_on sh (shelved_as t) ≡ sh = ap (λ z. cond z sh more) (present (lt_false (last_shelved b.index xs) t.index e)) in (

@@ -10,7 +10,7 @@ use Rattle.model.specs.Keeping.{Shelf, based, cut, later, put, with_room as room
 use Rattle.model.specs.Lists.{has}
 use Rattle.theory.proofs.ListLaws.{any_at, bool_cases, eq_true, le_true, lt_true, true_le, true_lt, false_lt}
 use Rattle.checkpoint.specs.declared.snapshot.Snapshot.{Snapshot}
-use Rattle.checkpoint.specs.Shelves.{Rises, cut_at, has_index, is_at, later_of, put_on, with_room}
+use Rattle.checkpoint.specs.Shelves.{Rises, cut_at, has_index, is_at, later_of, put_on, making_room}
 use Rattle.compact.specs.Compact.{Progress}
 use Rattle.rollback.specs.Units.{IsKept, Recovering, based_on, forgotten, places}
 use Rattle.rollback.proofs.Forgetting.{others_have}
@@ -44,7 +44,7 @@ without_first : {P : Type 0} (xs : List (Snapshot P)) → indices (remove xs 0) 
 without_first [] = refl
 without_first (x ∷ xs) = refl
 
-room_is : {P : Type 0} (xs : List (Snapshot P)) → indices (with_room xs) ≡ room_of (indices xs)
+room_is : {P : Type 0} (xs : List (Snapshot P)) → indices (making_room xs) ≡ room_of (indices xs)
 room_is {P} xs =
     map_cond (nat_lt (length xs) 64) xs (remove xs 0)
     ∙ ap (λ ys. cond (nat_lt (length xs) 64) (indices xs) ys) (without_first xs)
@@ -147,9 +147,9 @@ module _ {S : Type 0} (r : Recovering S) where
   pub put_is : IsKept r → (index : ℕ) (p : Progress S) → shelf_of (record r { shelf = put_on r.shelf (record { index = index; state = p }) }) ≡ put index (shelf_of r)
   put_is k index p = go (has_index r.shelf index) ∙ ap (λ b. cond b (shelf_of r) (shelf r.base (room_of (indices others) ++ index ∷ []))) (has_is k index)
     where
-      go : (b : Bool) → shelf_of (record r { shelf = cond b r.shelf (record r.shelf { others = with_room others ++ snapshot index p ∷ [] }) }) ≡ cond b (shelf_of r) (shelf r.base (room_of (indices others) ++ index ∷ []))
+      go : (b : Bool) → shelf_of (record r { shelf = cond b r.shelf (record r.shelf { others = making_room others ++ snapshot index p ∷ [] }) }) ≡ cond b (shelf_of r) (shelf r.base (room_of (indices others) ++ index ∷ []))
       go true = refl
-      go false = ap (shelf r.base) (map-append index_of (with_room others) (snapshot index p ∷ []) ∙ ap (λ is. is ++ index ∷ []) (room_is others))
+      go false = ap (shelf r.base) (map-append index_of (making_room others) (snapshot index p ∷ []) ∙ ap (λ is. is ++ index ∷ []) (room_is others))
 
   -- ---- a path is cut
 
