@@ -121,8 +121,8 @@ unfoldable pub optimism_at : Data → Option ℕ
 optimism_at d = optimism_or (get (codes "optimism") d) d
 
 -- quota and optimism may be left out
-unfoldable pub open_of : Data → Option Step
-open_of d = do
+unfoldable pub open_form : Data → Option Step
+open_form d = do
   tenant ← name_at d
   kinds ← texts_at (codes "units") d
   quota ← quota_at d
@@ -130,15 +130,15 @@ open_of d = do
   if has_keys (3 + one_if_has (codes "quota") d + one_if_has (codes "optimism") d) d then Some (Open tenant kinds quota optimism) else None
 
 -- one more unit of a kind
-unfoldable pub join_of : Data → Option Step
-join_of d = do
+unfoldable pub join_form : Data → Option Step
+join_form d = do
   tenant ← name_at d
   kind ← text_at (codes "kind") d
   if has_keys 3 d then Some (Join tenant kind) else None
 
 -- a text from outside
-unfoldable pub post_of : Data → Option Step
-post_of d = do
+unfoldable pub post_form : Data → Option Step
+post_form d = do
   tenant ← name_at d
   unit ← byte_at (codes "unit") d
   number ← word_at (codes "number") d
@@ -146,8 +146,8 @@ post_of d = do
   if has_keys 5 d then Some (Post tenant unit number text) else None
 
 -- a letter
-unfoldable pub deliver_of : Data → Option Step
-deliver_of d = do
+unfoldable pub deliver_form : Data → Option Step
+deliver_form d = do
   tenant ← name_at d
   letter ← word_at (codes "letter") d
   if has_keys 3 d then Some (Deliver tenant letter) else None
@@ -160,47 +160,47 @@ place_of d = do
   if has_keys 3 d then Some (tenant, unit) else None
 
 -- the unit's volatile records are logged
-abbrev pub flush_of : Data → Option Step
-flush_of d = option_map (λ p. Flush p.0 p.1) (place_of d)
+abbrev pub flush_form : Data → Option Step
+flush_form d = option_map (λ p. Flush p.0 p.1) (place_of d)
 
 -- a snapshot of the unit is shelved
-abbrev pub checkpoint_of : Data → Option Step
-checkpoint_of d = option_map (λ p. Checkpoint p.0 p.1) (place_of d)
+abbrev pub checkpoint_form : Data → Option Step
+checkpoint_form d = option_map (λ p. Checkpoint p.0 p.1) (place_of d)
 
 -- the unit fails
-abbrev pub kill_of : Data → Option Step
-kill_of d = option_map (λ p. Kill p.0 p.1) (place_of d)
+abbrev pub kill_form : Data → Option Step
+kill_form d = option_map (λ p. Kill p.0 p.1) (place_of d)
 
 -- the unit that is down goes back
-abbrev pub restart_of : Data → Option Step
-restart_of d = option_map (λ p. Restart p.0 p.1) (place_of d)
+abbrev pub restart_form : Data → Option Step
+restart_form d = option_map (λ p. Restart p.0 p.1) (place_of d)
 
 -- the unit learns the rows of the table
-abbrev pub notice_of : Data → Option Step
-notice_of d = option_map (λ p. Notice p.0 p.1) (place_of d)
+abbrev pub notice_form : Data → Option Step
+notice_form d = option_map (λ p. Notice p.0 p.1) (place_of d)
 
 -- the unit's held outputs are released
-abbrev pub release_of : Data → Option Step
-release_of d = option_map (λ p. Release p.0 p.1) (place_of d)
+abbrev pub release_form : Data → Option Step
+release_form d = option_map (λ p. Release p.0 p.1) (place_of d)
 
 -- what the unit is at
-abbrev pub status_of : Data → Option Step
-status_of d = option_map (λ p. Status p.0 p.1) (place_of d)
+abbrev pub status_form : Data → Option Step
+status_form d = option_map (λ p. Status p.0 p.1) (place_of d)
 
 -- the form that the verb names
 abbrev pub form_of : List ℕ → Data → Option Step
 form_of verb d =
-    if bytes_eq verb (codes "open") then open_of d
-    else if bytes_eq verb (codes "join") then join_of d
-    else if bytes_eq verb (codes "post") then post_of d
-    else if bytes_eq verb (codes "deliver") then deliver_of d
-    else if bytes_eq verb (codes "flush") then flush_of d
-    else if bytes_eq verb (codes "checkpoint") then checkpoint_of d
-    else if bytes_eq verb (codes "kill") then kill_of d
-    else if bytes_eq verb (codes "restart") then restart_of d
-    else if bytes_eq verb (codes "notice") then notice_of d
-    else if bytes_eq verb (codes "release") then release_of d
-    else if bytes_eq verb (codes "status") then status_of d
+    if bytes_eq verb (codes "open") then open_form d
+    else if bytes_eq verb (codes "join") then join_form d
+    else if bytes_eq verb (codes "post") then post_form d
+    else if bytes_eq verb (codes "deliver") then deliver_form d
+    else if bytes_eq verb (codes "flush") then flush_form d
+    else if bytes_eq verb (codes "checkpoint") then checkpoint_form d
+    else if bytes_eq verb (codes "kill") then kill_form d
+    else if bytes_eq verb (codes "restart") then restart_form d
+    else if bytes_eq verb (codes "notice") then notice_form d
+    else if bytes_eq verb (codes "release") then release_form d
+    else if bytes_eq verb (codes "status") then status_form d
     else None
 
 -- the step that a value is, or none

@@ -5,7 +5,7 @@
 
 ghost use Rattle.std.specs.Prelude.{◌≡◌, ◌≤◌, ℕ, IfOk};
 ghost use Rattle.serde_json.specs.View.{view, items_view};
-ghost use Rattle.forms.specs.Reading.{Gives, greatest_byte, greatest_word, text_at, name_at, byte_at, word_at, whole_at, texts_of, texts_at, has_keys, one_if_has, quota_of, quota_at, optimism_at, place_of, open_of, join_of, post_of, deliver_of, flush_of, checkpoint_of, kill_of, restart_of, notice_of, release_of, status_of, step_of, step_of_line};
+ghost use Rattle.forms.specs.Reading.{Gives, greatest_byte, greatest_word, text_at, name_at, byte_at, word_at, whole_at, texts_of, texts_at, has_keys, one_if_has, quota_of, quota_at, optimism_at, place_of, open_form, join_form, post_form, deliver_form, flush_form, checkpoint_form, kill_form, restart_form, notice_form, release_form, status_form, step_of, step_of_line};
 
 use crate::fault::LineFault;
 use model::{
@@ -67,9 +67,9 @@ fn step(alloc: Global, value: &Value) -> Result<Step, LineFault>
     }
 }
 
-#[tactic(auto, unfolding(crate::specs::Reading::open_of))]
+#[tactic(auto, unfolding(crate::specs::Reading::open_form))]
 fn open(alloc: Global, value: &Value) -> Result<Step, LineFault>
-    ensures { Gives (λ s. s) result (open_of (view value.now)) }
+    ensures { Gives (λ s. s) result (open_form (view value.now)) }
 {
     let tenant = name(value)?;
     let kinds = texts(alloc, value, "units")?;
@@ -134,9 +134,9 @@ fn optimism(value: &Value) -> Result<u32, LineFault>
     }
 }
 
-#[tactic(auto, unfolding(crate::specs::Reading::join_of))]
+#[tactic(auto, unfolding(crate::specs::Reading::join_form))]
 fn join(alloc: Global, value: &Value) -> Result<Step, LineFault>
-    ensures { Gives (λ s. s) result (join_of (view value.now)) }
+    ensures { Gives (λ s. s) result (join_form (view value.now)) }
 {
     let tenant = name(value)?;
     let kind = Text::of(alloc, text(value, "kind")?)?;
@@ -147,9 +147,9 @@ fn join(alloc: Global, value: &Value) -> Result<Step, LineFault>
     }
 }
 
-#[tactic(auto, unfolding(crate::specs::Reading::post_of))]
+#[tactic(auto, unfolding(crate::specs::Reading::post_form))]
 fn post(alloc: Global, value: &Value) -> Result<Step, LineFault>
-    ensures { Gives (λ s. s) result (post_of (view value.now)) }
+    ensures { Gives (λ s. s) result (post_form (view value.now)) }
 {
     let tenant = name(value)?;
     let unit = Unit::new(byte(value, "unit")?);
@@ -167,9 +167,9 @@ fn post(alloc: Global, value: &Value) -> Result<Step, LineFault>
     }
 }
 
-#[tactic(auto, unfolding(crate::specs::Reading::deliver_of))]
+#[tactic(auto, unfolding(crate::specs::Reading::deliver_form))]
 fn deliver(value: &Value) -> Result<Step, LineFault>
-    ensures { Gives (λ s. s) result (deliver_of (view value.now)) }
+    ensures { Gives (λ s. s) result (deliver_form (view value.now)) }
 {
     let tenant = name(value)?;
     let letter = Letter::new(word(value, "letter")?);
@@ -195,49 +195,49 @@ fn place(value: &Value) -> Result<(TenantName, Unit), LineFault>
 }
 
 fn flush(value: &Value) -> Result<Step, LineFault>
-    ensures { Gives (λ s. s) result (flush_of (view value.now)) }
+    ensures { Gives (λ s. s) result (flush_form (view value.now)) }
 {
     let (tenant, unit) = place(value)?;
     Ok(Step::Flush { tenant, unit })
 }
 
 fn checkpoint(value: &Value) -> Result<Step, LineFault>
-    ensures { Gives (λ s. s) result (checkpoint_of (view value.now)) }
+    ensures { Gives (λ s. s) result (checkpoint_form (view value.now)) }
 {
     let (tenant, unit) = place(value)?;
     Ok(Step::Checkpoint { tenant, unit })
 }
 
 fn kill(value: &Value) -> Result<Step, LineFault>
-    ensures { Gives (λ s. s) result (kill_of (view value.now)) }
+    ensures { Gives (λ s. s) result (kill_form (view value.now)) }
 {
     let (tenant, unit) = place(value)?;
     Ok(Step::Kill { tenant, unit })
 }
 
 fn restart(value: &Value) -> Result<Step, LineFault>
-    ensures { Gives (λ s. s) result (restart_of (view value.now)) }
+    ensures { Gives (λ s. s) result (restart_form (view value.now)) }
 {
     let (tenant, unit) = place(value)?;
     Ok(Step::Restart { tenant, unit })
 }
 
 fn notice(value: &Value) -> Result<Step, LineFault>
-    ensures { Gives (λ s. s) result (notice_of (view value.now)) }
+    ensures { Gives (λ s. s) result (notice_form (view value.now)) }
 {
     let (tenant, unit) = place(value)?;
     Ok(Step::Notice { tenant, unit })
 }
 
 fn release(value: &Value) -> Result<Step, LineFault>
-    ensures { Gives (λ s. s) result (release_of (view value.now)) }
+    ensures { Gives (λ s. s) result (release_form (view value.now)) }
 {
     let (tenant, unit) = place(value)?;
     Ok(Step::Release { tenant, unit })
 }
 
 fn status(value: &Value) -> Result<Step, LineFault>
-    ensures { Gives (λ s. s) result (status_of (view value.now)) }
+    ensures { Gives (λ s. s) result (status_form (view value.now)) }
 {
     let (tenant, unit) = place(value)?;
     Ok(Step::Status { tenant, unit })

@@ -250,7 +250,7 @@ fn step(alloc: Global, seen: Seen<'_>) -> Result<Option<Step>, LineFault>
     }
 }
 
-#[tactic(auto, unfolding(forms::specs::Reading::step_of, forms::specs::Reading::post_of))]
+#[tactic(auto, unfolding(forms::specs::Reading::step_of, forms::specs::Reading::post_form))]
 pub(crate) fn post(
     alloc: Global,
     verb: &str,
@@ -277,7 +277,7 @@ pub(crate) fn post(
     }))
 }
 
-#[tactic(auto, unfolding(forms::specs::Reading::step_of, forms::specs::Reading::deliver_of))]
+#[tactic(auto, unfolding(forms::specs::Reading::step_of, forms::specs::Reading::deliver_form))]
 pub(crate) fn deliver(verb: &str, letter: u64, tenant: &str) -> Option<Step>
     ensures { IfSome result (λ s. step_of (deliver_data verb.now letter tenant.now) ≡ Some s) }
 {
@@ -291,7 +291,7 @@ pub(crate) fn deliver(verb: &str, letter: u64, tenant: &str) -> Option<Step>
     })
 }
 
-#[tactic(auto, unfolding(forms::specs::Reading::step_of, forms::specs::Reading::join_of))]
+#[tactic(auto, unfolding(forms::specs::Reading::step_of, forms::specs::Reading::join_form))]
 fn join(alloc: Global, verb: &str, kind: &str, tenant: &str) -> Result<Option<Step>, NoMemory>
     ensures { IfOk result (λ o. IfSome o
         (λ s. step_of (join_data verb.now kind.now tenant.now) ≡ Some s)) }
