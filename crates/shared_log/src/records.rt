@@ -3,7 +3,7 @@
 ghost use Rattle.std.specs.Prelude.{◌≡◌, ◌<◌, ◌-◌, ◌/◌, ◌%◌, ◌++◌, ◌∷◌, [], ℕ, IfOk, IfErr, OnOk, OnErr, MatchOption, Some, None, length, slice_get, slice_set, take, true};
 ghost use Rattle.indexmap.specs.IndexMap.{IsUnchanged};
 ghost use Rattle.shared_log.specs.Logged.{IsHeld};
-ghost use Rattle.shared_log.specs.Records.{OtherPlaces, held, held_by, kept};
+ghost use Rattle.shared_log.specs.Records.{OtherPlaces, in_block, in_numbered, in_blocks};
 
 use indexmap::IndexMap;
 use model::{NoMemory, Record};
@@ -86,7 +86,7 @@ impl Block {
     }
 
     fn record(&self, at: usize) -> Option<&Record>
-        ensures { MatchOption result (held self.now at ≡ None) (λ r. held self.now at ≡ Some r.now) }
+        ensures { MatchOption result (in_block self.now at ≡ None) (λ r. in_block self.now at ≡ Some r.now) }
     {
         match self.places.get(at) {
             Some(place) => place.record(),
@@ -102,7 +102,7 @@ impl Block {
 
     /// Makes so many places, where there are fewer.
     fn widen(&mut self, count: usize) -> Result<(), NoMemory>
-        ensures { (at : ℕ) → held self.new at ≡ held self.old at }
+        ensures { (at : ℕ) → in_block self.new at ≡ in_block self.old at }
     {
         for _ in self.places.len()..count {
             self.places.push(Place::without_record())?;
@@ -113,8 +113,8 @@ impl Block {
     /// Puts a place in.
     fn put(&mut self, at: usize, place: Place) -> Result<(), NoMemory>
         requires { at < 64 }
-        ensures own { OnOk result (held self.new at ≡ place) }
-        ensures rest { (other : ℕ) → (other ≡ at → ⊥) → held self.new other ≡ held self.old other }
+        ensures own { OnOk result (in_block self.new at ≡ place) }
+        ensures rest { (other : ℕ) → (other ≡ at → ⊥) → in_block self.new other ≡ in_block self.old other }
     {
         self.widen(at + 1)?;
         match self.places.get_mut(at) {
@@ -128,8 +128,8 @@ impl Block {
 
     /// Empties a place.
     fn empty(&mut self, at: usize)
-        ensures own { held self.new at ≡ None }
-        ensures rest { (other : ℕ) → (other ≡ at → ⊥) → held self.new other ≡ held self.old other }
+        ensures own { in_block self.new at ≡ None }
+        ensures rest { (other : ℕ) → (other ≡ at → ⊥) → in_block self.new other ≡ in_block self.old other }
     {
         if let Some(place) = self.places.get_mut(at) {
             place.empty();
@@ -148,7 +148,7 @@ impl Block {
     /// Takes the empty places at the end off. Places are mostly forgotten in rising order, and then
     /// the last one of a block is kept longest and the loop ends at once.
     fn trim(&mut self)
-        ensures { (at : ℕ) → held self.new at ≡ held self.old at }
+        ensures { (at : ℕ) → in_block self.new at ≡ in_block self.old at }
     {
         for _ in 0..self.places.len() {
             if !self.ends_empty() {
@@ -174,9 +174,9 @@ fn give_back(others: &mut Others)
 
 /// Takes a block out.
 fn take_out(others: &mut Others, number: u64) -> Block
-    ensures taken { (at : ℕ) → held result at ≡ held_by others.old number at }
-    ensures gone { (at : ℕ) → held_by others.new number at ≡ None }
-    ensures rest { (other at : ℕ) → (other ≡ number → ⊥) → held_by others.new other at ≡ held_by others.old other at }
+    ensures taken { (at : ℕ) → in_block result at ≡ in_numbered others.old number at }
+    ensures gone { (at : ℕ) → in_numbered others.new number at ≡ None }
+    ensures rest { (other at : ℕ) → (other ≡ number → ⊥) → in_numbered others.new other at ≡ in_numbered others.old other at }
 {
     let taken = others.swap_remove(&number);
     give_back(others);
@@ -188,9 +188,9 @@ fn take_out(others: &mut Others, number: u64) -> Block
 
 /// Lays a block by, where it keeps a record. The block comes back where there is no memory for it.
 fn lay_by(others: &mut Others, number: u64, block: Block) -> Result<(), Block>
-    ensures laid { OnOk result ((at : ℕ) → held_by others.new number at ≡ held block at) }
-    ensures rest { (other at : ℕ) → (other ≡ number → ⊥) → held_by others.new other at ≡ held_by others.old other at }
-    ensures back { IfErr result (λ back. (at : ℕ) → held back at ≡ held block at) }
+    ensures laid { OnOk result ((at : ℕ) → in_numbered others.new number at ≡ in_block block at) }
+    ensures rest { (other at : ℕ) → (other ≡ number → ⊥) → in_numbered others.new other at ≡ in_numbered others.old other at }
+    ensures back { IfErr result (λ back. (at : ℕ) → in_block back at ≡ in_block block at) }
 {
     let mut trimmed = block;
     trimmed.trim();
@@ -206,9 +206,9 @@ fn lay_by(others: &mut Others, number: u64, block: Block) -> Result<(), Block>
 
 /// Empties a place of a block, and answers whether the block keeps no record now.
 fn clear_in(others: &mut Others, number: u64, at: usize) -> bool
-    ensures own { held_by others.new number at ≡ None }
+    ensures own { in_numbered others.new number at ≡ None }
     ensures rest { OtherPlaces number at others.old others.new }
-    ensures none { result ≡ true → (i : ℕ) → held_by others.new number i ≡ None }
+    ensures none { result ≡ true → (i : ℕ) → in_numbered others.new number i ≡ None }
 {
     match others.get_mut(&number) {
         Some(block) => {
@@ -222,7 +222,7 @@ fn clear_in(others: &mut Others, number: u64, at: usize) -> bool
 
 /// Empties a place of a block, and lets the block go where that was its last record.
 fn empty_in(others: &mut Others, number: u64, at: usize)
-    ensures own { held_by others.new number at ≡ None }
+    ensures own { in_numbered others.new number at ≡ None }
     ensures rest { OtherPlaces number at others.old others.new }
 {
     if clear_in(others, number, at) {
@@ -265,7 +265,7 @@ impl Blocks {
     }
 
     fn record(&self, place: u64) -> Option<&Record>
-        ensures { MatchOption result (kept self.now place ≡ None) (λ r. kept self.now place ≡ Some r.now) }
+        ensures { MatchOption result (in_blocks self.now place ≡ None) (λ r. in_blocks self.now place ≡ Some r.now) }
     {
         if number_of(place) == self.number {
             return self.current.record(index_of(place));
@@ -279,7 +279,7 @@ impl Blocks {
     /// Makes this block the current one, and lays that by which was. Where there is no memory for
     /// that, nothing changes.
     fn turn_to(&mut self, number: u64) -> Result<(), NoMemory>
-        ensures same { (place : ℕ) → kept self.new place ≡ kept self.old place }
+        ensures same { (place : ℕ) → in_blocks self.new place ≡ in_blocks self.old place }
         ensures turned { OnOk result (self.new.number ≡ number) }
     {
         if number == self.number {
@@ -302,8 +302,8 @@ impl Blocks {
 
     /// Puts a record into a place.
     fn put(&mut self, place: u64, logged: Record) -> Result<(), NoMemory>
-        ensures own { OnOk result (kept self.new place ≡ Some logged) }
-        ensures rest { (other : ℕ) → (other ≡ place → ⊥) → kept self.new other ≡ kept self.old other }
+        ensures own { OnOk result (in_blocks self.new place ≡ Some logged) }
+        ensures rest { (other : ℕ) → (other ≡ place → ⊥) → in_blocks self.new other ≡ in_blocks self.old other }
     {
         let kept = Place::new(*self.others.allocator(), logged)?;
         self.turn_to(number_of(place))?;
@@ -312,8 +312,8 @@ impl Blocks {
 
     /// Empties a place. It takes no memory.
     fn empty(&mut self, place: u64)
-        ensures own { kept self.new place ≡ None }
-        ensures rest { (other : ℕ) → (other ≡ place → ⊥) → kept self.new other ≡ kept self.old other }
+        ensures own { in_blocks self.new place ≡ None }
+        ensures rest { (other : ℕ) → (other ≡ place → ⊥) → in_blocks self.new other ≡ in_blocks self.old other }
     {
         if number_of(place) == self.number {
             self.current.empty(index_of(place));
@@ -337,11 +337,11 @@ pub struct Records {
 impl Model for Records {
     ghost use Rattle.std.specs.Prelude.{List, Option};
     ghost use Rattle.model.specs.declared.records.Record.{Record};
-    ghost use Rattle.shared_log.specs.Records.{kept, tabled};
+    ghost use Rattle.shared_log.specs.Records.{in_blocks, tabled};
 
     ghost Value = { List (Option Record) };
 
-    ghost view = { λ r. tabled (kept r.blocks) r.count };
+    ghost view = { λ r. tabled (in_blocks r.blocks) r.count };
 }
 
 impl Records {

@@ -1,7 +1,7 @@
 use Rattle.std.proofs.Common.{◌≡◌, ℕ}
-use Rattle.shared_log.specs.Records.{held}
+use Rattle.shared_log.specs.Records.{in_block}
 use Rattle.shared_log.proofs.records.Block.trim.Given as goal
 
 -- the places have what they had
 abbrev pub invariant-loop : goal.invariant-loop
-invariant-loop l = (at : ℕ) → held l.self at ≡ held l.fn.self at
+invariant-loop l = (at : ℕ) → in_block l.self at ≡ in_block l.fn.self at

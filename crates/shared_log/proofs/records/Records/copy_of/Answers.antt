@@ -1,11 +1,11 @@
 use Rattle.std.proofs.lemmas.Result.{IfOk-weaker}
 use Rattle.std.proofs.Common.{sym}
-use Rattle.shared_log.specs.Records.{kept}
+use Rattle.shared_log.specs.Records.{in_blocks}
 use Rattle.shared_log.proofs.Tables.{found_at}
 use Rattle.shared_log.proofs.records.Records.copy_of.Goals as goal
 
 pub returns-in-Some : goal.returns-in-Some
 returns-in-Some c =
     IfOk-weaker c.copy.result _ _
-    (λ r e. found_at (kept c.self.inside.blocks) c.self.inside.count c.args.place c.args.self.now c.requires.0 c.in-Some.kept.now r c.self.view_is c.requires.1 (sym c.in-Some.ensures) e)
+    (λ r e. found_at (in_blocks c.self.inside.blocks) c.self.inside.count c.args.place c.args.self.now c.requires.0 c.in-Some.kept.now r c.self.view_is c.requires.1 (sym c.in-Some.ensures) e)
     c.copy.ensures
