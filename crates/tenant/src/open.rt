@@ -13,6 +13,7 @@ ghost use Rattle.tenant.specs.Stands.{IsOpened};
 use crate::answer::Answer;
 use crate::member::Member;
 use crate::tenant::Tenant;
+use certificate::kind_of;
 use handler::Handler;
 use incarnation::StartTable;
 use model::{
@@ -61,15 +62,6 @@ fn can_open<H: Handler>(handler: &H, names: &[Text], quota: Quota, optimism: u32
         && !has_unknown(handler, names)
         && is_quota(quota)
         && optimism <= MAX_OPTIMISM
-}
-
-fn kind_of<H: Handler>(handler: &H, name: &Text) -> Kind
-    ensures { result ≡ kind_or_0 (H.meaning.kind name.now) }
-{
-    match handler.kind(name.as_str()) {
-        Some(kind) => kind,
-        None => Kind::new(0),
-    }
 }
 
 /// One unit more, at its beginning.
