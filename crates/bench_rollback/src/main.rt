@@ -12,8 +12,7 @@ mod bench;
 mod receipts;
 mod script;
 
-use anyhow::Context;
-use script::{Bench, obey, state};
+use script::{Bench, number, obey, state};
 
 fn main(rt: HostRuntime) -> anyhow::Result<()> {
     let words: Vec<String> = std::env::args(&rt)?.collect(rt.alloc())?;
@@ -46,9 +45,4 @@ fn scripted(rt: &HostRuntime) -> anyhow::Result<()> {
         println!(rt; "  {state}")?;
     }
     Ok(())
-}
-
-/// The number that a word is.
-fn number(word: &str) -> anyhow::Result<u32> {
-    word.parse::<u32>().context("a number is wanted")
 }

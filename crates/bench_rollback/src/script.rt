@@ -93,7 +93,8 @@ fn sessions(unit: &RecoveryUnit<Sample>) -> usize {
     }
 }
 
-fn number(word: &str) -> anyhow::Result<u32> {
+/// The number that a word is.
+pub(crate) fn number(word: &str) -> anyhow::Result<u32> {
     word.parse::<u32>().context("a number is wanted")
 }
 
