@@ -1,5 +1,5 @@
 use handler::{Ask, Done, Handler, Sample, Turn};
-use ident::{Kind, Seat, Source, Text, Unit};
+use model::{Kind, Seat, Source, Text, Unit};
 use std::test::Fail;
 
 fn seat(unit: u8, kind: u8, home: u8) -> Seat {

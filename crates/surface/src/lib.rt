@@ -20,6 +20,8 @@ mod orphan_calls;
 #[cfg(test)]
 mod output_commit_calls;
 #[cfg(test)]
+mod receipts;
+#[cfg(test)]
 mod session_calls;
 #[cfg(test)]
 mod shared_log_calls;

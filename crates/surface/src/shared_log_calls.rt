@@ -1,4 +1,5 @@
-use model::{Letter, Mark, Marks, NoMemory, Record, Source, TenantName, Text, Unit};
+use crate::receipts::receipt;
+use model::{Letter, Mark, NoMemory, Record, Source, TenantName, Unit};
 use shared_log::{MemoryStore, SharedLog, StoreFault};
 use std::alloc::Global;
 use std::test::Fail;
@@ -13,16 +14,9 @@ fn record_of(alloc: Global, tenant: &str, unit: u8, number: u32) -> Result<Recor
         incarnation: 0,
         index: number,
     };
-    Ok(Record {
-        tenant: name(alloc, tenant)?,
-        unit: Unit::new(unit),
-        mark,
-        source: Source::Unit(Unit::new(0)),
-        letter: Some(Letter::new(number)),
-        number: u64::from(number),
-        text: Text::of(alloc, "x")?,
-        vector: Marks::new([mark].to_vec(alloc)?),
-    })
+    let source = Source::Unit(Unit::new(0));
+    let letter = Some(Letter::new(number));
+    receipt(alloc, tenant, unit, source, letter, u64::from(number), &[mark])
 }
 
 /// Appends a record.

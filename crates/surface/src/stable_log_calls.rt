@@ -1,4 +1,5 @@
-use model::{Letter, Mark, Marks, Record, Source, TenantName, Text, Unit};
+use crate::receipts::receipt;
+use model::{Letter, Mark, NoMemory, Record, Source, Unit};
 use stable_log::{FuseStore, SharedLog, Store, StoreFault, WriterStore};
 use std::alloc::Global;
 use std::test::Fail;
@@ -19,38 +20,18 @@ fn first() -> Mark {
     }
 }
 
-/// A receipt of "x" by a unit of tenant a.
-fn receipt(
-    alloc: Global,
-    unit: u8,
-    source: Source,
-    letter: Option<Letter>,
-    other: Mark,
-) -> Result<Record, Fail> {
-    let tenant = TenantName::new("a").ok_or("not a name")?;
-    Ok(Record {
-        tenant,
-        unit: Unit::new(unit),
-        mark: first(),
-        source,
-        letter,
-        number: 0,
-        text: Text::of(alloc, "x")?,
-        vector: Marks::new([first(), other].to_vec(alloc)?),
-    })
-}
-
-fn from_unit_0(alloc: Global) -> Result<Record, Fail> {
+fn from_unit_0(alloc: Global) -> Result<Record, NoMemory> {
     let source = Source::Unit(Unit::new(0));
-    receipt(alloc, 1, source, Some(Letter::new(0)), first())
+    let letter = Some(Letter::new(0));
+    receipt(alloc, "a", 1, source, letter, 0, &[first(), first()])
 }
 
-fn from_outside(alloc: Global) -> Result<Record, Fail> {
+fn from_outside(alloc: Global) -> Result<Record, NoMemory> {
     let begin = Mark {
         incarnation: 0,
         index: 0,
     };
-    receipt(alloc, 0, Source::Outside, None, begin)
+    receipt(alloc, "a", 0, Source::Outside, None, 0, &[first(), begin])
 }
 
 #[test]

@@ -1,26 +1,15 @@
-use model::{Mark, Marks, NoMemory, Source, TenantName, Text, Unit};
+use crate::receipts::receipt;
+use model::{Mark, NoMemory, Source};
 use std::alloc::Global;
 use std::test::Fail;
 use volatile_log::{Record, VolatileLog};
 
 fn logged(alloc: Global, index: u32) -> Result<Record, NoMemory> {
-    let Some(tenant) = TenantName::new("a") else {
-        return Err(NoMemory);
-    };
     let mark = Mark {
         incarnation: 0,
         index,
     };
-    Ok(Record {
-        tenant,
-        unit: Unit::new(0),
-        mark,
-        source: Source::Outside,
-        letter: None,
-        number: 0,
-        text: Text::of(alloc, "x")?,
-        vector: Marks::new([mark].to_vec(alloc)?),
-    })
+    receipt(alloc, "a", 0, Source::Outside, None, 0, &[mark])
 }
 
 #[test]
