@@ -3,9 +3,8 @@
 use crate::audits::audit_all;
 use crate::progress::{Bar, Counting};
 use crate::run::BLOCK;
-use forms::LineFault;
 use handler::Sample;
-use lines::{Counted, ServeFault, fault_reply, put_reply, read_feed};
+use lines::{Counted, LineFault, ServeFault, fault_reply, put_reply, read_feed};
 use log::{Log, error};
 use model::{MAX_FEEDS, NoMemory, Reply, Step};
 use stable_log::MemoryStore;
