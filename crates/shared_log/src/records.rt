@@ -112,7 +112,7 @@ impl Block {
 
     /// Puts a place in.
     fn put(&mut self, at: usize, place: Place) -> Result<(), NoMemory>
-        requires { at < 64 }
+        requires { at < BLOCK_PLACES }
         ensures own { OnOk result (in_block self.new at ≡ place) }
         ensures rest { (other : ℕ) → (other ≡ at → ⊥) → in_block self.new other ≡ in_block self.old other }
     {
@@ -232,14 +232,14 @@ fn empty_in(others: &mut Others, number: u64, at: usize)
 
 /// The number of the block that a place is in.
 fn number_of(place: u64) -> u64
-    ensures { result ≡ place / 64 }
+    ensures { result ≡ place / BLOCK_PLACES }
 {
     place / BLOCK_PLACES
 }
 
 /// Where in its block a place is.
 fn index_of(place: u64) -> usize
-    ensures { result ≡ place % 64 }
+    ensures { result ≡ place % BLOCK_PLACES }
 {
     (place % BLOCK_PLACES) as usize
 }
