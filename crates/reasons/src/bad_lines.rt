@@ -1,6 +1,6 @@
 //! What is wrong with a line that is no step.
 
-use crate::keys::{self, Key, keys_of, wanted};
+use crate::keys::{self, GREATEST_WORD, Key, keys_of, wanted};
 use model::{MAX_LINE_BYTES, NoMemory, TenantName};
 use serde_json::Value;
 use std::alloc::Global;
@@ -124,7 +124,7 @@ fn is_quota(value: &Value) -> bool {
 
 fn is_limit(quota: &Value, name: &str) -> bool {
     match quota.get(name) {
-        Some(value) => is_whole(value, 4_294_967_295),
+        Some(value) => is_whole(value, GREATEST_WORD),
         None => false,
     }
 }

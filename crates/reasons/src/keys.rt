@@ -1,5 +1,9 @@
 //! The keys of each form, and what their values must be.
 
+/// The greatest whole number where a unit stands, and everywhere else.
+pub(crate) const GREATEST_BYTE: u64 = u8::MAX as u64;
+pub(crate) const GREATEST_WORD: u64 = u32::MAX as u64;
+
 /// What a key's value must be.
 #[derive(Clone, Copy, Debug, PartialEq, Eq)]
 pub(crate) enum Value {
@@ -44,7 +48,7 @@ const OPEN: [Key; 4] = [
     },
     Key {
         name: "optimism",
-        value: Value::Whole(4_294_967_295),
+        value: Value::Whole(GREATEST_WORD),
     },
 ];
 
@@ -62,7 +66,7 @@ const JOIN: [Key; 2] = [
 const POST: [Key; 4] = [
     Key {
         name: "number",
-        value: Value::Whole(4_294_967_295),
+        value: Value::Whole(GREATEST_WORD),
     },
     Key {
         name: "tenant",
@@ -74,14 +78,14 @@ const POST: [Key; 4] = [
     },
     Key {
         name: "unit",
-        value: Value::Whole(255),
+        value: Value::Whole(GREATEST_BYTE),
     },
 ];
 
 const DELIVER: [Key; 2] = [
     Key {
         name: "letter",
-        value: Value::Whole(4_294_967_295),
+        value: Value::Whole(GREATEST_WORD),
     },
     Key {
         name: "tenant",
@@ -96,7 +100,7 @@ const OF_UNIT: [Key; 2] = [
     },
     Key {
         name: "unit",
-        value: Value::Whole(255),
+        value: Value::Whole(GREATEST_BYTE),
     },
 ];
 
@@ -119,7 +123,7 @@ pub(crate) fn wanted(value: Value) -> &'static str {
     match value {
         Value::Name => "1 to 32 of a to z, 0 to 9 and -",
         Value::Text => "a text",
-        Value::Whole(255) => "a whole number up to 255",
+        Value::Whole(GREATEST_BYTE) => "a whole number up to 255",
         Value::Whole(_) => "a whole number up to 4294967295",
         Value::Texts => "a list of texts",
         Value::Quota =>
