@@ -45,7 +45,7 @@ pub(crate) fn feeds_on<
     };
     let Feeds { steps, faults } = read;
     if steps.len() > MAX_FEEDS {
-        error!(told; "there are too many feeds: name at most 64 files");
+        error!(told; "there are too many feeds: name at most {MAX_FEEDS} files");
         return 1;
     }
     let count = count_steps(steps.as_slice());
