@@ -3,6 +3,7 @@ use Rattle.std.proofs.Common.{◌≡◌, inl, refl, sym, ap, ℕ, ◌≤◌, tru
 use Rattle.std.specs.Prelude.{Option, Some, None, option_map}
 use Rattle.std.specs.Option.{is_some}
 use Rattle.std.proofs.lemmas.Option.{same_Some}
+use Rattle.std.proofs.lemmas.List.Sums.{fold-append}
 use Rattle.checkpoint.specs.declared.snapshot.Snapshot.{Snapshot}
 use Rattle.checkpoint.specs.Shelves.{nearest_of}
 use Rattle.checkpoint.proofs.Nearest.{nearest_none}
@@ -11,7 +12,6 @@ use Rattle.compact.specs.Laws.{replayed, replayed_one}
 use Rattle.rollback.specs.Units.{Recovering, IsKept, BeginsBy}
 use Rattle.model.specs.declared.records.Record.{Record}
 use Rattle.model.specs.Handler.{Meaning}
-use Rattle.theory.proofs.Simulation.{fold_append}
 
 has_base : {P : Type 0} (o : Option (Snapshot P)) (n : ℕ) → option_map (λ (s : Snapshot P). s.index) o ≡ Some n → (b : Snapshot P) × (o ≡ Some b) × (b.index ≡ n)
 has_base None n e = cc
@@ -33,4 +33,4 @@ pub restored_fold : {S : Type 0} (M : Meaning S) (u : Recovering S) (target widt
     → option_map (λ s. replayed M u.seat (fitted width s.state) records) (nearest_of u.shelf target) ≡ Some (replayed M u.seat p (before ++ records))
 restored_fold M u target width p before records k low begins =
     let n = nearest_there u target k low in
-    rw (n.1, begins n.0 n.1) (ap Some (sym (fold_append (replayed_one M u.seat) p before records)))
+    rw (n.1, begins n.0 n.1) (ap Some (sym (fold-append (replayed_one M u.seat) p before records)))

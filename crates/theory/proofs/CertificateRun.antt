@@ -4,6 +4,7 @@ use Rattle.std.specs.Prelude.{Option, Some, None, Ok, slice_get, nat_lt, nat_le}
 use Rattle.std.specs.List.{filter, sum_by, take_while, prefix_len}
 use Rattle.std.proofs.lemmas.Bool.Decides.{nat_tests}
 use Rattle.std.proofs.lemmas.Option.{slice_get_within}
+use Rattle.std.proofs.lemmas.List.Sums.{fold-append}
 use native.Mathlib.Decide.{dec_lt, ℕ_discrete}
 use Rattle.model.specs.declared.names.Seat.{Seat}
 use Rattle.model.specs.declared.names.Source.{Source}
@@ -23,7 +24,7 @@ use Rattle.theory.proofs.Invariants.{Sound}
 use Rattle.theory.proofs.Firm.{StandsStable, firm_stands, stands_firm}
 use Rattle.theory.proofs.Chain.{Chain}
 use Rattle.theory.proofs.Sending.{Received, turns_are}
-use Rattle.theory.proofs.Simulation.{Matches, one_more, more_here, more_other, outside_step, letter_step, begin_step, join_step, matches_same, state_after, texts_to, taken_from, fold_append, Receipts}
+use Rattle.theory.proofs.Simulation.{Matches, one_more, more_here, more_other, outside_step, letter_step, begin_step, join_step, matches_same, state_after, texts_to, taken_from, Receipts}
 use Rattle.theory.proofs.Fronts.{front, front_at, front_before, front_after, front_skips, firm_past}
 use Rattle.theory.proofs.Counts.{Counted, is_began, units_at, units_first, units_above, units_step_le}
 use Rattle.theory.proofs.LettersExact.{letters_sent, sends_are, sum_line_path, take_more, text_at, first_before}
@@ -186,7 +187,7 @@ module _ {S : Type 0} (M : Meaning S) (w : World) (c : Chain w) (o : ℕ) (k : C
       let g = s.units u m found in
       rw (g.chained j q.0 x q.1 e, take_more m.path j q.0 q.1)
       (ap (λ v. (from_end (executed M w).turns q.0 (begun M (seat_in w v))).state) (sym (g.own j q.0 q.1))
-      ∙ sym (fold_append (λ _ y. (turn_in M w y).state) (M.begin (seat_in w u)) (take j m.path) (q.0 ∷ [])))
+      ∙ sym (fold-append (λ _ y. (turn_in M w y).state) (M.begin (seat_in w u)) (take j m.path) (q.0 ∷ [])))
 
   -- what each unit has done once the node at x is done too
   module _ (u i x : ℕ) (m : Member) (found : slice_get w.members u ≡ Some m) (on : slice_get m.path i ≡ Some x) (firm : is_firm w x ≡ true) where

@@ -1,9 +1,10 @@
 -- Paths are chains of predecessors, none of whose nodes is lost: every change keeps that.
-use Rattle.std.proofs.Common.{◌≡◌, ◌⊎◌, inl, inr, refl, sym, ◌∙◌, ap, ℕ, suc, ◌+◌, ◌-◌, ◌<◌, ◌≤◌, Bool, true, false, cond, not, max, ◌||◌, List, [], ◌∷◌, ◌++◌, length, arith, length-append, length-take}
+use Rattle.std.proofs.Common.{◌≡◌, ◌⊎◌, inl, inr, refl, sym, ◌∙◌, ap, ℕ, suc, ◌+◌, ◌-◌, ◌<◌, ◌≤◌, Bool, true, false, cond, not, max, List, [], ◌∷◌, ◌++◌, length, arith, length-append, length-take}
 use Rattle.std.specs.Prelude.{Option, Some, None, slice_get, slice_set, ◌==◌}
 use Rattle.std.proofs.lemmas.Bool.Decides.{nat_tests}
 use Rattle.std.proofs.lemmas.List.Folds.{list_any-append}
 use Rattle.std.specs.List.{take_while}
+use Rattle.std.proofs.lemmas.Bool.{or_from}
 use native.Mathlib.Decide.{ℕ_discrete}
 use Rattle.model.specs.declared.names.Row.{Row}
 use Rattle.model.specs.declared.names.Seat.{Seat}
@@ -53,23 +54,19 @@ not_lost_by n r h = elim (ℕ_discrete r.unit n.unit) [
   | no e ↦ grind (arith, nat_tests)
 ]
 
-both_false : (a b : Bool) → a ≡ false → b ≡ false → (a || b) ≡ false
-both_false false b e f = f
-both_false true b e f = cc
-
 -- a node of the greatest incarnation or above is not lost
 pub latest_kept : (rows : List Row) (n : Node) → incarnation_of rows n.unit ≤ n.incarnation → is_lost rows n ≡ false
 latest_kept [] n h = refl
 latest_kept (r ∷ rows) n h = elim (bool_cases (r.unit == n.unit)) [
   | inl q ↦ let le : max r.incarnation (incarnation_of rows n.unit) ≤ n.incarnation = rw q at h in
-      both_false _ _ (not_lost_by n r (λ _. inl (omega arith))) (latest_kept rows n (omega arith))
+      or_from _ _ (not_lost_by n r (λ _. inl (omega arith))) (latest_kept rows n (omega arith))
   | inr q ↦ let le : incarnation_of rows n.unit ≤ n.incarnation = rw q at h in
-      both_false _ _ (not_lost_by n r (λ e. absurd (grind (arith, nat_tests)))) (latest_kept rows n le)
+      or_from _ _ (not_lost_by n r (λ e. absurd (grind (arith, nat_tests)))) (latest_kept rows n le)
 ]
 
 -- one more row that does not lose the node leaves it kept
 kept_more : (rows : List Row) (r : Row) (n : Node) → is_lost rows n ≡ false → is_lost_by n r ≡ false → is_lost (rows ++ r ∷ []) n ≡ false
-kept_more rows r n h k = rw (list_any-append (is_lost_by n) rows (r ∷ [])) (both_false _ _ h (both_false _ _ k refl))
+kept_more rows r n h k = rw (list_any-append (is_lost_by n) rows (r ∷ [])) (or_from _ _ h (or_from _ _ k refl))
 
 -- one more row does not lessen the greatest incarnation
 pub incarnation_more : (rows : List Row) (r : Row) (u : ℕ) → incarnation_of rows u ≤ incarnation_of (rows ++ r ∷ []) u

@@ -3,9 +3,10 @@ use Rattle.std.proofs.Common.{◌≡◌, inl, inr, refl, sym, ◌∙◌, ap, sub
 use Rattle.std.specs.Prelude.{Some, slice_get, slice_set}
 use Rattle.std.specs.List.{flat_map, take_while}
 use Rattle.std.proofs.lemmas.List.Sums.{take_while-cons}
-use Rattle.std.proofs.lemmas.List.{length-map, map-append}
+use Rattle.std.proofs.lemmas.List.{length-map, map-append, drop-map}
 use Rattle.std.proofs.lemmas.Option.{slice_get_within, same_Some}
 use Rattle.std.proofs.Math.Seq.{drop-append_seam}
+use Rattle.std.proofs.lemmas.Grind.{flat_map-append}
 use mathlib.Core.List.{IsPrefix}
 use native.Mathlib.Decide.{ℕ_discrete}
 use Rattle.model.specs.Handler.{Turn, Meaning}
@@ -24,7 +25,6 @@ use Rattle.theory.proofs.Invariants.{Sound, sound_change}
 use Rattle.theory.proofs.Firm.{firm_stands, firm_change, path_depends}
 use Rattle.theory.proofs.Fronts.{firm_past}
 use Rattle.theory.proofs.Sending.{turns_length}
-use Rattle.theory.proofs.Simulation.{flat_append}
 
 -- ---- lists
 
@@ -39,7 +39,7 @@ prefix_at (x ∷ xs) (y ∷ ys) h =
 
 -- a beginning gives a beginning of all that comes of it
 pub prefix_flat : {X Y : Type 0} (f : X → List Y) (xs ys : List X) → IsPrefix xs ys → IsPrefix (flat_map f xs) (flat_map f ys)
-prefix_flat f xs ys p = (flat_map f p.0, sym (flat_append f xs p.0) ∙ ap (flat_map f) p.1)
+prefix_flat f xs ys p = (flat_map f p.0, sym (flat_map-append f xs p.0) ∙ ap (flat_map f) p.1)
 
 -- a beginning of a beginning is one
 pub prefix_trans : {X : Type 0} (xs ys zs : List X) → IsPrefix xs ys → IsPrefix ys zs → IsPrefix xs zs
@@ -103,11 +103,6 @@ take_while_drop p (suc k) (x ∷ xs) h = elim (bool_cases (p x)) [
   | inr e ↦ let t = rw (take_while-cons p x xs, e) at h in absurd (omega arith)
 ]
 
-map_drop : {X Y : Type 0} (f : X → Y) (k : ℕ) (xs : List X) → map f (drop k xs) ≡ drop k (map f xs)
-map_drop f zero xs = refl
-map_drop f (suc k) [] = refl
-map_drop f (suc k) (x ∷ xs) = map_drop f k xs
-
 -- a released list with those that pass is all of those
 release_whole : {Y : Type 0} (p : ℕ → Bool) (f : ℕ → List Y) (path : List ℕ) (released : List Y) → Closed p path → IsPrefix released (flat_map f (take_while p path))
     → released ++ map (λ (o : ℕ × Y). o.1) (take_while (λ o. p o.0) (drop (length released) (pairs_of f path))) ≡ flat_map f (take_while p path)
@@ -116,7 +111,7 @@ release_whole {Y} p f path released closed pre =
     let seconds : map (λ (o : ℕ × Y). o.1) front ≡ released ++ pre.0 = pairs_seconds f (take_while p path) ∙ sym pre.1 in
     let size : length released ≤ length front = let t = length-map front (λ (o : ℕ × Y). o.1) in let k = ap length seconds in let z = length-append released pre.0 in omega arith in
     ap (λ z. released ++ map (λ (o : ℕ × Y). o.1) z) (take_while_drop (λ o. p o.0) (length released) (pairs_of f path) (rw (pairs_front p f path closed) size) ∙ ap (drop (length released)) (pairs_front p f path closed))
-    ∙ ap (λ z. released ++ z) (map_drop (λ (o : ℕ × Y). o.1) (length released) front ∙ ap (drop (length released)) seconds ∙ drop-append_seam released pre.0)
+    ∙ ap (λ z. released ++ z) (sym (drop-map (λ (o : ℕ × Y). o.1) (length released) front) ∙ ap (drop (length released)) seconds ∙ drop-append_seam released pre.0)
     ∙ pre.1
 
 -- ---- worlds

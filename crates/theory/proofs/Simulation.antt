@@ -1,11 +1,12 @@
 -- A run without failures beside some paths: what one more receipt, beginning or join does to it.
-use Rattle.std.proofs.Common.{◌≡◌, ◌≢◌, ◌⊎◌, inl, inr, refl, sym, ◌∙◌, ap, ℕ, zero, suc, ◌+◌, ◌<◌, ◌≤◌, Bool, true, false, cond, List, [], ◌∷◌, ◌++◌, length, drop, arith, map, length-append, append_assoc, length-set, ne_eqb}
+use Rattle.std.proofs.Common.{◌≡◌, ◌≢◌, ◌⊎◌, inl, inr, refl, sym, ◌∙◌, ap, ℕ, zero, suc, ◌+◌, ◌<◌, ◌≤◌, Bool, true, false, cond, List, [], ◌∷◌, ◌++◌, length, drop, arith, map, length-append, length-set, ne_eqb}
 use Rattle.std.specs.Prelude.{Option, Some, None, Ok, slice_get, slice_set, ◌==◌, nat_lt, nat_le, option_to_list}
 use Rattle.std.specs.List.{filter, fold, flat_map, count_by}
 use Rattle.std.proofs.lemmas.Bool.Decides.{nat_tests}
 use Rattle.std.proofs.lemmas.Option.{slice_get_within, same_Some}
-use Rattle.std.proofs.lemmas.List.Sums.{sum_by-append}
+use Rattle.std.proofs.lemmas.List.Sums.{sum_by-append, fold-append}
 use Rattle.std.proofs.lemmas.List.{append-nil, drop-append-le}
+use Rattle.std.proofs.lemmas.Grind.{flat_map-append}
 use native.Mathlib.Decide.{ℕ_discrete}
 use Rattle.model.specs.declared.names.Seat.{Seat}
 use Rattle.model.specs.declared.names.Source.{Source}
@@ -67,18 +68,8 @@ drop_at [] k x e = cc
 drop_at (y ∷ ys) zero x e = let q = same_Some y x e in rw q refl
 drop_at (y ∷ ys) (suc k) x e = drop_at ys k x e
 
--- all that comes of two lists
-pub flat_append : {X Y : Type 0} (f : X → List Y) (xs ys : List X) → flat_map f (xs ++ ys) ≡ flat_map f xs ++ flat_map f ys
-flat_append f [] ys = refl
-flat_append f (x ∷ xs) ys = ap (λ t. f x ++ t) (flat_append f xs ys) ∙ sym (append_assoc (f x) (flat_map f xs) (flat_map f ys))
-
 count_append : {X : Type 0} (p : X → Bool) (xs ys : List X) → count_by p (xs ++ ys) ≡ count_by p xs + count_by p ys
 count_append p xs ys = sum_by-append (λ x. cond (p x) 1 0) xs ys
-
--- a fold over two lists is one after the other
-pub fold_append : {X Y : Type 0} (f : Y → X → Y) (a : Y) (xs ys : List X) → fold f a (xs ++ ys) ≡ fold f (fold f a xs) ys
-fold_append f a [] ys = refl
-fold_append f a (x ∷ xs) ys = fold_append f (f a x) xs ys
 
 -- each unit's receipts, with one more of one unit
 abbrev pub one_more : (ℕ → List ℕ) → ℕ → ℕ → ℕ → List ℕ
@@ -155,7 +146,7 @@ module _ {S : Type 0} (M : Meaning S) (all : Receipts S) where
   between_none u v' u' h (s ∷ sends) = rw (ne_eqb u v' h) (between_none u v' u' h sends)
 
   texts_more : (u' : ℕ) (path : List ℕ) (x : ℕ) → texts_to u' (path ++ x ∷ []) ≡ texts_to u' path ++ texts_sent u' x
-  texts_more u' path x = flat_append (texts_sent u') path (x ∷ []) ∙ ap (λ t. texts_to u' path ++ t) (append-nil (texts_sent u' x))
+  texts_more u' path x = flat_map-append (texts_sent u') path (x ∷ []) ∙ ap (λ t. texts_to u' path ++ t) (append-nil (texts_sent u' x))
 
   -- the network after the unit at u works on one more receipt, where these packets are left of those before
   abbrev with_work : Network S → List Packet → ℕ → List ℕ → ℕ → Network S
@@ -164,10 +155,10 @@ module _ {S : Type 0} (M : Meaning S) (all : Receipts S) where
   worked : (units : ℕ) (net : Network S) (packets : List Packet) (u x : ℕ) (path : List ℕ) (s : Source) → (seat u).unit ≡ u → length net.workers ≡ units → source x ≡ Some s
       → sends_of x ≡ filter (λ s. nat_lt s.0 units) (turn x).sends → turn x ≡ M.handle (seat u) (state_after u path) s (text x) → works_on M (record net { packets = packets }) (worker u path) s (text x) ≡ with_work net packets u path x
   worked units net packets u x path s seated count from sent works =
-      let e1 : state_after u (path ++ x ∷ []) ≡ (turn x).state = fold_append _ (M.begin (seat u)) path (x ∷ []) in
-      let e2 : flat_map receipt (path ++ x ∷ []) ≡ flat_map receipt path ++ (s, text x) ∷ [] = flat_append receipt path (x ∷ []) ∙ rw from refl in
+      let e1 : state_after u (path ++ x ∷ []) ≡ (turn x).state = fold-append _ (M.begin (seat u)) path (x ∷ []) in
+      let e2 : flat_map receipt (path ++ x ∷ []) ≡ flat_map receipt path ++ (s, text x) ∷ [] = flat_map-append receipt path (x ∷ []) ∙ rw from refl in
       let e3 : flat_map (λ x. (turn x).outputs) (path ++ x ∷ []) ≡ flat_map (λ x. (turn x).outputs) path ++ (turn x).outputs =
-      flat_append (λ x. (turn x).outputs) path (x ∷ []) ∙ ap (λ t. flat_map (λ x. (turn x).outputs) path ++ t) (append-nil (turn x).outputs) in
+      flat_map-append (λ x. (turn x).outputs) path (x ∷ []) ∙ ap (λ t. flat_map (λ x. (turn x).outputs) path ++ t) (append-nil (turn x).outputs) in
       rw (e1, e2, e3, sent, works) (rw (seated, count) refl)
 
   queue_own : (packets : List Packet) (path : List ℕ) (u u' x t : ℕ) → texts_between u u' packets ≡ drop t (texts_to u' path) → t ≤ length (texts_to u' path)

@@ -5,6 +5,8 @@ use Rattle.std.specs.List.{fold}
 use Rattle.std.proofs.lemmas.Option.{slice_get_within}
 use Rattle.std.proofs.lemmas.List.{append-nil}
 use Rattle.std.proofs.Math.Seq.{take-length}
+use Rattle.std.proofs.lemmas.Grind.{flat_map-append}
+use Rattle.std.proofs.lemmas.List.Sums.{fold-append}
 use Rattle.model.specs.Handler.{Meaning}
 use Rattle.model.specs.Lists.{from_end}
 use Rattle.model.specs.Nodes.{Cause, began, outside, letter, node_at, begun, turn_at, turn_of, count_to}
@@ -12,7 +14,6 @@ use Rattle.model.specs.World.{World, Member, executed, receipts, receipt_of}
 use Rattle.model.proofs.Places.{get_below}
 use Rattle.theory.specs.Laws.{StatesAreFolds, NumbersAlongPaths}
 use Rattle.theory.proofs.Sending.{turns_length}
-use Rattle.theory.proofs.Simulation.{flat_append, fold_append}
 use Rattle.theory.proofs.LettersExact.{letters_sent, take_more, first_before}
 use Rattle.theory.proofs.Numbers.{line_whole}
 use Rattle.theory.proofs.CertificateRun.{seat_of, seat_in, turn_is}
@@ -27,9 +28,9 @@ module _ {S : Type 0} (M : Meaning S) (w : World) (g : Invariant M w) (u : ℕ) 
   folded_more : (path : List ℕ) (x : ℕ) → folded (path ++ x ∷ []) ≡ fold (λ s q. (M.handle m.seat s q.0 q.1).state) (folded path) (receipt_of (executed M w).letters w.nodes (node_at w.nodes x).cause)
   folded_more path x =
       ap (fold (λ s q. (M.handle m.seat s q.0 q.1).state) (M.begin m.seat))
-      (flat_append (λ y. receipt_of (executed M w).letters w.nodes (node_at w.nodes y).cause) path (x ∷ [])
+      (flat_map-append (λ y. receipt_of (executed M w).letters w.nodes (node_at w.nodes y).cause) path (x ∷ [])
       ∙ ap (λ t. receipts (executed M w).letters w.nodes path ++ t) (append-nil (receipt_of (executed M w).letters w.nodes (node_at w.nodes x).cause)))
-      ∙ fold_append (λ s q. (M.handle m.seat s q.0 q.1).state) (M.begin m.seat) (receipts (executed M w).letters w.nodes path) (receipt_of (executed M w).letters w.nodes (node_at w.nodes x).cause)
+      ∙ fold-append (λ s q. (M.handle m.seat s q.0 q.1).state) (M.begin m.seat) (receipts (executed M w).letters w.nodes path) (receipt_of (executed M w).letters w.nodes (node_at w.nodes x).cause)
 
   -- the turn of one cause
   by_cause : (x : ℕ) → x < length w.nodes → (state : S) (c : Cause) → (node_at w.nodes x).cause ≡ c → (c ≡ began → state ≡ M.begin m.seat)
