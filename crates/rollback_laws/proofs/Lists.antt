@@ -1,9 +1,7 @@
 -- Laws of lists.
-use Rattle.std.proofs.Common.{◌≡◌, refl, sym, ◌∙◌, ap, ℕ, zero, suc, ◌+◌, ◌-◌, Bool, true, false, cond, List, [], ◌∷◌, ◌++◌, length, take, arith}
+use Rattle.std.proofs.Common.{◌≡◌, refl, sym, ◌∙◌, ap, ℕ, zero, suc, ◌-◌, List, [], ◌∷◌, ◌++◌, length, take, arith}
 use Rattle.std.specs.Prelude.{Option, Some, None, slice_get, option_map}
-use Rattle.std.specs.List.{take_while, prefix_len}
 use Rattle.std.specs.Option.{is_some}
-use Rattle.std.proofs.lemmas.List.Sums.{take_while-cons}
 use Rattle.std.proofs.lemmas.Option.{same_Some}
 
 -- a front of two lists
@@ -13,15 +11,6 @@ take_append (suc n) [] ys = let e : suc n - 0 ≡ suc n = omega arith in ap (λ 
 take_append (suc n) (x ∷ xs) ys =
     let e : suc n - suc (length xs) ≡ n - length xs = omega arith in
     ap (λ zs. x ∷ zs) (take_append n xs ys ∙ ap (λ k. take n xs ++ take k ys) (sym e))
-
--- a front that passes is as long as it goes on
-pub length_front : {X : Type 0} (p : X → Bool) (xs : List X) → length (take_while p xs) ≡ prefix_len p xs
-length_front p [] = refl
-length_front p (x ∷ xs) = ap length (take_while-cons p x xs) ∙ go (p x) (length_front p xs)
-  where
-    go : (b : Bool) → length (take_while p xs) ≡ prefix_len p xs → length (cond b (x ∷ take_while p xs) []) ≡ cond b (1 + prefix_len p xs) 0
-    go true rest = omega (arith, rest)
-    go false rest = refl
 
 -- the value of an option under a map
 pub mapped : {P Q : Type 0} (f : P → Q) (o : Option P) (y : P) → ((p : P) → o ≡ Some p → y ≡ p) → (q : Q) → option_map f o ≡ Some q → f y ≡ q

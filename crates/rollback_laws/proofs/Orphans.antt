@@ -4,6 +4,7 @@ use Rattle.std.specs.Prelude.{Option, Some, None, MatchOption, slice_get, nat_lt
 use Rattle.std.specs.List.{position, position_or_len, prefix_len, take_while}
 use Rattle.std.proofs.lemmas.Bool.Decides.{nat_tests}
 use Rattle.std.proofs.lemmas.List.Sums.{prefix_len-le-length}
+use Rattle.std.proofs.lemmas.List.Folds.{length-prefix_len}
 use Rattle.theory.proofs.ListLaws.{get_take}
 use Rattle.model.specs.Handler.{Meaning}
 use Rattle.orphan.specs.Tests.{is_orphan_by}
@@ -14,7 +15,6 @@ use Rattle.compact.proofs.Words.{front_goes_on}
 use Rattle.rollback.specs.Units.{Recovering, IsKept}
 use Rattle.rollback_laws.specs.Seen.{IsSeen}
 use Rattle.rollback_laws.specs.Laws.{FirstOrphansAreSeen, OrphansAreSeen}
-use Rattle.rollback_laws.proofs.Lists.{length_front}
 use Rattle.rollback_laws.proofs.Places.{base_is, places_are}
 
 module _ {S : Type 0} (r : Recovering S) (x : Unit S) (k : IsKept r) (s : IsSeen r x) (c : Compact S) (low : x.base.index ≤ x.frontier) (high : x.frontier ≤ all_of x)
@@ -31,7 +31,7 @@ module _ {S : Type 0} (r : Recovering S) (x : Unit S) (k : IsKept r) (s : IsSeen
   -- what comes before the first orphan among the vectors behind the frontier
   behind_is : length (take_while (λ v. not (is_orphan_by c.table v)) (vectors_behind x)) ≡ prefix_len is_kept (drop front r.intervals)
   behind_is =
-      length_front (λ v. not (is_orphan_by c.table v)) (vectors_behind x)
+      length-prefix_len (λ v. not (is_orphan_by c.table v)) (vectors_behind x)
       ∙ same_prefix is_kept (λ v. not (is_orphan_by c.table v)) (λ (v : Interval). v.vector) (drop front x.intervals) (λ i v e. refl)
       ∙ ap (λ vs. prefix_len is_kept (drop front vs)) s.intervals
 
@@ -40,9 +40,9 @@ module _ {S : Type 0} (r : Recovering S) (x : Unit S) (k : IsKept r) (s : IsSeen
   whole_is =
       let h : x.frontier ≤ x.base.index + length x.intervals = high in
       let long : length x.intervals ≡ length r.intervals = ap length s.intervals in
-      sym (length_front is_kept r.intervals)
+      sym (length-prefix_len is_kept r.intervals)
       ∙ front_goes_on is_kept front r.intervals (omega (arith, h, long)) (λ i v e. let t = get_take r.intervals front i v e in ap not (clean i v t.1 t.0))
-      ∙ ap (λ n. front + n) (length_front is_kept (drop front r.intervals))
+      ∙ ap (λ n. front + n) (length-prefix_len is_kept (drop front r.intervals))
 
   kept_is : kept_places c x ≡ r.base + first
   kept_is =
