@@ -1,5 +1,5 @@
 -- Laws of the places of live records.
-use Rattle.std.proofs.Common.{◌≡◌, refl, sym, ◌∙◌, ap, subst, ℕ, zero, suc, ◌+◌, ◌-◌, Bool, true, false, List, [], ◌∷◌, ◌++◌, length, take, drop, arith, append_assoc, append-nil, length-append, slice_get, slice_set}
+use Rattle.std.proofs.Common.{◌≡◌, refl, sym, ◌∙◌, ap, subst, ℕ, zero, suc, ◌+◌, ◌-◌, Bool, true, false, List, [], ◌∷◌, ◌++◌, length, take, drop, arith, append_assoc, append-nil, length-append, slice_get, slice_set, length-set}
 use Rattle.std.specs.Prelude.{◌<◌, ◌≤◌, All, Result, Ok, Err, OnOk, OnErr, Option, None, Some, ◌&&◌, ◌==◌, if◌then◌else◌, bytes_eq}
 use Rattle.std.proofs.lemmas.Slice.Eq.{bytes_eq-Decides}
 use Rattle.std.proofs.lemmas.Bool.Decides.{Decides-eqb}
@@ -335,15 +335,9 @@ kept_lists before after records now old new k m e f tenant unit same =
 
 -- ---- emptying keeps every place
 
-length_set : (records : List (Option Record)) (place : ℕ) (x : Option Record) → length (slice_set records place x) ≡ length records
-length_set [] zero x = refl
-length_set [] (suc place) x = refl
-length_set (r ∷ records) zero x = refl
-length_set (r ∷ records) (suc place) x = ap suc (length_set records place x)
-
 length_emptied : (places : List ℕ) (records : List (Option Record)) → length (emptied places records) ≡ length records
 length_emptied [] records = refl
-length_emptied (place ∷ places) records = length_emptied places (slice_set records place None) ∙ length_set records place None
+length_emptied (place ∷ places) records = length_emptied places (slice_set records place None) ∙ length-set records place None
 
 -- ---- the clauses of an append
 
