@@ -1,5 +1,5 @@
 -- Moves as the code makes them.
-use Rattle.std.proofs.Common.{◌≡◌, refl, sym, ◌∙◌, ap, subst, ℕ, suc, ◌+◌, ◌<◌, true, false, cond, List, [], ◌∷◌, ◌++◌, length, map, get_or, drop, arith, zero-add}
+use Rattle.std.proofs.Common.{◌≡◌, refl, sym, ◌∙◌, ap, subst, ℕ, suc, ◌+◌, ◌<◌, true, false, cond, List, [], ◌∷◌, ◌++◌, length, map, get_or, drop, arith, zero-add, length-set}
 use Rattle.std.proofs.lemmas.List.{drop_more, length-map}
 use Rattle.std.specs.Prelude.{Option, Some, None, Result, Ok, Err, slice_get, slice_set, nat_lt, nat_le, Bool}
 use Rattle.model.specs.declared.names.Seat.{Seat}
@@ -14,7 +14,7 @@ use Rattle.model.specs.Handler.{Turn, Meaning}
 use Rattle.model.specs.FailureFree.{Worker, Packet, Network, works_on, new_worker, moved, takes_text, takes_letter, takes_next, next_text, without_next, if_moved, run_from}
 use Rattle.audit.specs.Working.{AreInOrder, after_turn, packets_from, Makes}
 use Rattle.audit.specs.Audits.{joins, AreNumbered}
-use Rattle.audit.proofs.Orders.{numbered_at, numbered_set, numbered_more, length_set, length_more}
+use Rattle.audit.proofs.Orders.{numbered_at, numbered_set, numbered_more, length_more}
 
 pub unit_at : {S : Type 0} (workers : List (Worker S)) (u : ℕ) (a : Worker S) → AreInOrder workers → slice_get workers u ≡ Some a → a.seat.unit ≡ u
 unit_at workers u a order found = numbered_at (λ b. b.seat.unit) 0 workers u a order found ∙ zero-add u
@@ -54,7 +54,7 @@ module _ {S : Type 0} (M : Meaning S) (net next : Network S) (order : AreInOrder
       let it : works_on M (record net { packets = packets }) a source text ≡ next = cc in
       let there : slice_get net.workers a.seat.unit ≡ Some a = subst (λ (n : ℕ). slice_get net.workers n ≡ Some a) (sym (unit_at net.workers u a order found)) found in
       let worker : Worker S = after_turn a source text (M.handle a.seat a.state source text) in
-      let len = length_set net.workers a.seat.unit worker in
+      let len = length-set net.workers a.seat.unit worker in
       subst (λ n. StayInOrder 0 net n) it
       (numbered_set (λ b. b.seat.unit) net.workers a.seat.unit a worker there refl ∙ order ∙ ap (numbers_from 0) (sym len), omega (arith, len))
 

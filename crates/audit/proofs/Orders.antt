@@ -16,11 +16,6 @@ numbered_set f [] i x y e g = refl
 numbered_set f (z ∷ xs) zero x y e g = let q : z ≡ x = cc in ap (λ n. n ∷ map f xs) (g ∙ ap f (sym q))
 numbered_set f (z ∷ xs) (suc i) x y e g = ap (λ ns. f z ∷ ns) (numbered_set f xs i x y e g)
 
-pub length_set : {X : Type 0} (xs : List X) (i : ℕ) (y : X) → length (slice_set xs i y) ≡ length xs
-length_set [] i y = refl
-length_set (z ∷ xs) zero y = refl
-length_set (z ∷ xs) (suc i) y = ap suc (length_set xs i y)
-
 pub length_more : {X : Type 0} (xs : List X) (y : X) → length (xs ++ y ∷ []) ≡ suc (length xs)
 length_more [] y = refl
 length_more (x ∷ xs) y = ap suc (length_more xs y)

@@ -16,6 +16,7 @@ use Rattle.model.specs.declared.names.Seat.{Seat}
 use Rattle.model.specs.declared.replies.Entry.{Entry}
 use Rattle.theory.proofs.Certificate.{Invariant, reachable_invariant}
 use Rattle.theory.proofs.Courses.{courses_reach}
+use Rattle.theory.proofs.LettersExact.{take_more}
 use Rattle.audit.proofs.Making.{run_kept}
 use Rattle.audit.specs.Audits.{AreNumbered, Audits, Tells, joins}
 use Rattle.audit.specs.Released.{DiffersFirst}
@@ -35,11 +36,6 @@ released_is : (w : Option World) (u : ℕ) → released_at w u ≡ slice_get (li
 released_is None u = refl
 released_is (Some w) u = sym (get_map (λ m. m.released) w.members u)
 
-take_found : {X : Type 0} (xs : List X) (u : ℕ) (x : X) → slice_get xs u ≡ Some x → take u xs ++ x ∷ [] ≡ take (suc u) xs
-take_found [] u x e = cc
-take_found (y ∷ xs) zero x e = let q : y ≡ x = cc in rw q refl
-take_found (y ∷ xs) (suc u) x e = ap (λ ys. y ∷ ys) (take_found xs u x e)
-
 take_none : {X : Type 0} (xs : List X) (u : ℕ) → slice_get xs u ≡ None → take u xs ≡ take (suc u) xs
 take_none [] zero e = refl
 take_none [] (suc u) e = refl
@@ -51,7 +47,7 @@ first_lists w = refl
 
 pub list_found : (w : Option World) (u : ℕ) (texts : List (List ℕ)) (lists : List (List (List ℕ)))
     → released_at w u ≡ Some texts → lists ≡ take u (lists_at w) → lists ++ texts ∷ [] ≡ take (u + 1) (lists_at w)
-list_found w u texts lists found so_far = let e : u + 1 ≡ suc u = omega arith in rw (so_far, e) (take_found (lists_at w) u texts (sym (released_is w u) ∙ found))
+list_found w u texts lists found so_far = let e : u + 1 ≡ suc u = omega arith in rw (so_far, e) (sym (take_more (lists_at w) u texts (sym (released_is w u) ∙ found)))
 
 pub list_missing : (w : Option World) (u : ℕ) (lists : List (List (List ℕ)))
     → released_at w u ≡ None → lists ≡ take u (lists_at w) → lists ≡ take (u + 1) (lists_at w)
