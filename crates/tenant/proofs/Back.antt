@@ -52,6 +52,7 @@ use Rattle.tenant.proofs.Follow.{KeepsUnit, is_up, keeps, leaves, no_unit, none_
 use Rattle.tenant.proofs.Killing.{hold_cut, whole_hold, few_places}
 use Rattle.tenant.proofs.Lasts.{last_taken}
 use Rattle.tenant.proofs.Standing.{closed}
+use Rattle.tenant.proofs.Places.{live_same}
 use Rattle.shared_log.proofs.PlacesLaws.{places_are}
 
 -- ---- the first refusal
@@ -303,7 +304,7 @@ module _ {S : Type 0} (M : Meaning S) (name : List ℕ) (t : TenantState S) (w :
             counts target base kept index e f = omega (arith, e, f)
 
         live_other : (c : ℕ) → (c ≡ u → ⊥) → live_in name after.records c ≡ live c
-        live_other c other = sym (places_are after name c) ∙ wt.others name c (λ h. other h.1) ∙ places_are before name c
+        live_other c other = live_same before after name c (wt.others name c (λ h. other h.1))
 
         row_is : row_to k u (kept_places k x.unit) ≡ row
         row_is = λ i. record { unit = u; incarnation = incarnation_of (is.table i) u + 1; start = sym last i }

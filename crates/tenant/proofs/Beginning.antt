@@ -4,6 +4,7 @@ use Rattle.std.specs.Prelude.{Some, None, slice_get}
 use Rattle.std.specs.List.{fold}
 use Rattle.std.proofs.lemmas.List.Sums.{fold_more}
 use Rattle.std.proofs.lemmas.Option.{slice_get_within}
+use Rattle.std.proofs.lemmas.List.{length-replicate}
 use Rattle.model.specs.declared.names.Quota.{Quota}
 use Rattle.model.specs.declared.names.Seat.{Seat}
 use Rattle.model.specs.declared.records.Record.{Record}
@@ -48,10 +49,6 @@ replicated : {X : Type 0} (n i : ℕ) (x : X) → i < n → slice_get (replicate
 replicated zero i x h = absurd (omega (arith, h))
 replicated (suc n) zero x h = refl
 replicated (suc n) (suc i) x h = replicated n i x (omega (arith, h))
-
-counted : {X : Type 0} (n : ℕ) (x : X) → length (replicate n x) ≡ n
-counted zero x = refl
-counted (suc n) x = let h = counted n x in omega (arith, h)
 
 module _ {S : Type 0} (M : Meaning S) (width : ℕ) (quota : Quota) (optimism : ℕ) where
   -- both at their beginning
@@ -147,9 +144,9 @@ module _ {S : Type 0} (M : Meaning S) (kinds : List (List ℕ)) (quota : Quota) 
     optimism = all_begun.optimisms;
     table = all_begun.table;
     width = all_begun.same;
-    stables = counted width 1 ∙ sym count;
-    fronts = counted width 1 ∙ sym count;
-    lines = counted width [] ∙ sym count;
+    stables = length-replicate width 1 ∙ sym count;
+    fronts = length-replicate width 1 ∙ sym count;
+    lines = length-replicate width [] ∙ sym count;
     members = λ u m x e f.
         let b = all_begun.each u m x e f in
         let within : u < width = (let a = slice_get_within k.units u x f in omega (arith, a, count)) in

@@ -1,5 +1,5 @@
 -- Records that are fetched by their positions among a unit's live ones.
-use Rattle.std.proofs.Common.{◌≡◌, refl, sym, ◌∙◌, ap, ℕ, zero, suc, ◌+◌, ◌-◌, ◌≤◌, List, [], ◌∷◌, ◌++◌, length, take, drop, arith, map, length-drop}
+use Rattle.std.proofs.Common.{◌≡◌, refl, sym, ◌∙◌, ap, ℕ, ◌+◌, ◌-◌, ◌≤◌, List, [], ◌∷◌, ◌++◌, length, take, drop, arith, map, length-drop}
 use Rattle.std.specs.Prelude.{Option, Some, slice_get}
 use Rattle.std.proofs.lemmas.List.{map-append, take_all}
 use native.Mathlib.Decide.{dec_le}
@@ -8,12 +8,10 @@ use Rattle.shared_log.specs.Logged.{IsLeftOf}
 use Rattle.tenant.specs.Kept.{AreFetched}
 use Rattle.tenant.proofs.Logging.{take_one}
 use Rattle.tenant.proofs.Places.{found_whole}
+use Rattle.compact.proofs.Words.{drop_get}
 
 pub dropped_at : {X : Type 0} (xs : List X) (n i k : ℕ) (x : X) → k ≡ n + i → slice_get xs k ≡ Some x → slice_get (drop n xs) i ≡ Some x
-dropped_at xs zero i k x e f = ap (slice_get xs) (let t : i ≡ k = omega (arith, e) in t) ∙ f
-dropped_at [] (suc n) i k x e f = absurd (cc f)
-dropped_at (y ∷ ys) (suc n) i zero x e f = absurd (omega (arith, e))
-dropped_at (y ∷ ys) (suc n) i (suc k) x e f = dropped_at ys n i k x (omega (arith, e)) f
+dropped_at xs n i k x e f = drop_get xs n i x (ap (slice_get xs) (sym e) ∙ f)
 
 counts : (a i b : ℕ) → a ≤ i → b ≤ i → (a ≤ b → i ≤ b) → (b ≤ a → i ≤ a) → i - a ≡ b - a
 counts a i b h g k l = elim (dec_le a b) [ yes q ↦ let e = k q in omega (arith, e, g) | no q ↦ let e = l (omega (arith, q)) in omega (arith, e, q) ]

@@ -1,19 +1,14 @@
 -- Records that are logged one after another.
-use Rattle.std.proofs.Common.{◌≡◌, ◌⊎◌, inl, inr, sym, ◌∙◌, ap, ℕ, zero, suc, ◌+◌, ◌<◌, true, List, [], ◌∷◌, ◌++◌, length, take, arith, append_assoc, map}
+use Rattle.std.proofs.Common.{◌≡◌, ◌⊎◌, inl, inr, sym, ◌∙◌, ap, ℕ, suc, ◌+◌, ◌<◌, true, List, [], ◌∷◌, ◌++◌, length, take, arith, append_assoc, map}
 use Rattle.std.specs.Prelude.{Option, Some, slice_get, bytes_eq}
 use Rattle.std.proofs.lemmas.List.{map-append}
-use Rattle.std.proofs.lemmas.Option.{same_Some}
 use Rattle.model.specs.declared.records.Record.{Record}
 use Rattle.model.proofs.Places.{get_below}
+use Rattle.theory.proofs.LettersExact.{take_more}
 
 -- a front with one more
 pub take_one : {X : Type 0} (xs : List X) (i : ℕ) (x : X) → slice_get xs i ≡ Some x → take (i + 1) xs ≡ take i xs ++ x ∷ []
-take_one {X} xs i x e = ap (λ n. take n xs) (let t : i + 1 ≡ suc i = omega arith in t) ∙ go xs i e
-  where
-    go : (xs : List X) (i : ℕ) → slice_get xs i ≡ Some x → take (suc i) xs ≡ take i xs ++ x ∷ []
-    go [] i e = absurd (cc e)
-    go (y ∷ ys) zero e = ap (λ z. z ∷ []) (same_Some y x e)
-    go (y ∷ ys) (suc i) e = ap (λ zs. y ∷ zs) (go ys i e)
+take_one xs i x e = ap (λ n. take n xs) (let t : i + 1 ≡ suc i = omega arith in t) ∙ take_more xs i x e
 
 abbrev pub AreOf : List ℕ → List Record → ℕ → Type 0
 AreOf tenant records n = (k : ℕ) (r : Record) → k < n → slice_get records k ≡ Some r → bytes_eq r.tenant tenant ≡ true

@@ -41,6 +41,7 @@ use Rattle.tenant.proofs.Lasts.{last_fits}
 use Rattle.tenant.proofs.Logging.{take_one}
 use Rattle.tenant.proofs.Others.{stands_beside}
 use Rattle.tenant.proofs.Standing.{closed}
+use Rattle.tenant.proofs.Places.{live_same}
 use Rattle.shared_log.proofs.PlacesLaws.{places_are}
 
 -- ---- the nearest snapshot
@@ -186,7 +187,7 @@ module _ {S : Type 0} (M : Meaning S) (name : List ℕ) (t : TenantState S) (w :
         ∙ ap (drop count) (places_are before name u)
 
     live_other : (a : ℕ) → (a ≡ u → ⊥) → live_in name after.records a ≡ live a
-    live_other a other = sym (places_are after name a) ∙ go.others name a (λ h. other (h.1 ∙ x.is.own)) ∙ places_are before name a
+    live_other a other = live_same before after name a (go.others name a (λ h. other (h.1 ∙ x.is.own)))
 
     closes : (z : Compact S) → IsCompact v (live_in name after.records) z → Represents M name z w whole → Stands M name v w after.records
     closes z is_after rep = closed (record {
@@ -353,7 +354,7 @@ lets_beside name u count before after go = record {
 -- what another tenant stands for stays
 pub beside_stands : {S : Type 0} (M : Meaning S) (name other : List ℕ) (t : TenantState S) (w : World) (before after : Logged) → IsBeside name before after → bytes_eq other name ≡ false → Stands M other t w before.records → Stands M other t w after.records
 beside_stands M name other t w before after b differs s =
-    stands_beside M other t w before.records after.records [] b.grows (λ u. sym (places_are after other u) ∙ b.others other u differs ∙ places_are before other u) s
+    stands_beside M other t w before.records after.records [] b.grows (λ u. live_same before after other u (b.others other u differs)) s
 
 -- a step was done, and then what it left goes on to something that stands for the same world
 pub did_then : {S : Type 0} (M : Meaning S) (name : List ℕ) (w : World) (k v : TenantState S) (step : TenantStep) (said : Said) (answer : Reply) (before mid after : Logged) → Did M name w k step said answer before mid

@@ -15,9 +15,8 @@ use Rattle.tenant.specs.Kept.{TenantState}
 use Rattle.tenant.specs.Stands.{Stands, live_in}
 use Rattle.tenant.specs.Represents.{IsCompact}
 use Rattle.tenant.proofs.Logging.{AreOf}
-use Rattle.tenant.proofs.Places.{other_places, owns_not, places_behind, places_same}
+use Rattle.tenant.proofs.Places.{other_places, owns_not, places_behind, places_same, live_same}
 use Rattle.tenant.proofs.Standing.{closed, opened}
-use Rattle.shared_log.proofs.PlacesLaws.{places_are}
 
 -- Its records are live as they were.
 pub stands_beside : {S : Type 0} (M : Meaning S) (name : List ℕ) (t : TenantState S) (w : World) (before after : List (Option Record)) (grown : List Record) → Grows before grown after
@@ -60,7 +59,7 @@ pub returned_beside : {S : Type 0} (M : Meaning S) (name other : List ℕ) (u : 
     → Stands M other t w before.records → Stands M other t w after.records
 returned_beside M name other u t w before after kept differs s =
     stands_beside M other t w before.records after.records [] kept.0
-    (λ v. sym (places_are after other v) ∙ kept.1 other v (λ h. let is : bytes_eq other name ≡ true = (bytes_eq-Decides other name).1 h.0 in cc (is, differs)) ∙ places_are before other v) s
+    (λ v. live_same before after other v (kept.1 other v (λ h. let is : bytes_eq other name ≡ true = (bytes_eq-Decides other name).1 h.0 in cc (is, differs)))) s
 
 -- So it is whether or not the call succeeded.
 pub either_beside : {T E : Type 0} (r : Result T E) (name : List ℕ) (u : ℕ) (before after : Logged) → IfOk r (λ _. Grows before.records [] after.records × OthersKept name u before after) → OnErr r (after.records ≡ before.records)

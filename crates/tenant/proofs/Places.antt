@@ -62,3 +62,7 @@ left_length (Some x ∷ records) (w ∷ whole) h = ap suc (left_length records w
 -- and are told by its list
 pub places_same : (before after : Logged) → after.records ≡ before.records → (name : List ℕ) (u : ℕ) → places_of name u after ≡ places_of name u before
 places_same before after e name u = places_are after name u ∙ ap (places_from name u 0) e ∙ sym (places_are before name u)
+
+-- where the log tells the same places, so does its list
+pub live_same : (before after : Logged) (name : List ℕ) (u : ℕ) → places_of name u after ≡ places_of name u before → places_from name u 0 after.records ≡ places_from name u 0 before.records
+live_same before after name u e = sym (places_are after name u) ∙ e ∙ places_are before name u
