@@ -16,7 +16,8 @@ nothing_filed = record { rows = []; places = [] }
 -- the places of the unit's rows, where the first row has the place k
 abbrev pub places_from : ℕ → List Row → ℕ → List ℕ
 places_from k [] unit = []
-places_from k (r ∷ rows) unit = cond (r.unit == unit) (k ∷ places_from (k + 1) rows unit) (places_from (k + 1) rows unit)
+places_from k (r ∷ rows) unit =
+    cond (r.unit == unit) (k ∷ places_from (k + 1) rows unit) (places_from (k + 1) rows unit)
 
 -- what is to be filed for a unit
 abbrev pub filed_of : List Row → ℕ → Filed
