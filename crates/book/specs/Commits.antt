@@ -30,5 +30,8 @@ pub record IsUntouched (before after : Ledger) : Type 0 where
 
 -- The step is given back, with nothing changed, only where it now needs a turn of another input. It is entered only where it does not, or there was no memory for it.
 abbrev pub Commits : {S : Type 0} → Meaning S → Ledger → Who → Step → Input S → Committed → Ledger → Type 0
-Commits M before who step input (Stale s) after = (s ≡ step) × IsUntouched before after × ¬ IsFresh (needed M before.history step) input
-Commits M before who step input (Reply answer) after = (IsAdded before who step answer after × IsFresh (needed M before.history step) input) ⊎ IsForgone before step answer after
+Commits M before who step input (Stale s) after =
+    (s ≡ step) × IsUntouched before after × ¬ IsFresh (needed M before.history step) input
+Commits M before who step input (Reply answer) after =
+    (IsAdded before who step answer after × IsFresh (needed M before.history step) input)
+    ⊎ IsForgone before step answer after

@@ -94,20 +94,23 @@ abbrev pub holding : {K X : Type 0} → IndexMap (List ℕ) K X → Logged → H
 holding tenants log = record { at = get bytes_eq tenants; names = keys tenants; log = log }
 
 -- the step of a tenant that may be unopened has this reply by the definitions, and what is kept stands for the world after it
-abbrev pub StepsAt : {S : Type 0} → Meaning S → List ℕ → Option World → Option (TenantState S) → TenantStep → Said → Reply → List (Option Record) → Type 0
+abbrev pub StepsAt : {S : Type 0} → Meaning S → List ℕ → Option World → Option (TenantState S) → TenantStep → Said
+    → Reply → List (Option Record) → Type 0
 StepsAt M tenant w k step said answer records =
     (z : Option World)
     × (step_alone M w (record { step = step; said = said }) ≡ record { reply = answer; world = z })
     × StandsAt M tenant k z records
 
 -- the log grew by what the store took during a step of the tenant, honestly (it may have forgotten others), the device is said to have failed only where it did, and the count of its failures never falls
-pub record LogsAt {S : Type 0} (M : Meaning S) (tenant : List ℕ) (w : Option World) (step : TenantStep) (said : Said) (before after : Logged) : Type 0 where
+pub record LogsAt {S : Type 0} (M : Meaning S) (tenant : List ℕ) (w : Option World) (step : TenantStep) (said : Said)
+    (before after : Logged) : Type 0 where
   pub honest : (grown : List Record) × Grows before.records grown after.records × IsHonestAt M tenant w step said grown
   pub device : said.end ≡ Device → HasRisen before.failures after.failures
   pub up : before.failures ≤ after.failures
 
 -- the step of a tenant that may be unopened was done
-pub record DidAt {S : Type 0} (M : Meaning S) (tenant : List ℕ) (w : Option World) (step : TenantStep) (said : Said) (answer : Reply) (before after : Holding (TenantState S)) : Type 0 where
+pub record DidAt {S : Type 0} (M : Meaning S) (tenant : List ℕ) (w : Option World) (step : TenantStep) (said : Said)
+    (answer : Reply) (before after : Holding (TenantState S)) : Type 0 where
   pub steps : StepsAt M tenant w (after.at tenant) step said answer after.log.records
   pub keeps : KeepsOnAt M w (before.at tenant) (record { step = step; said = said }) (after.at tenant)
   pub logs : LogsAt M tenant w step said before.log after.log
@@ -120,7 +123,8 @@ KeepsOthers {S = S} M tenant before after =
     → bytes_eq other tenant ≡ false → StandsAt M other k w before → StandsAt M other k w after
 
 -- the step was done: whichever world its tenant stood for, this is the reply and what is left, and every other tenant is as it was and stands for what it did
-pub record IsAnswered {S : Type 0} (M : Meaning S) (step : Step) (said : Said) (answer : Reply) (before after : Holding (TenantState S)) : Type 0 where
+pub record IsAnswered {S : Type 0} (M : Meaning S) (step : Step) (said : Said) (answer : Reply)
+    (before after : Holding (TenantState S)) : Type 0 where
   pub did : (w : Option World)
       → StandsAt M (addressed step).0 (before.at (addressed step).0) w before.log.records
       → DidAt M (addressed step).0 w (addressed step).1 said answer before after
@@ -156,7 +160,8 @@ abbrev pub Ran : Ledger → List Step → List Reply → Ledger → Type 0
 Ran before [] [] after = after ≡ before
 Ran before [] (r ∷ replies) after = ⊥
 Ran before (s ∷ steps) [] after = ⊥
-Ran before (s ∷ steps) (r ∷ replies) after = (mid : Ledger) × IsEntered before Caller s r mid × Ran mid steps replies after
+Ran before (s ∷ steps) (r ∷ replies) after =
+    (mid : Ledger) × IsEntered before Caller s r mid × Ran mid steps replies after
 
 -- legal histories with the same pairs of a tenant have the same replies to it, and leave it with the same world
 abbrev pub IsIsolated : {S : Type 0} → Meaning S → Type 0

@@ -29,6 +29,8 @@ abbrev pub KeepsAt : {S : Type 0} → Option (TenantState S) → Keeping → Typ
 KeepsAt t k = KeepsIn t k.world k.shelves
 
 -- a step of this world keeps what the rules leave, whatever the checkpoints before
-abbrev pub KeepsOnAt : {S : Type 0} → Meaning S → Option World → Option (TenantState S) → Event → Option (TenantState S) → Type 0
+abbrev pub KeepsOnAt : {S : Type 0} → Meaning S → Option World → Option (TenantState S) → Event
+    → Option (TenantState S) → Type 0
 KeepsOnAt M w before e after =
-    (shelves : List Shelf) → KeepsIn before w shelves → KeepsAt after (keeping_on M (record { world = w; shelves = shelves }) e)
+    (shelves : List Shelf) → KeepsIn before w shelves
+    → KeepsAt after (keeping_on M (record { world = w; shelves = shelves }) e)

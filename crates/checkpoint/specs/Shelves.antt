@@ -12,8 +12,10 @@ pub record Shelved (S : Type 0) : Type 0 where
 
 -- indices rise in the order of putting, and the base is below all others
 pub record Rises {S : Type 0} (base : Option (Snapshot S)) (others : List (Snapshot S)) : Type 0 where
-  pub above : (b : Snapshot S) (i : ℕ) (x : Snapshot S) → base ≡ Some b → slice_get others i ≡ Some x → b.index < x.index
-  pub rising : (i j : ℕ) (x y : Snapshot S) → i < j → slice_get others i ≡ Some x → slice_get others j ≡ Some y → x.index < y.index
+  pub above : (b : Snapshot S) (i : ℕ) (x : Snapshot S) → base ≡ Some b → slice_get others i ≡ Some x
+      → b.index < x.index
+  pub rising : (i j : ℕ) (x y : Snapshot S) → i < j → slice_get others i ≡ Some x → slice_get others j ≡ Some y
+      → x.index < y.index
 
 -- this snapshot is there
 abbrev pub IsShelved : {S : Type 0} → Shelved S → Snapshot S → Type 0

@@ -41,7 +41,8 @@ name_at d = text_at (codes "tenant") d >>= only_if is_tenant_name
 
 -- a whole number up to the greatest
 abbrev pub whole_at : ℕ → List ℕ → Data → Option ℕ
-whole_at greatest key d = option_and_then as_u64 (option_and_then as_number (get key d)) >>= only_if (λ n. nat_le n greatest)
+whole_at greatest key d =
+    option_and_then as_u64 (option_and_then as_number (get key d)) >>= only_if (λ n. nat_le n greatest)
 
 -- the greatest number of a unit
 abbrev pub greatest_byte : ℕ
@@ -127,7 +128,9 @@ open_form d = do
   kinds ← texts_at (codes "units") d
   quota ← quota_at d
   optimism ← optimism_at d
-  if has_keys (3 + one_if_has (codes "quota") d + one_if_has (codes "optimism") d) d then Some (Open tenant kinds quota optimism) else None
+  if has_keys (3 + one_if_has (codes "quota") d + one_if_has (codes "optimism") d) d
+      then Some (Open tenant kinds quota optimism)
+      else None
 
 -- one more unit of a kind
 unfoldable pub join_form : Data → Option Step

@@ -56,41 +56,52 @@ accepted_data at held letters =
 
 -- a snapshot that is shelved
 abbrev pub checkpointed_data : Mark → Data
-checkpointed_data at = object (member (codes "at") (mark_data at) (member (codes "ok") (string (codes "checkpoint")) no_members))
+checkpointed_data at =
+    object (member (codes "at") (mark_data at) (member (codes "ok") (string (codes "checkpoint")) no_members))
 
 -- a restart
 abbrev pub restarted_data : Start → Data
-restarted_data row = object (member (codes "ok") (string (codes "restart")) (member (codes "row") (start_data row) no_members))
+restarted_data row =
+    object (member (codes "ok") (string (codes "restart")) (member (codes "row") (start_data row) no_members))
 
 -- a notice
 abbrev pub noticed_data : Option Start → Data
-noticed_data row = object (member (codes "ok") (string (codes "notice")) (member (codes "row") (row_data row) no_members))
+noticed_data row =
+    object (member (codes "ok") (string (codes "notice")) (member (codes "row") (row_data row) no_members))
 
 -- the outputs released
 abbrev pub released_data : List (List ℕ) → Data
-released_data outputs = object (member (codes "ok") (string (codes "released")) (member (codes "outputs") (array (texts outputs)) no_members))
+released_data outputs = object
+    (member (codes "ok") (string (codes "released")) (member (codes "outputs") (array (texts outputs)) no_members))
 
 -- what a unit is at
 abbrev pub status_data : Mark → ℕ → ℕ → ℕ → ℕ → ℕ → ℕ → Bool → ℕ → Data
 status_data at held known outside released rows stable up volatile =
     object (member (codes "at") (mark_data at) (member (codes "held") (whole held) (member (codes "known") (whole known)
-    (member (codes "ok") (string (codes "status")) (member (codes "outside") (whole outside) (member (codes "released") (whole released)
-    (member (codes "rows") (whole rows) (member (codes "stable") (whole stable) (member (codes "up") (boolean up)
+    (member (codes "ok") (string (codes "status")) (member (codes "outside") (whole outside)
+    (member (codes "released") (whole released) (member (codes "rows") (whole rows)
+    (member (codes "stable") (whole stable) (member (codes "up") (boolean up)
     (member (codes "volatile") (whole volatile) no_members))))))))))
 
 -- the value of a reply
 abbrev pub reply_data : Reply → Data
-reply_data (Opened units) = object (member (codes "ok") (string (codes "open")) (member (codes "units") (whole units) no_members))
-reply_data (Joined unit) = object (member (codes "ok") (string (codes "join")) (member (codes "unit") (whole unit) no_members))
+reply_data (Opened units) =
+    object (member (codes "ok") (string (codes "open")) (member (codes "units") (whole units) no_members))
+reply_data (Joined unit) =
+    object (member (codes "ok") (string (codes "join")) (member (codes "unit") (whole unit) no_members))
 reply_data (Accepted at held letters) = accepted_data at held letters
-reply_data (Flushed count) = object (member (codes "count") (whole count) (member (codes "ok") (string (codes "flush")) no_members))
+reply_data (Flushed count) =
+    object (member (codes "count") (whole count) (member (codes "ok") (string (codes "flush")) no_members))
 reply_data (Checkpointed at) = checkpointed_data at
-reply_data (Killed lost) = object (member (codes "lost") (whole lost) (member (codes "ok") (string (codes "kill")) no_members))
+reply_data (Killed lost) =
+    object (member (codes "lost") (whole lost) (member (codes "ok") (string (codes "kill")) no_members))
 reply_data (Restarted row) = restarted_data row
 reply_data (Noticed row) = noticed_data row
 reply_data (Released outputs) = released_data outputs
-reply_data (Status at held known outside released rows stable up volatile) = status_data at held known outside released rows stable up volatile
-reply_data (Stopped count refusal) = object (member (codes "count") (whole count) (member (codes "no") (name_data refusal) no_members))
+reply_data (Status at held known outside released rows stable up volatile) =
+    status_data at held known outside released rows stable up volatile
+reply_data (Stopped count refusal) =
+    object (member (codes "count") (whole count) (member (codes "no") (name_data refusal) no_members))
 reply_data (Refused refusal) = object (member (codes "no") (name_data refusal) no_members)
 
 -- a reply that tells what a unit is at

@@ -16,7 +16,8 @@ nothing_filed = record { rows = []; places = [] }
 -- the places of the unit's rows, where the first row has the place k
 abbrev pub row_places_from : ℕ → List Row → ℕ → List ℕ
 row_places_from k [] unit = []
-row_places_from k (r ∷ rows) unit = cond (r.unit == unit) (k ∷ row_places_from (k + 1) rows unit) (row_places_from (k + 1) rows unit)
+row_places_from k (r ∷ rows) unit =
+    cond (r.unit == unit) (k ∷ row_places_from (k + 1) rows unit) (row_places_from (k + 1) rows unit)
 
 -- what is to be filed for a unit
 abbrev pub filed_of : List Row → ℕ → Filed

@@ -36,10 +36,15 @@ vector_received nodes began = []
 vector_received nodes (outside number text) = []
 vector_received nodes (letter l sender) = vector_of nodes sender
 
+-- the vector of the node before it, widened to the units that the tenant had, and joined with that of its letter
+abbrev pub vector_joined : List Node → Node → List Mark
+vector_joined nodes n = joined (widened (vector_before nodes n.before) n.units) (vector_received nodes n.cause)
+
 -- A node's vector is that of the node before it, widened to the units that the tenant had, joined with that of its
 -- letter, with its own mark set; and the lengths are such that each of these calls may be made.
 pub record IsMade (nodes : List Node) (x : ℕ) : Type 0 where
-  pub vector : vector_of nodes x ≡ slice_set (joined (widened (vector_before nodes (node_at nodes x).before) (node_at nodes x).units) (vector_received nodes (node_at nodes x).cause)) (node_at nodes x).unit (mark_of (node_at nodes x))
+  pub vector : vector_of nodes x
+      ≡ slice_set (vector_joined nodes (node_at nodes x)) (node_at nodes x).unit (mark_of (node_at nodes x))
   pub before : length (vector_before nodes (node_at nodes x).before) ≤ (node_at nodes x).units
   pub received : length (vector_received nodes (node_at nodes x).cause) ≤ (node_at nodes x).units
   pub own : (node_at nodes x).unit < (node_at nodes x).units
@@ -54,7 +59,9 @@ NodeVectorsAreMade M = (w : World) → Reachable M w → (x : ℕ) → x < lengt
 abbrev pub sessions_along : {S : Type 0} → Meaning S → List Node → ℕ → List ℕ → Counts
 sessions_along M nodes units path = record {
   outside = taken nodes path Outside;
-  units = map (λ u. record { taken = taken nodes path (FromUnit u); sent = count_along (execution M nodes).sends u path }) (numbers_from 0 units);
+  units = map
+      (λ u. record { taken = taken nodes path (FromUnit u); sent = count_along (execution M nodes).sends u path })
+      (numbers_from 0 units);
 }
 
 -- the refusal of a receipt that is not the next
@@ -65,10 +72,13 @@ refusal_of Gap = Some GapRefusal
 
 -- The sessions along a unit's path answer as the tests of a receipt's number do, and give the numbers of the unit's next letters.
 abbrev pub SessionsTell : {S : Type 0} → Meaning S → Type 0
-SessionsTell M = (w : World) → Reachable M w → (u : ℕ) (m : Member) → slice_get w.members u ≡ Some m → let c = sessions_along M w.nodes (length w.members) m.path in
+SessionsTell M = (w : World) → Reachable M w → (u : ℕ) (m : Member) → slice_get w.members u ≡ Some m
+    → let c = sessions_along M w.nodes (length w.members) m.path in
     ((source : Source) → IsCounted c source → (taken_from c source ≡ taken w.nodes m.path source)
-    × ((number : ℕ) → first_refusal (number_tests w m source number) ≡ refusal_of (arrival_of (taken_from c source) number)))
-    × ((v : ℕ) → v < length w.members → sent_to c v ≡ count_along (executed M w).sends v (line w.nodes (slice_get m.path (length m.path - 1))))
+    × ((number : ℕ) → first_refusal (number_tests w m source number)
+    ≡ refusal_of (arrival_of (taken_from c source) number)))
+    × ((v : ℕ) → v < length w.members
+    → sent_to c v ≡ count_along (executed M w).sends v (line w.nodes (slice_get m.path (length m.path - 1))))
 
 -- the sessions after a receipt from this source, if it is one
 abbrev pub taken_one : Counts → Option Source → Counts
@@ -89,21 +99,28 @@ IsCountedOne c (Some source) = IsCounted c source
 -- and all of these can be counted.
 pub record SessionsGoOnBy {S : Type 0} (M : Meaning S) (w : World) (path : List ℕ) (x : ℕ) : Type 0 where
   pub more : sessions_along M w.nodes (length w.members) (path ++ x ∷ [])
-      ≡ sent_all (taken_one (sessions_along M w.nodes (length w.members) path) (source_of w.nodes (node_at w.nodes x).cause)) (from_end (executed M w).sends x [])
-  pub source : IsCountedOne (sessions_along M w.nodes (length w.members) path) (source_of w.nodes (node_at w.nodes x).cause)
-  pub receivers : (j : ℕ) (s : ℕ × List ℕ) → slice_get (from_end (executed M w).sends x []) j ≡ Some s → s.0 < length w.members
+      ≡ sent_all
+      (taken_one (sessions_along M w.nodes (length w.members) path) (source_of w.nodes (node_at w.nodes x).cause))
+      (from_end (executed M w).sends x [])
+  pub source : IsCountedOne (sessions_along M w.nodes (length w.members) path)
+      (source_of w.nodes (node_at w.nodes x).cause)
+  pub receivers : (j : ℕ) (s : ℕ × List ℕ) → slice_get (from_end (executed M w).sends x []) j ≡ Some s
+      → s.0 < length w.members
 
 -- At first a unit's sessions are none, and they go on along its path.
 abbrev pub SessionsGoOn : {S : Type 0} → Meaning S → Type 0
-SessionsGoOn M = (w : World) → Reachable M w → (sessions_along M w.nodes (length w.members) [] ≡ no_counts (length w.members))
-    × ((u : ℕ) (m : Member) → slice_get w.members u ≡ Some m → (i x : ℕ) → slice_get m.path i ≡ Some x → SessionsGoOnBy M w (take i m.path) x)
+SessionsGoOn M = (w : World) → Reachable M w
+    → (sessions_along M w.nodes (length w.members) [] ≡ no_counts (length w.members))
+    × ((u : ℕ) (m : Member) → slice_get w.members u ≡ Some m → (i x : ℕ) → slice_get m.path i ≡ Some x
+    → SessionsGoOnBy M w (take i m.path) x)
 
 -- ---- orphans and what is unstable
 
 -- the first place of a path whose vector is an orphan's is where the path is cut; where there is none, all of it is kept
 abbrev pub FirstOrphanCuts : {S : Type 0} → Meaning S → Type 0
 FirstOrphanCuts M = (w : World) → Reachable M w → (u : ℕ) (m : Member) → slice_get w.members u ≡ Some m
-    → MatchOption (position (is_orphan_by (take (length w.table) w.table)) (map (vector_of w.nodes) m.path)) (path_kept w m ≡ m.path) (λ i. (path_kept w m ≡ take i m.path) × (i < length m.path))
+    → MatchOption (position (is_orphan_by (take (length w.table) w.table)) (map (vector_of w.nodes) m.path))
+    (path_kept w m ≡ m.path) (λ i. (path_kept w m ≡ take i m.path) × (i < length m.path))
 
 -- the stable length of each unit
 abbrev pub stable_lengths : World → List ℕ
@@ -112,7 +129,8 @@ stable_lengths w = map (λ m. m.stable) w.members
 -- how many units are unstable by a node's vector is how many have an unstable node in its past
 abbrev pub UnstableAreCounted : {S : Type 0} → Meaning S → Type 0
 UnstableAreCounted M = (w : World) → Reachable M w → (x : ℕ) → x < length w.nodes
-    → (unstable_count w.table (stable_lengths w) (vector_of w.nodes x) ≡ length (unstable_units w x)) × (length (vector_of w.nodes x) ≤ length (stable_lengths w))
+    → (unstable_count w.table (stable_lengths w) (vector_of w.nodes x) ≡ length (unstable_units w x))
+    × (length (vector_of w.nodes x) ≤ length (stable_lengths w))
 
 -- ---- output commit
 
@@ -141,7 +159,8 @@ pub record FrontierTells {S : Type 0} (M : Meaning S) (w : World) (u : ℕ) (m :
   pub all : map (λ h. h.text) (held_below (held_outputs M w m) (frontier w m)) ≡ map (λ o. o.1) (releasable M w m)
 
 abbrev pub FrontiersTell : {S : Type 0} → Meaning S → Type 0
-FrontiersTell M = (w : World) → Reachable M w → (u : ℕ) (m : Member) → slice_get w.members u ≡ Some m → FrontierTells M w u m
+FrontiersTell M = (w : World) → Reachable M w → (u : ℕ) (m : Member) → slice_get w.members u ≡ Some m
+    → FrontierTells M w u m
 
 -- ---- volatile logs
 
@@ -149,9 +168,11 @@ FrontiersTell M = (w : World) → Reachable M w → (u : ℕ) (m : Member) → s
 -- that are not below an index that of the unit that went back to there. A kill leaves none, and tells how many there were.
 pub record LogsFollow {S : Type 0} (M : Meaning S) (w : World) (m : Member) (name : List ℕ) : Type 0 where
   pub logged : (k : ℕ) → drop k (volatile_records M name w m) ≡ volatile_records M name w (flushed m k)
-  pub cut : (i known : ℕ) → records_below (volatile_records M name w m) i ≡ volatile_records M name w (back_at m (take i m.path) known)
+  pub cut : (i known : ℕ)
+      → records_below (volatile_records M name w m) i ≡ volatile_records M name w (back_at m (take i m.path) known)
   pub cleared : volatile_records M name w (killed m) ≡ []
   pub lost : length (volatile_records M name w m) ≡ length m.path - m.stable
 
 abbrev pub VolatileLogsFollow : {S : Type 0} → Meaning S → Type 0
-VolatileLogsFollow M = (w : World) → Reachable M w → (u : ℕ) (m : Member) → slice_get w.members u ≡ Some m → (name : List ℕ) → LogsFollow M w m name
+VolatileLogsFollow M = (w : World) → Reachable M w → (u : ℕ) (m : Member) → slice_get w.members u ≡ Some m
+    → (name : List ℕ) → LogsFollow M w m name

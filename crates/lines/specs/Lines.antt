@@ -25,4 +25,5 @@ Holds held true text = MAX_LINE_BYTES < length text
 abbrev pub LinesRead : Option (List ℕ) → Option (List ℕ) → List (List ℕ) → Type 0
 LinesRead None new lines = ⊤
 LinesRead (Some all) None lines = ⊥
-LinesRead (Some all) (Some rest) lines = (lines_of all ≡ lines ++ lines_of rest) × ((read : List ℕ) × (all ≡ read ++ rest))
+LinesRead (Some all) (Some rest) lines =
+    (lines_of all ≡ lines ++ lines_of rest) × ((read : List ℕ) × (all ≡ read ++ rest))

@@ -40,7 +40,8 @@ AnsweredStep (Some step) old reply new = IsUnread old reply new ⊎ IsEntered ol
 
 -- a line was answered, and one that is too long was told to be bad whatever memory there was
 abbrev pub AnsweredLine : List ℕ → Ledger → Reply → Ledger → Type 0
-AnsweredLine line old reply new = AnsweredStep (line_step line) old reply new × (MAX_LINE_BYTES < length line → reply ≡ Refused BadLine)
+AnsweredLine line old reply new =
+    AnsweredStep (line_step line) old reply new × (MAX_LINE_BYTES < length line → reply ≡ Refused BadLine)
 
 -- a reply's line, with its line feed
 abbrev pub reply_line : Reply → List ℕ
@@ -52,18 +53,21 @@ reply_line r = reply_text r ++ 10 ∷ []
 abbrev pub Serves : List (List ℕ) → Ledger → List Reply → Ledger → Type 0
 Serves [] old replies new = (replies ≡ []) × (new ≡ old)
 Serves (line ∷ lines) old replies new =
-    (reply : Reply) × (others : List Reply) × (mid : Ledger) × (replies ≡ reply ∷ others) × AnsweredLine line old reply mid × Serves lines mid others new
+    (reply : Reply) × (others : List Reply) × (mid : Ledger) × (replies ≡ reply ∷ others)
+    × AnsweredLine line old reply mid × Serves lines mid others new
 
 -- Serving came to the end: all lines are answered, and each reply is written.
 abbrev pub ServedAll : Option (List ℕ) → Option (List ℕ) → Option (List ℕ) → Ledger → Ledger → ℕ → Type 0
 ServedAll input old_out new_out old new count =
-    (lines : List (List ℕ)) × (replies : List Reply) × IfSome input (λ all. lines_of all ≡ lines) × Serves lines old replies new
+    (lines : List (List ℕ)) × (replies : List Reply) × IfSome input (λ all. lines_of all ≡ lines)
+    × Serves lines old replies new
     × Appends old_out new_out (flat_map reply_line replies) × (length lines ≡ count)
 
 -- Serving ended early: the lines read so far are answered, what was taken of the input behind them is a part of one line, and what is written is a beginning of their replies.
 abbrev pub ServedSome : Option (List ℕ) → Option (List ℕ) → Option (List ℕ) → Option (List ℕ) → Ledger → Ledger → Type 0
 ServedSome input input' old_out new_out old new =
-    (lines : List (List ℕ)) × (replies : List Reply) × (rest : Option (List ℕ)) × LinesRead input rest lines × TakesPart rest input' × Serves lines old replies new
+    (lines : List (List ℕ)) × (replies : List Reply) × (rest : Option (List ℕ)) × LinesRead input rest lines
+    × TakesPart rest input' × Serves lines old replies new
     × AppendsBeginning old_out new_out (flat_map reply_line replies)
 
 -- ---- where no reply is for want of memory
@@ -101,21 +105,24 @@ AreReplies (line ∷ lines) (reply ∷ replies) = IsBadOr (line_step line) reply
 -- the history grew by one entry for each line that is a step, in order, by the caller, with that step and its reply, and the other lines were told to be bad
 abbrev pub EntersEach : List (List ℕ) → Ledger → List Reply → Ledger → Type 0
 EntersEach lines old replies new =
-    AreReplies lines replies × (entries : List Entry) × (new.history ≡ old.history ++ entries) × (map told entries ≡ entered lines replies)
+    AreReplies lines replies × (entries : List Entry) × (new.history ≡ old.history ++ entries)
+    × (map told entries ≡ entered lines replies)
 
 -- ---- one turn of serving
 
 -- a line was read and answered
 abbrev pub TookLine : Option (List ℕ) → Option (List ℕ) → Option (List ℕ) → Option (List ℕ) → Ledger → Ledger → Type 0
 TookLine input input' out out' old new =
-    (line : List ℕ) × (reply : Reply) × LinesRead input input' (line ∷ []) × AnsweredLine line old reply new × Appends out out' (reply_line reply)
+    (line : List ℕ) × (reply : Reply) × LinesRead input input' (line ∷ []) × AnsweredLine line old reply new
+    × Appends out out' (reply_line reply)
 
 -- no line was left
 abbrev pub TookNone : Option (List ℕ) → Option (List ℕ) → Option (List ℕ) → Ledger → Ledger → Type 0
 TookNone input out out' old new = IsAtEnd input × (new ≡ old) × Keeps out out'
 
 -- whether a line was left
-abbrev pub Took : Bool → Option (List ℕ) → Option (List ℕ) → Option (List ℕ) → Option (List ℕ) → Ledger → Ledger → Type 0
+abbrev pub Took : Bool → Option (List ℕ) → Option (List ℕ) → Option (List ℕ) → Option (List ℕ) → Ledger → Ledger
+    → Type 0
 Took true input input' out out' old new = TookLine input input' out out' old new
 Took false input input' out out' old new = TookNone input out out' old new
 
@@ -123,4 +130,5 @@ Took false input input' out out' old new = TookNone input out out' old new
 abbrev pub Broken : Option (List ℕ) → Option (List ℕ) → Option (List ℕ) → Option (List ℕ) → Ledger → Ledger → Type 0
 Broken input input' out out' old new =
     (TakesPart input input' × (new ≡ old) × Keeps out out')
-    ⊎ ((line : List ℕ) × (reply : Reply) × LinesRead input input' (line ∷ []) × AnsweredLine line old reply new × AppendsBeginning out out' (reply_line reply))
+    ⊎ ((line : List ℕ) × (reply : Reply) × LinesRead input input' (line ∷ []) × AnsweredLine line old reply new
+    × AppendsBeginning out out' (reply_line reply))

@@ -86,7 +86,9 @@ abbrev pub takes_letter : {S : Type 0} → Meaning S → Network S → ℕ → �
 takes_letter M net to source None = Err (NoUnit to)
 takes_letter M net to source (Some a) =
     cond (nat_lt source (length net.workers))
-    (takes_next M (record net { packets = without_next source to net.packets }) a to source (next_text source to net.packets))
+    (takes_next M (record net {
+      packets = without_next source to net.packets;
+    }) a to source (next_text source to net.packets))
     (Err (NoUnit source))
 
 -- one move, or why it cannot be made
@@ -96,7 +98,9 @@ moved M net (TakesLetter to source) = takes_letter M net to source (slice_get ne
 moved M net (Joins kind) =
     let units = length net.workers in
     cond (nat_le MAX_UNITS units) (Err (NoUnit MAX_UNITS))
-    (Ok (record net { workers = net.workers ++ new_worker M (record { unit = units; kind = kind; home = units + 1 }) ∷ [] }))
+    (Ok (record net {
+      workers = net.workers ++ new_worker M (record { unit = units; kind = kind; home = units + 1 }) ∷ [];
+    }))
 
 abbrev pub if_moved : {S : Type 0} → Result (Network S) Flaw → (Network S → Result (Network S) Flaw)
     → Result (Network S) Flaw

@@ -26,7 +26,15 @@ pub record Node : Type 0 where
   pub units : ℕ
 
 abbrev pub no_node : Node
-no_node = record { unit = 0; seat = record { unit = 0; kind = 0; home = 0 }; incarnation = 0; index = 0; before = None; cause = began; units = 0 }
+no_node = record {
+  unit = 0;
+  seat = record { unit = 0; kind = 0; home = 0 };
+  incarnation = 0;
+  index = 0;
+  before = None;
+  cause = began;
+  units = 0;
+}
 
 abbrev pub node_at : List Node → ℕ → Node
 node_at nodes x = from_end nodes x no_node
@@ -106,7 +114,8 @@ extended M e older n =
     record {
       turns = turn ∷ e.turns;
       sends = sends ∷ e.sends;
-      letters = e.letters ++ letters_of (length older) n.unit (λ u. count_along e.sends u (line older n.before)) [] sends;
+      letters = e.letters
+          ++ letters_of (length older) n.unit (λ u. count_along e.sends u (line older n.before)) [] sends;
     }
 
 -- the turns, sends and letters of all nodes

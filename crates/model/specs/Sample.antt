@@ -33,13 +33,20 @@ value_of digits = fold (λ n d. 10 * n + (d - 48)) 0 digits
 
 -- 1 to 20 digits, and no more than the greatest number
 abbrev pub is_number : List ℕ → Bool
-is_number text = nat_le 1 (length text) && (nat_le (length text) 20 && (list_all (λ c. nat_le 48 c && nat_le c 57) text && nat_le (value_of text) greatest))
+is_number text =
+    nat_le 1 (length text)
+    && (nat_le (length text) 20
+    && (list_all (λ c. nat_le 48 c && nat_le c 57) text && nat_le (value_of text) greatest))
 
 abbrev pub echo : State → List ℕ → Turn State
 echo state text = record { state = state; sends = []; outputs = text ∷ [] }
 
 abbrev pub relay : Seat → State → List ℕ → Turn State
-relay seat state text = record { state = state; sends = if (seat.home == 0) then [] else ((seat.unit + 1) % seat.home, text) ∷ []; outputs = [] }
+relay seat state text = record {
+  state = state;
+  sends = if (seat.home == 0) then [] else ((seat.unit + 1) % seat.home, text) ∷ [];
+  outputs = [];
+}
 
 abbrev pub tell : ℕ → Turn State
 tell n = record { state = Some n; sends = []; outputs = decimal n ∷ [] }

@@ -129,14 +129,19 @@ room_tests w m text =
     ∷ []
 
 abbrev pub is_large : {S : Type 0} → Turn S → Bool
-is_large turn = nat_lt MAX_TURN_EFFECTS (length turn.sends + length turn.outputs) || (list_any (λ s. is_long s.1) turn.sends || list_any is_long turn.outputs)
+is_large turn =
+    nat_lt MAX_TURN_EFFECTS (length turn.sends + length turn.outputs)
+    || (list_any (λ s. is_long s.1) turn.sends || list_any is_long turn.outputs)
 
 -- whether the turn can be taken
 abbrev pub turn_tests : {S : Type 0} → Meaning S → World → Member → Turn S → List (Bool × Refusal)
 turn_tests M w m turn =
     (is_large turn, TooMuch)
     ∷ (nat_lt w.quota.held (length (held M w m) + length turn.outputs), OverQuota)
-    ∷ (nat_lt w.quota.letters (length (executed M w).letters + length (sends_within (length w.members) turn)), OverQuota)
+    ∷ (
+      nat_lt w.quota.letters (length (executed M w).letters + length (sends_within (length w.members) turn)),
+      OverQuota,
+    )
     ∷ []
 
 -- the answer tells the new mark, how many outputs are held then, and the letters made
@@ -152,7 +157,10 @@ accepted M w u m cause =
 abbrev pub post_to : {S : Type 0} → Meaning S → World → ℕ → ℕ → List ℕ → Member → Outcome
 post_to M w u number text m =
     let cause = outside number text in
-    unless w (is_down m ∷ (number_tests w m Outside number ++ (room_tests w m text ++ turn_tests M w m (turn_upon_receipt M w u m cause))))
+    unless w
+    (is_down m
+    ∷ (number_tests w m Outside number
+    ++ (room_tests w m text ++ turn_tests M w m (turn_upon_receipt M w u m cause))))
     (accepted M w u m cause)
 
 abbrev pub post : {S : Type 0} → Meaning S → World → ℕ → ℕ → List ℕ → Outcome
@@ -167,7 +175,8 @@ deliver_to M w l received m =
     ∷ (is_blind w.nodes known received.sender, Wait)
     ∷ (is_orphan w.nodes known received.sender, Orphan)
     ∷ (nat_lt w.optimism (length (unstable_units w received.sender)), Pending)
-    ∷ (number_tests w m (FromUnit received.source) received.number ++ (room_tests w m received.text ++ turn_tests M w m (turn_upon_receipt M w received.receiver m cause))))
+    ∷ (number_tests w m (FromUnit received.source) received.number
+    ++ (room_tests w m received.text ++ turn_tests M w m (turn_upon_receipt M w received.receiver m cause))))
     (accepted M w received.receiver m cause)
 
 abbrev pub if_letter : {S : Type 0} → Meaning S → World → ℕ → Option Message → Outcome
@@ -324,15 +333,24 @@ kind_or_0 (Some kind) = kind
 -- 1 to 16 kinds that the handler knows, and limits in their range
 abbrev pub can_open : {S : Type 0} → Meaning S → List (List ℕ) → Quota → ℕ → Bool
 can_open M names quota optimism =
-    within 1 (length names) MAX_UNITS && (not (list_any (λ n. is_none (M.kind n)) names) && (is_quota quota && nat_le optimism MAX_OPTIMISM))
+    within 1 (length names) MAX_UNITS
+    && (not (list_any (λ n. is_none (M.kind n)) names) && (is_quota quota && nat_le optimism MAX_OPTIMISM))
 
 -- every unit at its beginning, and nothing known, released or lost
 abbrev pub opened_with : {S : Type 0} → Meaning S → List (List ℕ) → Quota → ℕ → Outcome
 opened_with M names quota optimism = record {
   reply = Opened (length names);
-  world = Some (fold (λ w n. with_unit (length names) w (kind_or_0 (M.kind n))) (record { quota = quota; optimism = optimism; members = []; nodes = []; table = [] }) names);
+  world = Some (fold (λ w n. with_unit (length names) w (kind_or_0 (M.kind n))) (record {
+    quota = quota;
+    optimism = optimism;
+    members = [];
+    nodes = [];
+    table = [];
+  }) names);
 }
 
 abbrev pub open_new : {S : Type 0} → Meaning S → List (List ℕ) → Quota → ℕ → Outcome
 open_new M names quota optimism =
-    if can_open M names quota optimism then opened_with M names quota optimism else record { reply = Refused BadOpen; world = None }
+    if can_open M names quota optimism
+    then opened_with M names quota optimism
+    else record { reply = Refused BadOpen; world = None }

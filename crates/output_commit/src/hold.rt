@@ -27,7 +27,11 @@ impl Model for Hold {
 
     ghost Value = { HeldOutputs };
 
-    ghost view = { λ h. record { unit = h.unit; outputs = h.outputs.items; room = deque_capacity h.outputs - deque_len h.outputs } };
+    ghost view = { λ h. record {
+      unit = h.unit;
+      outputs = h.outputs.items;
+      room = deque_capacity h.outputs - deque_len h.outputs;
+    } };
 }
 
 impl Hold {

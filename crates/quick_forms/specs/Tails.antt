@@ -10,7 +10,8 @@ post_tail number tenant text unit =
 
 -- of a delivery: its letter and tenant
 abbrev pub deliver_tail : ℕ → List ℕ → List ℕ
-deliver_tail letter tenant = codes ",\"letter\":" ++ (decimal letter ++ (codes ",\"tenant\":" ++ (quoted tenant ++ codes "}")))
+deliver_tail letter tenant =
+    codes ",\"letter\":" ++ (decimal letter ++ (codes ",\"tenant\":" ++ (quoted tenant ++ codes "}")))
 
 -- of a step that names a tenant and a unit alone
 abbrev pub place_tail : List ℕ → ℕ → List ℕ

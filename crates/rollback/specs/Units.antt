@@ -71,7 +71,10 @@ pub record CountsFit (c : Counts) (source : Source) (width count : ℕ) : Type 0
 
 -- the progress after a receipt from the source and its turn
 abbrev pub progress_after_turn : {S : Type 0} → Progress S → Source → ℕ → Turn S → Progress S
-progress_after_turn p source width turn = record { state = turn.state; sessions = sent_all (advanced p.sessions source) (sends_within width turn) }
+progress_after_turn p source width turn = record {
+  state = turn.state;
+  sessions = sent_all (advanced p.sessions source) (sends_within width turn);
+}
 
 -- what a turn sends to which units, and what it puts out
 pub record Effects : Type 0 where
@@ -83,7 +86,8 @@ effects_of turn = record { sends = turn.sends; outputs = turn.outputs }
 
 -- the whole input of the unit's turn upon a receipt, where it is up
 abbrev pub asking : {S : Type 0} → Recovering S → Source → List ℕ → Option (Input S)
-asking u source text = option_map (λ p. record { seat = u.seat; state = p.state; source = source; text = text }) u.progress
+asking u source text =
+    option_map (λ p. record { seat = u.seat; state = p.state; source = source; text = text }) u.progress
 
 -- with one more interval, whose record is volatile
 abbrev pub took : {S : Type 0} → Meaning S → Recovering S → Record → Recovering S
@@ -116,7 +120,12 @@ marked_stable u count = record u { volatile = drop count u.volatile }
 abbrev pub killed_recovering : {S : Type 0} → Recovering S → Recovering S
 killed_recovering u =
     let kept = length u.intervals - length u.volatile in
-    record u { progress = None; outside = u.outside - from_outside (drop kept u.intervals); intervals = take kept u.intervals; volatile = [] }
+    record u {
+      progress = None;
+      outside = u.outside - from_outside (drop kept u.intervals);
+      intervals = take kept u.intervals;
+      volatile = [];
+    }
 
 -- ---- checkpoint, and units that joined
 
@@ -132,7 +141,8 @@ checkpointed u = record u { shelf = shelf_with u.shelf (places u - 1) u.progress
 -- The base is the same, and what was shelved still is, but for the first of as many others as may be kept.
 pub record KeepsShelved {P : Type 0} (old new : Shelved P) : Type 0 where
   pub base : new.base ≡ old.base
-  pub others : (x : Snapshot P) → IsShelved old x → IsShelved new x ⊎ ((MAX_CHECKPOINTS ≤ length old.others) × (slice_get old.others 0 ≡ Some x))
+  pub others : (x : Snapshot P) → IsShelved old x
+      → IsShelved new x ⊎ ((MAX_CHECKPOINTS ≤ length old.others) × (slice_get old.others 0 ≡ Some x))
 
 -- with an entry for each of n units in what it took and sent
 abbrev pub widened_to : {S : Type 0} → Recovering S → ℕ → Recovering S
@@ -146,7 +156,8 @@ unknown = record { vector = []; letter = None }
 
 -- what comes after an orphan is one
 abbrev pub OrphansAreTail : List Row → List Interval → Type 0
-OrphansAreTail rows intervals = (i j : ℕ) (x y : Interval) → i ≤ j → slice_get intervals i ≡ Some x → slice_get intervals j ≡ Some y → is_orphan_by rows x.vector ≡ true → is_orphan_by rows y.vector ≡ true
+OrphansAreTail rows intervals = (i j : ℕ) (x y : Interval) → i ≤ j → slice_get intervals i ≡ Some x
+    → slice_get intervals j ≡ Some y → is_orphan_by rows x.vector ≡ true → is_orphan_by rows y.vector ≡ true
 
 -- ---- going back
 
@@ -171,12 +182,14 @@ records_to u target fetched = fetched ++ records_below u.volatile (target + 1)
 -- with its path cut, and the progress that the records give from the nearest snapshot on
 abbrev pub restored : {S : Type 0} → Meaning S → Recovering S → ℕ → ℕ → List Record → Recovering S
 restored M u target width fetched = record (cut_behind u target) {
-  progress = option_map (λ s. replayed M u.seat (fitted width s.state) (records_to u target fetched)) (nearest_of u.shelf target);
+  progress = option_map (λ s. replayed M u.seat (fitted width s.state) (records_to u target fetched))
+      (nearest_of u.shelf target);
 }
 
 -- The snapshot from which the unit goes back to the target is, in a tenant of so many units, what these receipts give from p on.
 abbrev pub BeginsBy : {S : Type 0} → Meaning S → Recovering S → ℕ → ℕ → Progress S → List Record → Type 0
-BeginsBy M u target width p before = (s : Snapshot _) → nearest_of u.shelf target ≡ Some s → fitted width s.state ≡ replayed M u.seat p before
+BeginsBy M u target width p before = (s : Snapshot _) → nearest_of u.shelf target ≡ Some s
+    → fitted width s.state ≡ replayed M u.seat p before
 
 -- ---- forgetting
 

@@ -50,9 +50,25 @@ impl<H: Handler> Model for RecoveryUnit<H> {
 
     ghost Value = { Recovering H.State };
 
-    ghost view = { λ u. record { seat = u.seat; progress = u.progress; base = u.base; outside = u.outside; shelf = u.shelf; intervals = u.intervals.items; volatile = u.volatile.records } };
+    ghost view = { λ u. record {
+      seat = u.seat;
+      progress = u.progress;
+      base = u.base;
+      outside = u.outside;
+      shelf = u.shelf;
+      intervals = u.intervals.items;
+      volatile = u.volatile.records;
+    } };
 
-    ghost invariant = { λ u. IsKept (record { seat = u.seat; progress = u.progress; base = u.base; outside = u.outside; shelf = u.shelf; intervals = u.intervals.items; volatile = u.volatile.records }) };
+    ghost invariant = { λ u. IsKept (record {
+      seat = u.seat;
+      progress = u.progress;
+      base = u.base;
+      outside = u.outside;
+      shelf = u.shelf;
+      intervals = u.intervals.items;
+      volatile = u.volatile.records;
+    }) };
 }
 
 impl<H: Handler> RecoveryUnit<H> {

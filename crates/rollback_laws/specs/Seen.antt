@@ -37,17 +37,22 @@ pub record HasPlaces {S : Type 0} (r : Recovering S) (x : Unit S) : Type 0 where
 -- ---- going back
 
 -- this snapshot of the unit is the one from which it goes back to the target, the last place that is kept
-pub record BeginsAt {S : Type 0} (r : Recovering S) (k : Compact S) (x : Unit S) (target : ℕ) (s : Snapshot S) : Type 0 where
+pub record BeginsAt {S : Type 0} (r : Recovering S) (k : Compact S) (x : Unit S) (target : ℕ)
+    (s : Snapshot S) : Type 0 where
   pub there : (s ≡ x.base) ⊎ ((i : ℕ) × (slice_get x.shelf i ≡ Some s))
   pub nearest : nearest_of r.shelf target ≡ Some (shelved_as s)
   pub within : s.index < kept_places k x
 
 -- these records are the stable ones behind the snapshot that are kept, as the log has them
 abbrev pub IsRead : {S : Type 0} → Compact S → Unit S → List Record → Snapshot S → List Record → Type 0
-IsRead k x log s fetched = map (λ q. Some q) fetched ≡ take (min (kept_places k x) x.stable - 1 - s.index) (drop (s.index - x.base.index) (map (slice_get log) x.live))
+IsRead k x log s fetched =
+    map (λ q. Some q) fetched
+    ≡ take (min (kept_places k x) x.stable - 1 - s.index)
+    (drop (s.index - x.base.index) (map (slice_get log) x.live))
 
 -- what the unit is rebuilt to with these records is what replay gives, and is seen then
-pub record IsRestored {S : Type 0} (M : Meaning S) (r : Recovering S) (k : Compact S) (x : Unit S) (log : List Record) (target : ℕ) (fetched : List Record) : Type 0 where
+pub record IsRestored {S : Type 0} (M : Meaning S) (r : Recovering S) (k : Compact S) (x : Unit S) (log : List Record)
+    (target : ℕ) (fetched : List Record) : Type 0 where
   pub progress : Progress S
   pub there : (restored M r target (length k.units) fetched).progress ≡ Some progress
   pub rebuilt : IsRebuilt M k x log progress
@@ -55,11 +60,16 @@ pub record IsRestored {S : Type 0} (M : Meaning S) (r : Recovering S) (k : Compa
 
 -- ---- what holds of a unit of a tenant
 
+-- no interval that the unit keeps below its frontier is an orphan
+abbrev pub IsClean : {S : Type 0} → Recovering S → Compact S → Unit S → Type 0
+IsClean r k x = (i : ℕ) (v : Interval) → i < x.frontier - x.base.index → slice_get r.intervals i ≡ Some v
+    → is_orphan_by k.table v.vector ≡ false
+
 -- what the search for the first orphan, going back, and the laws of both ask for
 pub record IsReady {S : Type 0} (r : Recovering S) (k : Compact S) (x : Unit S) : Type 0 where
   pub firm_base : x.base.index < x.frontier
   pub front : x.frontier ≤ all_of x
-  pub clean : (i : ℕ) (v : Interval) → i < x.frontier - x.base.index → slice_get r.intervals i ≡ Some v → is_orphan_by k.table v.vector ≡ false
+  pub clean : IsClean r k x
   pub tail : OrphansAreTail k.table r.intervals
   pub live : length x.live ≡ x.stable - 1 - x.base.index
   pub target : IsTarget r (kept_places k x - 1)

@@ -35,7 +35,12 @@ impl<W> Model for WriterStore<W> {
 
     ghost Value = { Writing W };
 
-    ghost view = { λ s. record { records = s.records; writer = s.writer; failures = s.failures; is_closed = s.is_closed } };
+    ghost view = { λ s. record {
+      records = s.records;
+      writer = s.writer;
+      failures = s.failures;
+      is_closed = s.is_closed;
+    } };
 }
 
 /// The line of a record, with the line feed at its end.

@@ -51,7 +51,10 @@ given_up r (Some base) = base - r.base
 
 -- the tenant then
 abbrev pub moved_kept : {S : Type 0} → TenantState S → ℕ → Member S → Option ℕ → TenantState S
-moved_kept t u m base = record t { members = slice_set t.members u (moved_member m base); letters = moved_letters t.letters m.recovering base }
+moved_kept t u m base = record t {
+  members = slice_set t.members u (moved_member m base);
+  letters = moved_letters t.letters m.recovering base;
+}
 
 -- ---- the log
 

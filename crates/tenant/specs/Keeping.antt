@@ -82,7 +82,11 @@ abbrev pub shelved_count : {S : Type 0} → Recovering S → ℕ
 shelved_count r = length r.shelf.others + cond (r.base == 0) 0 1
 
 abbrev pub amount_of : {S : Type 0} → List Letter → ℕ → Member S → Amount
-amount_of letters u m = record { records = live_count m.recovering; shelved = shelved_count m.recovering; letters = length (filter (is_whole_to u) letters) }
+amount_of letters u m = record {
+  records = live_count m.recovering;
+  shelved = shelved_count m.recovering;
+  letters = length (filter (is_whole_to u) letters);
+}
 
 -- how much is kept of this unit's past, if the unit is there
 abbrev pub kept_by : {S : Type 0} → TenantState S → ℕ → Option Amount

@@ -87,7 +87,8 @@ abbrev pub firm_of : {S : Type 0} → List (List (List ℕ)) → ℕ → Member 
 firm_of released u m frontier texts = slice_set released u (texts ++ firm_texts m.outputs frontier)
 
 -- the firm outputs of this unit left, which had released these texts
-abbrev pub AreOut : {S : Type 0} → ℕ → Member S → ℕ → List (List ℕ) → List (Member S) → List (List (List ℕ)) → List (Member S) → List (List (List ℕ)) → Type 0
+abbrev pub AreOut : {S : Type 0} → ℕ → Member S → ℕ → List (List ℕ) → List (Member S) → List (List (List ℕ))
+    → List (Member S) → List (List (List ℕ)) → Type 0
 AreOut u m frontier texts members released after now =
     (after ≡ with_firm_out members u m frontier) × (now ≡ firm_of released u m frontier texts)
 
@@ -155,7 +156,8 @@ pub record MakesStable {S : Type 0} (before : TenantState S) (u count : ℕ) (m 
   pub optimism : after.optimism ≡ before.optimism
   pub table : after.table ≡ before.table
   pub members : after.members ≡ slice_set before.members u (flushed_member m count)
-  pub stable_lengths : after.stable_lengths ≡ slice_set before.stable_lengths u (stable_places (flushed_member m count).recovering)
+  pub stable_lengths : after.stable_lengths
+      ≡ slice_set before.stable_lengths u (stable_places (flushed_member m count).recovering)
   pub fronts : length after.frontiers ≡ length before.frontiers
   pub frontiers : GoOn before.table after.stable_lengths after.members before.frontiers after.frontiers
   pub released : after.released ≡ before.released
@@ -176,7 +178,9 @@ abbrev pub joined_kept : {S : Type 0} → Meaning S → TenantState S → ℕ �
 joined_kept M t kind =
     let width = length t.members + 1 in
     record t {
-      members = map (fitted_member width) t.members ++ begun_member M width (record { unit = length t.members; kind = kind; home = width }) (length t.table) ∷ [];
+      members = map (fitted_member width) t.members
+          ++ begun_member M width (record { unit = length t.members; kind = kind; home = width }) (length t.table)
+          ∷ [];
       stable_lengths = t.stable_lengths ++ 1 ∷ [];
       frontiers = t.frontiers ++ 1 ∷ [];
       released = t.released ++ [] ∷ [];
@@ -187,7 +191,8 @@ joined_kept M t kind =
 -- why a unit can't restart, whatever the store says
 abbrev pub restart_refusal : {S : Type 0} → List Row → ℕ → Option (Member S) → Option Refusal
 restart_refusal table u None = Some NoUnit
-restart_refusal table u (Some m) = cond (is_some m.recovering.progress) (Some Up) (cond (nat_le MAX_INCARNATION (incarnation_of table u)) (Some Limit) None)
+restart_refusal table u (Some m) = cond (is_some m.recovering.progress) (Some Up)
+    (cond (nat_le MAX_INCARNATION (incarnation_of table u)) (Some Limit) None)
 
 -- how many places of a path are kept, where this one is the first orphan, if there is one
 abbrev pub kept_before : Option ℕ → ℕ → ℕ
@@ -204,7 +209,11 @@ abbrev pub returned : {S : Type 0} → Recovering S → ℕ → Option (Progress
 returned r target progress = record (cut_behind r target) { progress = progress }
 
 abbrev pub returned_member : {S : Type 0} → Member S → ℕ → Option (Progress S) → ℕ → Member S
-returned_member m target progress known = record m { recovering = returned m.recovering target progress; outputs = outputs_to m.outputs (target + 1); known = known }
+returned_member m target progress known = record m {
+  recovering = returned m.recovering target progress;
+  outputs = outputs_to m.outputs (target + 1);
+  known = known;
+}
 
 -- with the unit gone back to the target, and a row that says so
 abbrev pub returned_kept : {S : Type 0} → TenantState S → ℕ → Member S → ℕ → ℕ → Option (Progress S) → TenantState S
@@ -226,12 +235,16 @@ live_count r = stable_places r - 1 - r.base
 -- These are the stable records behind the snapshot from which the unit goes back to the target.
 abbrev pub AreNeeded : {S : Type 0} → List (Option Record) → List ℕ → Recovering S → ℕ → List Record → Type 0
 AreNeeded {S} records live r target fetched =
-    (s : Snapshot (Progress S)) → nearest_of r.shelf target ≡ Some s → AreFetched records (drop (length live - live_count r) live) (s.index - r.base) (min (target + 1) (stable_places r) - 1 - r.base) fetched
+    (s : Snapshot (Progress S)) → nearest_of r.shelf target ≡ Some s
+    → AreFetched records (drop (length live - live_count r) live) (s.index - r.base)
+    (min (target + 1) (stable_places r) - 1 - r.base) fetched
 
 -- the progress at the target is what replay of those records gives
 abbrev pub IsReplayed : {S : Type 0} → Meaning S → List (Option Record) → List ℕ → Recovering S → ℕ → ℕ
     → Option (Progress S) → Type 0
-IsReplayed M records live r target width progress = (fetched : List Record) × AreNeeded records live r target fetched × (progress ≡ (restored M r target width fetched).progress)
+IsReplayed M records live r target width progress =
+    (fetched : List Record) × AreNeeded records live r target fetched
+    × (progress ≡ (restored M r target width fetched).progress)
 
 -- ---- receipts
 
@@ -288,7 +301,8 @@ next_letters_of t u m q turn sessions =
 
 -- and what it is answered
 abbrev pub next_reply_of : {S : Type 0} → TenantState S → ℕ → Member S → Turn S → Reply
-next_reply_of t u m turn = Accepted (next_mark_of t u m) (length m.outputs + length turn.outputs) (numbers_from (length t.letters) (length (sends_within (length t.members) turn)))
+next_reply_of t u m turn = Accepted (next_mark_of t u m) (length m.outputs + length turn.outputs)
+    (numbers_from (length t.letters) (length (sends_within (length t.members) turn)))
 
 -- why it is refused for what its turn makes
 abbrev pub turn_refusal_of : {S : Type 0} → TenantState S → Member S → Turn S → Option Refusal

@@ -39,7 +39,8 @@ post_needs M w u number text = post_to_needs M w number text (slice_get w.member
 
 abbrev pub deliver_to_needs : {S : Type 0} → Meaning S → World → Message → Option Member → Option (Input S)
 deliver_to_needs M w received None = None
-deliver_to_needs M w received (Some m) = input_unless (input_upon M w m (FromUnit received.source) received.text) (first_refusal (deliver_front w received m))
+deliver_to_needs M w received (Some m) = input_unless (input_upon M w m (FromUnit received.source) received.text)
+    (first_refusal (deliver_front w received m))
 
 abbrev pub letter_needs : {S : Type 0} → Meaning S → World → Option Message → Option (Input S)
 letter_needs M w None = None

@@ -28,5 +28,7 @@ pub record IsPlan {S : Type 0} (name : List ℕ) (t : TenantState S) (u : ℕ) (
 -- They are where the turn can be taken; or this is why it can't be.
 abbrev pub IsPlanned : {S : Type 0} → List ℕ → TenantState S → ℕ → Member S → Receipt → Turn S → Result Plan Refusal
     → Type 0
-IsPlanned {S} name t u m q turn (Ok plan) = (turn_refusal_of t m turn ≡ None) × ((p : Progress S) → m.recovering.progress ≡ Some p → IsPlan name t u m q turn p.sessions plan)
+IsPlanned {S} name t u m q turn (Ok plan) =
+    (turn_refusal_of t m turn ≡ None)
+    × ((p : Progress S) → m.recovering.progress ≡ Some p → IsPlan name t u m q turn p.sessions plan)
 IsPlanned name t u m q turn (Err r) = turn_refusal_of t m turn ≡ Some r

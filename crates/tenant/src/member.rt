@@ -40,7 +40,12 @@ impl<H: Handler> Model for Member<H> {
 
     ghost Value = { MemberOf H.State };
 
-    ghost view = { λ m. record { recovering = m.recovering; unit = m.unit; outputs = m.hold.outputs; known = m.known } };
+    ghost view = { λ m. record {
+      recovering = m.recovering;
+      unit = m.unit;
+      outputs = m.hold.outputs;
+      known = m.known;
+    } };
 
     ghost invariant = { λ m. m.hold.unit ≡ m.unit };
 }

@@ -31,7 +31,16 @@ impl<H: Handler> Model for Tenant<H> {
 
     ghost Value = { TenantState H.State };
 
-    ghost view = { λ t. record { quota = t.quota; optimism = t.optimism; table = t.table; members = t.members.items; stable_lengths = t.stable_lengths.items; frontiers = t.frontiers.items; released = released_of t.outlet; letters = t.letters.items } };
+    ghost view = { λ t. record {
+      quota = t.quota;
+      optimism = t.optimism;
+      table = t.table;
+      members = t.members.items;
+      stable_lengths = t.stable_lengths.items;
+      frontiers = t.frontiers.items;
+      released = released_of t.outlet;
+      letters = t.letters.items;
+    } };
 }
 
 impl<H: Handler> Tenant<H> {

@@ -31,20 +31,25 @@ CertificateLaw M = (w : World) → Reachable M w → CertificateHolds M w
 
 -- the outputs of the longest front of a unit's path that is firm
 abbrev pub firm_outputs : {S : Type 0} → Meaning S → World → Member → List (List ℕ)
-firm_outputs M w m = flat_map (λ x. (from_end (executed M w).turns x (begun M m.seat)).outputs) (take_while (is_firm w) m.path)
+firm_outputs M w m =
+    flat_map (λ x. (from_end (executed M w).turns x (begun M m.seat)).outputs) (take_while (is_firm w) m.path)
 
 -- what a unit released is a beginning of those
 abbrev pub ReleasedAreFirm : {S : Type 0} → Meaning S → Type 0
-ReleasedAreFirm M = (w : World) → Reachable M w → (u : ℕ) (m : Member) → slice_get w.members u ≡ Some m → IsPrefix m.released (firm_outputs M w m)
+ReleasedAreFirm M = (w : World) → Reachable M w → (u : ℕ) (m : Member) → slice_get w.members u ≡ Some m
+    → IsPrefix m.released (firm_outputs M w m)
 
 -- Only a release of the unit lengthens its released list, and no step shortens one.
 abbrev pub ReleasedGrow : {S : Type 0} → Meaning S → Type 0
-ReleasedGrow M = (v w : World) (e : Event) → (step M (Some v) e).world ≡ Some w → (u : ℕ) (m : Member) → slice_get v.members u ≡ Some m
-    → (n : Member) × (slice_get w.members u ≡ Some n) × IsPrefix m.released n.released × (¬ (e.step ≡ Release u) → n.released ≡ m.released)
+ReleasedGrow M = (v w : World) (e : Event) → (step M (Some v) e).world ≡ Some w → (u : ℕ) (m : Member)
+    → slice_get v.members u ≡ Some m
+    → (n : Member) × (slice_get w.members u ≡ Some n) × IsPrefix m.released n.released
+    × (¬ (e.step ≡ Release u) → n.released ≡ m.released)
 
 -- An accepted release leaves just the outputs of the firm front released.
 abbrev pub ReleaseIsWhole : {S : Type 0} → Meaning S → Type 0
-ReleaseIsWhole M = (v w : World) (e : Event) (u : ℕ) (m : Member) → Reachable M v → slice_get v.members u ≡ Some m → m.up ≡ true → e.step ≡ Release u → (step M (Some v) e).world ≡ Some w
+ReleaseIsWhole M = (v w : World) (e : Event) (u : ℕ) (m : Member) → Reachable M v → slice_get v.members u ≡ Some m
+    → m.up ≡ true → e.step ≡ Release u → (step M (Some v) e).world ≡ Some w
     → (n : Member) × (slice_get w.members u ≡ Some n) × (n.released ≡ firm_outputs M v m)
 
 -- a kill, a restart or a notice
@@ -91,14 +96,17 @@ pub record OnceEach (events : List Event) : Type 0 where
 -- at most one kill, one restart and one notice, and no other step, lead to a world where the node is off the unit's path
 abbrev pub CanGo : {S : Type 0} → Meaning S → World → ℕ → ℕ → Type 0
 CanGo M w u x = (events : List Event) × OnceEach events × AllRecover events
-    × ((z : World) × ((course_from M (Some w) events).world ≡ Some z) × ((m : Member) × (slice_get z.members u ≡ Some m) × (has m.path x ≡ false)))
+    × ((z : World) × ((course_from M (Some w) events).world ≡ Some z)
+    × ((m : Member) × (slice_get z.members u ≡ Some m) × (has m.path x ≡ false)))
 
 -- Where an accepted release leaves outputs held and no unit's incarnation is the last,
 -- the node of the first held output can go.
 abbrev pub HeldCanGo : {S : Type 0} → Meaning S → Type 0
-HeldCanGo M = (v w : World) (e : Event) (u : ℕ) (m : Member) → Reachable M v → slice_get v.members u ≡ Some m → m.up ≡ true → e.step ≡ Release u → (step M (Some v) e).world ≡ Some w
+HeldCanGo M = (v w : World) (e : Event) (u : ℕ) (m : Member) → Reachable M v → slice_get v.members u ≡ Some m
+    → m.up ≡ true → e.step ≡ Release u → (step M (Some v) e).world ≡ Some w
     → ((y : ℕ) → y < length w.members → incarnation_of w.table y ≢ MAX_INCARNATION)
-    → (n : Member) → slice_get w.members u ≡ Some n → (x : ℕ) (text : List ℕ) (rest : List (ℕ × List ℕ)) → held M w n ≡ (x, text) ∷ rest → CanGo M w u x
+    → (n : Member) → slice_get w.members u ≡ Some n → (x : ℕ) (text : List ℕ) (rest : List (ℕ × List ℕ))
+    → held M w n ≡ (x, text) ∷ rest → CanGo M w u x
 
 -- ---- vectors
 
@@ -110,7 +118,8 @@ any_mark p u (g ∷ marks) = p u g || any_mark p (Prim.Native.Nat.suc u) marks
 -- The greatest marks of a node's past tell whether it is blind or an orphan, by any front of the table.
 abbrev pub VectorsTell : {S : Type 0} → Meaning S → Type 0
 VectorsTell M = (w : World) → Reachable M w → (k z : ℕ) → z < length w.nodes
-    → (is_blind w.nodes (take k w.table) z ≡ any_mark (λ u g. not (mark_told (take k w.table) u g)) 0 (vector_of w.nodes z))
+    → (is_blind w.nodes (take k w.table) z
+    ≡ any_mark (λ u g. not (mark_told (take k w.table) u g)) 0 (vector_of w.nodes z))
     × (is_orphan w.nodes (take k w.table) z ≡ any_mark (mark_lost (take k w.table)) 0 (vector_of w.nodes z))
 
 -- ---- without optimism
@@ -122,7 +131,8 @@ NoOrphans M = (w : World) → Reachable M w → w.optimism ≡ 0 → (u : ℕ) (
 
 -- and no notice appends a row
 abbrev pub NoNoticeAppends : {S : Type 0} → Meaning S → Type 0
-NoNoticeAppends M = (w z : World) (e : Event) (u : ℕ) → Reachable M w → w.optimism ≡ 0 → e.step ≡ Notice u → (step M (Some w) e).world ≡ Some z → z.table ≡ w.table
+NoNoticeAppends M = (w z : World) (e : Event) (u : ℕ) → Reachable M w → w.optimism ≡ 0 → e.step ≡ Notice u
+    → (step M (Some w) e).world ≡ Some z → z.table ≡ w.table
 
 -- ---- the chain law
 
@@ -132,13 +142,15 @@ OneLine nodes x y = (has (line nodes (Some x)) y ≡ true) ⊎ (has (line nodes 
 
 -- any two nodes of one unit in one past are on one line of predecessors
 abbrev pub ChainLaw : {S : Type 0} → Meaning S → Type 0
-ChainLaw M = (w : World) → Reachable M w → (z x y : ℕ) → z < length w.nodes → has (past w.nodes z) x ≡ true → has (past w.nodes z) y ≡ true
+ChainLaw M = (w : World) → Reachable M w → (z x y : ℕ) → z < length w.nodes → has (past w.nodes z) x ≡ true
+    → has (past w.nodes z) y ≡ true
     → (node_at w.nodes x).unit ≡ (node_at w.nodes y).unit → OneLine w.nodes x y
 
 -- Of two nodes of one unit that are not on one line, the one of the lesser incarnation
 -- is lost by the rows of each front of the table by which the other is not blind.
 abbrev pub ForksAreLost : {S : Type 0} → Meaning S → Type 0
-ForksAreLost M = (w : World) → Reachable M w → (x y : ℕ) → x < length w.nodes → y < length w.nodes → (node_at w.nodes x).unit ≡ (node_at w.nodes y).unit
+ForksAreLost M = (w : World) → Reachable M w → (x y : ℕ) → x < length w.nodes → y < length w.nodes
+    → (node_at w.nodes x).unit ≡ (node_at w.nodes y).unit
     → ¬ OneLine w.nodes x y → (node_at w.nodes x).incarnation ≤ (node_at w.nodes y).incarnation
     → (k : ℕ) → is_blind w.nodes (take k w.table) y ≡ false → is_lost (take k w.table) (node_at w.nodes x) ≡ true
 
@@ -154,8 +166,10 @@ StaysOpen M = (v : World) (e : Event) → (w : World) × ((step M (Some v) e).wo
 
 -- What is released stays released over all further steps; what is firm stays firm.
 abbrev pub ReleasedStay : {S : Type 0} → Meaning S → Type 0
-ReleasedStay M = (before after : List Event) (v w : World) → (alone M before).world ≡ Some v → (alone M (before ++ after)).world ≡ Some w
-    → ((u : ℕ) (m : Member) → slice_get v.members u ≡ Some m → (n : Member) × (slice_get w.members u ≡ Some n) × IsPrefix m.released n.released)
+ReleasedStay M = (before after : List Event) (v w : World) → (alone M before).world ≡ Some v
+    → (alone M (before ++ after)).world ≡ Some w
+    → ((u : ℕ) (m : Member) → slice_get v.members u ≡ Some m
+    → (n : Member) × (slice_get w.members u ≡ Some n) × IsPrefix m.released n.released)
     × ((x : ℕ) → x < length v.nodes → is_firm v x ≡ true → is_firm w x ≡ true)
 
 -- ---- how vectors are made
@@ -174,7 +188,9 @@ entry_of_cause nodes u (letter l sender) = greatest_mark (past_nodes nodes sende
 -- A node's vector is the join of those of the node before it and of its letter's sender, with its own mark set.
 abbrev pub VectorsJoin : {S : Type 0} → Meaning S → Type 0
 VectorsJoin M = (w : World) → Reachable M w → (x u : ℕ) → x < length w.nodes → let n = node_at w.nodes x in
-    greatest_mark (past_nodes w.nodes x) u ≡ cond (n.unit == u) (mark_of n) (greater_mark (entry_before w.nodes u n.before) (entry_of_cause w.nodes u n.cause))
+    greatest_mark (past_nodes w.nodes x) u
+    ≡ cond (n.unit == u) (mark_of n)
+    (greater_mark (entry_before w.nodes u n.before) (entry_of_cause w.nodes u n.cause))
 
 -- ---- firm by vectors
 
@@ -194,8 +210,10 @@ FirmByVector M = (w : World) → Reachable M w → (x : ℕ) → x < length w.no
 
 -- a unit has an unstable node in a past just where its greatest mark there is not stable
 abbrev pub UnstableByVector : {S : Type 0} → Meaning S → Type 0
-UnstableByVector M = (w : World) → Reachable M w → (x u : ℕ) (m : Member) → x < length w.nodes → slice_get w.members u ≡ Some m
-    → list_any (λ y. (node_at w.nodes y).unit == u) (filter (λ y. not (is_stable w.members y)) (past w.nodes x)) ≡ not (mark_stable w u (greatest_mark (past_nodes w.nodes x) u))
+UnstableByVector M = (w : World) → Reachable M w → (x u : ℕ) (m : Member) → x < length w.nodes
+    → slice_get w.members u ≡ Some m
+    → list_any (λ y. (node_at w.nodes y).unit == u) (filter (λ y. not (is_stable w.members y)) (past w.nodes x))
+    ≡ not (mark_stable w u (greatest_mark (past_nodes w.nodes x) u))
 
 -- ---- paths in place of lines
 
@@ -208,9 +226,11 @@ StatesAreFolds M = (w : World) → Reachable M w → (u : ℕ) (m : Member) → 
 -- The numbers of a unit's next letters go on from the counts along its path.
 abbrev pub NumbersAlongPaths : {S : Type 0} → Meaning S → Type 0
 NumbersAlongPaths M = (w : World) → Reachable M w → (u : ℕ) (m : Member) → slice_get w.members u ≡ Some m → (t : ℕ)
-    → count_along (executed M w).sends t (line w.nodes (slice_get m.path (length m.path - 1))) ≡ count_along (executed M w).sends t m.path
+    → count_along (executed M w).sends t (line w.nodes (slice_get m.path (length m.path - 1)))
+    ≡ count_along (executed M w).sends t m.path
 
 -- a node of a path that is not firm can go, where its unit is up
 abbrev pub LaxCanGo : {S : Type 0} → Meaning S → Type 0
 LaxCanGo M = (w : World) → Reachable M w → ((y : ℕ) → y < length w.members → incarnation_of w.table y ≢ MAX_INCARNATION)
-    → (u : ℕ) (m : Member) → slice_get w.members u ≡ Some m → m.up ≡ true → (x : ℕ) → has m.path x ≡ true → is_firm w x ≡ false → CanGo M w u x
+    → (u : ℕ) (m : Member) → slice_get w.members u ≡ Some m → m.up ≡ true → (x : ℕ) → has m.path x ≡ true
+    → is_firm w x ≡ false → CanGo M w u x

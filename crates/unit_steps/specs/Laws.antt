@@ -14,16 +14,19 @@ abbrev pub known_to : {S : Type 0} → Compact S → Unit S → Known
 known_to k x = record { table = k.table; rows = x.known; stable_lengths = lengths_of k }
 
 abbrev pub PostsAreRefused : {S : Type 0} → Meaning S → Type 0
-PostsAreRefused {S} M = (r : Recovering S) (x : Unit S) → IsKept r → IsSeen r x → (k : Compact S) (number : ℕ) (text : List ℕ)
+PostsAreRefused {S} M = (r : Recovering S) (x : Unit S) → IsKept r → IsSeen r x
+    → (k : Compact S) (number : ℕ) (text : List ℕ)
     → post_refusal k x number text ≡ post_refused k.quota.volatile r number text
 
 abbrev pub LettersAreRefused : {S : Type 0} → Meaning S → Type 0
 LettersAreRefused {S} M = (r : Recovering S) (x : Unit S) → IsKept r → IsSeen r x → (k : Compact S) (c : Letter)
-    → letter_refusal k x c c.content ≡ letter_refused (known_to k x) k.optimism k.quota.volatile r c.source c.number c.content
+    → letter_refusal k x c c.content
+    ≡ letter_refused (known_to k x) k.optimism k.quota.volatile r c.source c.number c.content
 
 abbrev pub TurnsAreRefused : {S : Type 0} → Meaning S → Type 0
 TurnsAreRefused {S} M = (k : Compact S) (x : Unit S) (turn : Turn S)
-    → first_refusal (tests_of_turn k x turn) ≡ turn_refused k.quota (length x.hold) (length k.letters) (length k.units) turn
+    → first_refusal (tests_of_turn k x turn)
+    ≡ turn_refused k.quota (length x.hold) (length k.letters) (length k.units) turn
 
 -- the mark and the vector of the next interval
 pub record AreMade {S : Type 0} (k : Compact S) (u : ℕ) (x : Unit S) (r : Recovering S) (q : Receipt) : Type 0 where
@@ -31,8 +34,10 @@ pub record AreMade {S : Type 0} (k : Compact S) (u : ℕ) (x : Unit S) (r : Reco
   pub vector : next_vector k u x q ≡ vector_upon k.table (length k.units) u r q.vector
 
 abbrev pub VectorsAreMade : {S : Type 0} → Meaning S → Type 0
-VectorsAreMade {S} M = (r : Recovering S) (x : Unit S) → IsKept r → IsSeen r x → (k : Compact S) (u : ℕ) (q : Receipt) → AreMade k u x r q
+VectorsAreMade {S} M = (r : Recovering S) (x : Unit S) → IsKept r → IsSeen r x
+    → (k : Compact S) (u : ℕ) (q : Receipt) → AreMade k u x r q
 
 abbrev pub FrontiersGoOn : {S : Type 0} → Meaning S → Type 0
-FrontiersGoOn {S} M = (r : Recovering S) (x : Unit S) → IsKept r → IsSeen r x → (rows : List Row) (stable_lengths : List ℕ)
+FrontiersGoOn {S} M = (r : Recovering S) (x : Unit S) → IsKept r → IsSeen r x
+    → (rows : List Row) (stable_lengths : List ℕ)
     → (going_on rows stable_lengths x).frontier ≡ frontier_of rows stable_lengths r x.frontier

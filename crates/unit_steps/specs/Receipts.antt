@@ -31,9 +31,11 @@ room_tests volatile_quota r text =
     ∷ []
 
 -- the refusal of a receipt by its number and for want of room, where this is the unit's progress
-abbrev pub arrival_refusal : {S : Type 0} → ℕ → Recovering S → Source → ℕ → List ℕ → Option (Progress S) → Option Refusal
+abbrev pub arrival_refusal : {S : Type 0} → ℕ → Recovering S → Source → ℕ → List ℕ → Option (Progress S)
+    → Option Refusal
 arrival_refusal volatile_quota r source number text None = Some Down
-arrival_refusal volatile_quota r source number text (Some p) = first_refusal (tests_of_number (taken_from p.sessions source) number ++ room_tests volatile_quota r text)
+arrival_refusal volatile_quota r source number text (Some p) =
+    first_refusal (tests_of_number (taken_from p.sessions source) number ++ room_tests volatile_quota r text)
 
 -- the refusal of a post before its turn
 abbrev pub post_refused : {S : Type 0} → ℕ → Recovering S → ℕ → List ℕ → Option Refusal
@@ -56,9 +58,11 @@ past_tests known optimism r vector =
 
 -- the refusal of a letter before its turn; a forgotten one was taken
 abbrev pub letter_refused : {S : Type 0} → Known → ℕ → ℕ → Recovering S → ℕ → ℕ → Option Content → Option Refusal
-letter_refused known optimism volatile_quota r source number None = first_refusal ((not (is_some r.progress), Down) ∷ (true, Repeat) ∷ [])
+letter_refused known optimism volatile_quota r source number None =
+    first_refusal ((not (is_some r.progress), Down) ∷ (true, Repeat) ∷ [])
 letter_refused known optimism volatile_quota r source number (Some content) =
-    or_next (first_refusal (past_tests known optimism r content.vector)) (arrival_refusal volatile_quota r (FromUnit source) number content.text r.progress)
+    or_next (first_refusal (past_tests known optimism r content.vector))
+    (arrival_refusal volatile_quota r (FromUnit source) number content.text r.progress)
 
 -- the refusal of a receipt for what its turn makes, where so many outputs are held, letters made and units there
 abbrev pub turn_refused : {S : Type 0} → Quota → ℕ → ℕ → ℕ → Turn S → Option Refusal
@@ -85,13 +89,15 @@ mark_upon table unit r = record { incarnation = incarnation_of table unit; index
 
 -- its vector, in a tenant of so many units
 abbrev pub vector_upon : {S : Type 0} → List Row → ℕ → ℕ → Recovering S → List Mark → List Mark
-vector_upon table width unit r vector = slice_set (joined (widened (last_vector_of r) width) vector) unit (mark_upon table unit r)
+vector_upon table width unit r vector =
+    slice_set (joined (widened (last_vector_of r) width) vector) unit (mark_upon table unit r)
 
 -- ---- frontiers
 
 -- how many intervals at the front are firm, where so many were
 abbrev pub frontier_of : {S : Type 0} → List Row → List ℕ → Recovering S → ℕ → ℕ
-frontier_of table stable_lengths r frontier = frontier + firm_front table stable_lengths (map (λ i. i.vector) (drop (frontier - r.base) r.intervals))
+frontier_of table stable_lengths r frontier =
+    frontier + firm_front table stable_lengths (map (λ i. i.vector) (drop (frontier - r.base) r.intervals))
 
 -- no vector is longer than this
 abbrev pub NoLonger : ℕ → List Interval → Type 0
