@@ -133,6 +133,7 @@ impl<H: Handler> Tenant<H> {
         ensures few { IfOk result (λ r. length r.vector ≤ 256) }
     {
         let mark = mark_upon(&self.table, unit, member.recovering());
+        let _few = vector.as_slice();
         record_upon(
             alloc,
             name,
