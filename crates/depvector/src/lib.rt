@@ -27,6 +27,8 @@
 #![tactic(auto)]
 
 mod marks;
+mod shared;
 mod vector;
 
+pub use shared::SharedVector;
 pub use vector::DepVector;

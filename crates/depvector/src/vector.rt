@@ -3,7 +3,8 @@
 ghost use Rattle.std.specs.Prelude.{◌≡◌, ◌<◌, ◌≤◌, IfOk, OnErr, length, slice_set};
 ghost use Rattle.depvector.specs.Vectors.{begun_vector, joined, mark_for, widened};
 
-use crate::marks::{beginning, join_marks};
+use crate::marks::{beginning, join_marks, mark_of};
+use crate::shared::SharedVector;
 use model::{MAX_INLINE_MARKS, Mark, Marks, NoMemory, Unit};
 use smallvec::SmallVec;
 use std::alloc::Global;
@@ -88,10 +89,7 @@ impl DepVector {
     pub fn get(&self, unit: Unit) -> Mark
         ensures { result ≡ mark_for self.now unit }
     {
-        match self.as_slice().get(usize::from(unit.number())) {
-            Some(mark) => *mark,
-            None => beginning(),
-        }
+        mark_of(self.as_slice(), unit)
     }
 
     /// Takes the later mark for each unit: by incarnation, then by index. Takes no memory.
@@ -102,7 +100,16 @@ impl DepVector {
         requires { length other.now ≤ length self.old }
         ensures { self.new ≡ joined self.old other.now }
     {
-        join_marks(self.marks.as_mut_slice(), other.marks.as_slice());
+        self.join_marks(other.as_slice());
+    }
+
+    /// As [`DepVector::join`], with the other's marks.
+    #[tactic(auto, using(crate::proofs::Joins::joins))]
+    pub fn join_marks(&mut self, other: &[Mark])
+        requires { length other.now ≤ length self.old }
+        ensures { self.new ≡ joined self.old other.now }
+    {
+        join_marks(self.marks.as_mut_slice(), other);
     }
 
     /// Sets the mark of a unit that has an entry. Takes no memory.
@@ -141,14 +148,22 @@ impl DepVector {
         DepVector::of(*self.marks.allocator(), self.as_slice())
     }
 
-    /// The marks as a record holds them.
+    /// The vector, done.
     ///
     /// # Errors
     ///
-    /// `NoMemory` where the copy finds no memory.
-    pub fn to_marks(&self) -> Result<Marks, NoMemory>
-        ensures { IfOk result (λ m. m ≡ self.now) }
+    /// `NoMemory` where a place that copies can share finds no memory. A short one needs none.
+    pub fn into_shared(self, alloc: Global) -> Result<SharedVector, NoMemory>
+        ensures { IfOk result (λ v. v ≡ self) }
     {
-        Marks::of(*self.marks.allocator(), self.as_slice())
+        let _units = self.len();
+        if self.len() <= MAX_INLINE_MARKS {
+            let marks = Marks::of(alloc, self.as_slice())?;
+            return Ok(SharedVector::from_marks(marks));
+        }
+        let DepVector { marks } = self;
+        let all = marks.into_vec()?;
+        let marks = Marks::shared(all)?;
+        Ok(SharedVector::from_marks(marks))
     }
 }

@@ -11,6 +11,7 @@
 mod fault;
 mod kept;
 mod limits;
+mod marks;
 mod moves;
 mod names;
 mod records;
@@ -26,9 +27,10 @@ pub use limits::{
     MAX_LINE_BYTES, MAX_NAME_BYTES, MAX_OPTIMISM, MAX_TEXT_BYTES, MAX_TURN_EFFECTS, MAX_UNITS,
     MAX_VOLATILE_QUOTA,
 };
+pub use marks::{MAX_INLINE_MARKS, Marks};
 pub use moves::{Flaw, Move};
 pub use names::{Kind, Letter, Mark, Quota, Row, Seat, Source, Start, Unit};
-pub use records::{MAX_INLINE_MARKS, Marks, Record};
+pub use records::Record;
 pub use refusals::Refusal;
 pub use replies::{End, Entry, Reply, Said, Who};
 pub use steps::{Step, TenantStep};

@@ -12,7 +12,15 @@ use model::{Mark, Unit};
 pub fn is_blind(vector: &DepVector, table: &StartTable, known: usize) -> bool
     ensures { result ≡ is_blind_by (take known table.now) vector.now }
 {
-    for (unit, mark) in vector.as_slice().iter().enumerate() {
+    any_blind(vector.as_slice(), table, known)
+}
+
+/// As [`is_blind`], for a vector's marks, unit 0 first.
+pub fn any_blind(marks: &[Mark], table: &StartTable, known: usize) -> bool
+    requires { length marks.now ≤ 256 }
+    ensures { result ≡ is_blind_by (take known table.now) marks.now }
+{
+    for (unit, mark) in marks.iter().enumerate() {
         if !table.tells_of(known, Unit::new(unit as u8), *mark) {
             return true;
         }
@@ -24,7 +32,15 @@ pub fn is_blind(vector: &DepVector, table: &StartTable, known: usize) -> bool
 pub fn is_orphan(vector: &DepVector, table: &StartTable, known: usize) -> bool
     ensures { result ≡ is_orphan_by (take known table.now) vector.now }
 {
-    for (unit, mark) in vector.as_slice().iter().enumerate() {
+    any_lost(vector.as_slice(), table, known)
+}
+
+/// As [`is_orphan`], for a vector's marks, unit 0 first.
+pub fn any_lost(marks: &[Mark], table: &StartTable, known: usize) -> bool
+    requires { length marks.now ≤ 256 }
+    ensures { result ≡ is_orphan_by (take known table.now) marks.now }
+{
+    for (unit, mark) in marks.iter().enumerate() {
         if table.loses(known, Unit::new(unit as u8), *mark) {
             return true;
         }
@@ -48,8 +64,17 @@ pub fn unstable_units(vector: &DepVector, table: &StartTable, stable_lengths: &[
     requires { length vector.now ≤ length stable_lengths.now }
     ensures { result ≡ unstable_count table.now stable_lengths.now vector.now }
 {
+    count_unstable(vector.as_slice(), table, stable_lengths)
+}
+
+/// As [`unstable_units`], for a vector's marks, unit 0 first.
+pub fn count_unstable(marks: &[Mark], table: &StartTable, stable_lengths: &[u64]) -> u32
+    requires few { length marks.now ≤ 256 }
+    requires given { length marks.now ≤ length stable_lengths.now }
+    ensures { result ≡ unstable_count table.now stable_lengths.now marks.now }
+{
     let mut count = 0;
-    for (unit, mark) in vector.as_slice().iter().enumerate() {
+    for (unit, mark) in marks.iter().enumerate() {
         if !is_stable(table, stable_lengths, unit, *mark) {
             count += 1;
         }

@@ -63,9 +63,32 @@ impl Hold {
         ensures ok { IfOk result (λ _. self.new.outputs ≡ self.old.outputs ++ held_of mark texts.items) }
         ensures err { OnErr result (self.new.outputs ≡ self.old.outputs) }
     {
-        self.outputs.reserve(texts.len())?;
-        push_all(&mut self.outputs, mark, texts);
+        self.reserve(texts.len())?;
+        self.add_reserved(mark, texts);
         Ok(())
+    }
+
+    /// Makes room for so many outputs more.
+    ///
+    /// # Errors
+    ///
+    /// `NoMemory` where they find no memory.
+    pub fn reserve(&mut self, count: usize) -> Result<(), NoMemory>
+        ensures unit { self.new.unit ≡ self.old.unit }
+        ensures outputs { self.new.outputs ≡ self.old.outputs }
+        ensures room { IfOk result (λ _. count ≤ self.new.room) }
+    {
+        self.outputs.reserve(count)?;
+        Ok(())
+    }
+
+    /// Holds the outputs of one interval, for which there is room, behind those that are held. Takes no memory.
+    pub fn add_reserved(&mut self, mark: Mark, texts: Vec<Text>)
+        requires { length texts.items ≤ self.old.room }
+        ensures unit { self.new.unit ≡ self.old.unit }
+        ensures outputs { self.new.outputs ≡ self.old.outputs ++ held_of mark texts.items }
+    {
+        push_all(&mut self.outputs, mark, texts);
     }
 
     /// The output at this place, the first at 0. Takes no memory, and a constant time.

@@ -8,10 +8,10 @@ ghost use Rattle.compact.specs.Steps.{from_outside, no_letter};
 ghost use Rattle.rollback.specs.Units.{unknown, OrphansAreTail};
 
 use crate::interval::Interval;
-use depvector::DepVector;
+use depvector::SharedVector;
 use incarnation::StartTable;
 use model::{Letter, NoMemory, Record};
-use orphan::is_orphan;
+use orphan::any_lost;
 use std::alloc::Global;
 use std::collections::VecDeque;
 use volatile_log::VolatileLog;
@@ -21,7 +21,7 @@ pub(crate) fn begun_path(alloc: Global, width: usize) -> Result<VecDeque<Interva
     requires { width ≤ 256 }
     ensures { IfOk result (λ path. path.items ≡ record { vector = begun_vector width; letter = None } ∷ []) }
 {
-    let vector = DepVector::new(alloc, width)?;
+    let vector = SharedVector::new(alloc, width)?;
     let mut path = VecDeque::new(alloc);
     path.push_back(Interval {
         vector,
@@ -46,7 +46,7 @@ pub(crate) fn append(
     let alloc = *intervals.allocator();
     intervals.reserve(1)?;
     volatile.reserve(1)?;
-    let vector = DepVector::of(alloc, logged.vector.as_slice())?;
+    let vector = SharedVector::of(alloc, &logged.vector)?;
     intervals.push_back_reserved(Interval {
         vector,
         letter: logged.letter,
@@ -118,7 +118,7 @@ fn is_orphan_at(intervals: &VecDeque<Interval>, place: usize, table: &StartTable
     requires { place < length intervals.now.items }
     ensures { result ≡ is_orphan_by table.now (slice_index_or intervals.now.items place unknown).vector }
 {
-    is_orphan(&intervals[place].vector, table, table.len())
+    any_lost(intervals[place].vector.as_slice(), table, table.len())
 }
 
 /// Takes the first `count` intervals away, or all where there are fewer.

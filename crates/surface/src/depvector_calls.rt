@@ -1,4 +1,4 @@
-use depvector::DepVector;
+use depvector::{DepVector, SharedVector};
 use model::{Mark, Unit};
 use std::test::Fail;
 
@@ -30,10 +30,30 @@ fn widens_and_copies(rt: HostRuntime) -> Result<(), Fail> {
     vector.set_own(Unit::new(2), mark(0, 4));
     let copied = vector.copy()?;
     assert_eq!(rt; copied.as_slice(), vector.as_slice());
-    let recorded = copied.to_marks()?;
-    assert_eq!(rt; recorded.as_slice(), vector.as_slice());
     let marks = vec![in rt.alloc(); mark(2, 1); 2]?;
     let back = DepVector::from_marks(marks);
     assert_eq!(rt; back.get(Unit::new(1)), mark(2, 1));
+    Ok(())
+}
+
+// Fewer marks than lie in the value, as many, and more.
+#[test]
+fn shares_and_goes_on(rt: HostRuntime) -> Result<(), Fail> {
+    for units in [0, 1, 2, 3, 4, 5, 16] {
+        let mut vector = DepVector::new(rt.alloc(), units)?;
+        if units > 0 {
+            vector.set_own(Unit::new((units - 1) as u8), mark(2, 7));
+        }
+        let shared = vector.copy()?.into_shared(rt.alloc())?;
+        assert_eq!(rt; shared.as_slice(), vector.as_slice());
+        let recorded = shared.copy(rt.alloc())?.to_marks(rt.alloc())?;
+        assert_eq!(rt; recorded.as_slice(), vector.as_slice());
+        let read = SharedVector::of(rt.alloc(), &recorded)?;
+        assert_eq!(rt; read.get(Unit::new(16)), mark(0, 0));
+        let mut own = read.to_own(rt.alloc())?;
+        own.widen(17)?;
+        own.join_marks(shared.as_slice());
+        assert_eq!(rt; &own.as_slice()[..units], vector.as_slice());
+    }
     Ok(())
 }

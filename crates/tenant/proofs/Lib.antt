@@ -26,7 +26,6 @@ mod Flushing
 mod Fronts
 mod Widths
 pub mod Joining
-pub mod Earlier
 pub mod Receiving
 pub mod Asking
 pub mod Planning

@@ -248,11 +248,6 @@ IsReplayed M records live r target width progress =
 
 -- ---- receipts
 
--- a unit's held outputs, in order
-pub record Waits : Type 0 where
-  pub unit : ℕ
-  pub outputs : List Held
-
 -- The unit's turn upon this text has this input, and no test before the turn refuses the receipt.
 pub record IsAsking {S : Type 0} (refusal : Option Refusal) (r : Recovering S) (source : Source) (text : List ℕ)
     (input : Input S) : Type 0 where

@@ -14,14 +14,13 @@ use Rattle.tenant.specs.Outcomes.{IsPlain}
 abbrev pub arrived : Arrival → Receipt
 arrived a = record { source = a.source; letter = a.letter; number = a.number; text = a.text.now; vector = a.vector.now }
 
--- The record, the letters, the outputs and the answer are those of this receipt, whose turn is this one, where the unit's
+-- The record, the letters and the answer are those of this receipt, whose turn is this one, where the unit's
 -- sessions are these.
 pub record IsPlan {S : Type 0} (name : List ℕ) (t : TenantState S) (u : ℕ) (m : Member S) (q : Receipt) (turn : Turn S)
     (sessions : Counts) (plan : Plan) : Type 0 where
   pub logged : plan.logged ≡ next_record_of name t u m q
   pub few : length plan.logged.vector ≤ 256
   pub made : plan.made.items ≡ next_letters_of t u m q turn sessions
-  pub outputs : plan.outputs.items ≡ turn.outputs
   pub reply : plan.answer.reply ≡ next_reply_of t u m turn
   pub plain : IsPlain plan.answer
 

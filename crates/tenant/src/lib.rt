@@ -22,8 +22,7 @@
 //! - `tenant`: the struct, and what is read off it; `member`: one unit of it; `answer`: what a step is answered.
 //! - `step`: which of these a step is, also by a turn that was worked elsewhere; `prepare`: the input of that turn.
 //! - `receipts`: what a receipt makes (what refuses one: `unit_steps`, `refusals`); `returning`: a unit goes back;
-//!   `forgetting`: what is firm for good is given up; `waiting`, `releasing`: outputs that wait, and those on their way
-//!   out.
+//!   `forgetting`: what is firm for good is given up; `releasing`: outputs on their way out.
 //! - `reads`, `certifies`, `kept`: what whoever stands above reads off a tenant.
 //! - `laws`: what holds over time of the worlds that a tenant stands for.
 //! - `TenantStep`, `Reply` and `Kept` are those of `model`.
@@ -79,7 +78,6 @@ mod returning;
 mod status;
 mod step;
 mod tenant;
-mod waiting;
 
 pub use answer::Answer;
 pub use model::{Kept, Reply, TenantStep};

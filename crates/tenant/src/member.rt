@@ -9,17 +9,18 @@ ghost use Rattle.checkpoint.specs.declared.snapshot.Snapshot.{Snapshot as Snapsh
 ghost use Rattle.checkpoint.specs.Shelves.{has_index, nearest_of};
 ghost use Rattle.compact.specs.Compact.{Progress as ProgressOf};
 ghost use Rattle.rollback.specs.Units.{IsKept, IsTarget, OrphansAreTail, places, restored, stable_places};
+ghost use Rattle.handler.specs.Inputs.{turn_upon_input};
 ghost use Rattle.session.specs.Counts.{widened_counts};
 ghost use Rattle.rollback_laws.specs.Seen.{IsSeen};
 ghost use Rattle.tenant.specs.Bases.{next_base, rebased_member};
 ghost use Rattle.tenant.specs.Keeping.{shelved_count};
 ghost use Rattle.tenant.specs.Kept.{begun_member, checkpointed_member, firm_texts, flushed_member, killed_member, outputs_to, released_member, fitted_member, kept_length, live_count, returned_member, IsNext, received_member};
 
-use crate::waiting::Waiting;
+use crate::releasing;
 use handler::{Done, Handler};
 use incarnation::StartTable;
 use model::{Mark, NoMemory, Record, Seat, Text, Unit};
-use output_commit::Outlet;
+use output_commit::{Hold, Outlet};
 use rollback::{Progress, RecoveryUnit};
 use session::Sessions;
 use std::alloc::Global;
@@ -30,7 +31,7 @@ use std::marker::Model;
 pub struct Member<H: Handler> {
     recovering: RecoveryUnit<H>,
     unit: Unit,
-    hold: Waiting,
+    hold: Hold,
     known: usize,
 }
 
@@ -51,7 +52,7 @@ impl<H: Handler> Model for Member<H> {
 }
 
 /// Gives up the outputs that are not of the first so many intervals.
-fn cut_hold(hold: &mut Waiting, places: u64)
+fn cut_hold(hold: &mut Hold, places: u64)
     ensures unit { hold.new.unit ≡ hold.old.unit }
     ensures outputs { hold.new.outputs ≡ outputs_to hold.old.outputs places }
 {
@@ -77,7 +78,7 @@ impl<H: Handler> Member<H> {
         ensures { IfOk result (λ m. m ≡ begun_member H.meaning width seat known) }
     {
         let unit = seat.unit;
-        let hold = Waiting::new(alloc, unit);
+        let hold = Hold::new(alloc, unit);
         let recovering = RecoveryUnit::begin(alloc, handler, seat, width)?;
         Ok(Member {
             recovering,
@@ -161,7 +162,7 @@ impl<H: Handler> Member<H> {
         interval.vector.get(unit)
     }
 
-    /// Takes a receipt: its interval with its record, the turn that was worked for it, and the outputs of the turn.
+    /// Takes a receipt: its interval with its record, and what the turn that was worked for it puts out.
     ///
     /// # Errors
     ///
@@ -169,23 +170,19 @@ impl<H: Handler> Member<H> {
     pub(crate) fn receive(
         &mut self,
         logged: Record,
-        outputs: Vec<Text>,
         worked: Done<H>,
     ) -> Result<(), NoMemory>
         requires few { length logged.vector ≤ 256 }
         requires next { IsNext self.old logged worked.input }
-        ensures ok { IfOk result (λ _. self.new ≡ received_member H.meaning self.old logged outputs.items) }
+        ensures ok { IfOk result (λ _. self.new ≡ received_member H.meaning self.old logged
+            (turn_upon_input H.meaning worked.input).outputs) }
         ensures err { OnErr result (self.new ≡ self.old) }
     {
         let mark = logged.mark;
-        self.hold.add(mark, outputs)?;
-        match self.recovering.take(logged, worked) {
-            Ok(_) => Ok(()),
-            Err(NoMemory) => {
-                self.hold.cut(mark.index);
-                Err(NoMemory)
-            }
-        }
+        self.hold.reserve(worked.turn().outputs().len())?;
+        let effects = self.recovering.take(logged, worked)?;
+        self.hold.add_reserved(mark, effects.outputs);
+        Ok(())
     }
 
     /// The unit fails: what is not stable is gone. Tells how many intervals were lost.
@@ -233,7 +230,7 @@ impl<H: Handler> Member<H> {
     pub(crate) fn firm_texts(&self, alloc: Global, frontier: u64) -> Result<Vec<Text>, NoMemory>
         ensures { IfOk result (λ texts. texts.items ≡ firm_texts self.now.outputs frontier) }
     {
-        self.hold.copy_firm(alloc, frontier)
+        releasing::copy_firm(alloc, &self.hold, frontier)
     }
 
     /// Lets the firm outputs at the front out, for which the outlet has room.
@@ -247,7 +244,7 @@ impl<H: Handler> Member<H> {
         ensures others { (u : ℕ) → u ≢ self.old.unit → line_texts outlet.new u ≡ line_texts outlet.old u }
         ensures len { length outlet.new ≡ length outlet.old }
     {
-        self.hold.release(outlet, frontiers);
+        releasing::release_all(&mut self.hold, outlet, frontiers);
     }
 
     /// So many more of its intervals are stable. Takes no memory.

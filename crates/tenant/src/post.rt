@@ -15,7 +15,7 @@ ghost use Rattle.tenant.specs.Represents.{DoesAs, StandsFor};
 use crate::answer::Answer;
 use crate::receipts::{Arrival, ask_upon};
 use crate::tenant::Tenant;
-use depvector::DepVector;
+use depvector::SharedVector;
 use handler::{Ask, Done, Handler};
 use model::{NoMemory, Refusal, Source, TenantName, Text, Unit};
 use std::alloc::Global;
@@ -83,7 +83,7 @@ impl<H: Handler> Tenant<H> {
                 return Ok(Answer::refused(Refusal::NoUnit));
             }
         };
-        let vector = DepVector::new(alloc, 0)?;
+        let vector = SharedVector::new(alloc, 0)?;
         let arrival = Arrival {
             source: Source::Outside,
             letter: None,

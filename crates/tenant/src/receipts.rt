@@ -4,6 +4,7 @@ ghost use Rattle.std.specs.Prelude.{◌≡◌, ◌+◌, ◌<◌, ◌≤◌, ◌^
 ghost use Rattle.model.specs.Lists.{numbers_from};
 ghost use Rattle.model.specs.Nodes.{sends_within};
 ghost use Rattle.model.specs.declared.refusals.Refusal.TheVariants.{Down};
+ghost use Rattle.handler.specs.Inputs.{turn_upon_input};
 ghost use Rattle.session.specs.Counts.{advanced};
 ghost use Rattle.compact.specs.Steps.{letters_by as letters_of};
 ghost use Rattle.rollback.specs.Units.{asking, places};
@@ -14,7 +15,7 @@ ghost use Rattle.tenant.specs.Plans.{IsPlan, IsPlanned, arrived};
 use crate::answer::Answer;
 use crate::member::Member;
 use crate::tenant::Tenant;
-use depvector::DepVector;
+use depvector::SharedVector;
 use handler::{Ask, Done, Handler, Turn};
 use model::{Letter, Letters, NoMemory, Record, Refusal, Reply, Source, TenantName, Text, Unit};
 use session::Sessions;
@@ -28,7 +29,7 @@ pub(crate) struct Arrival<'a> {
     pub(crate) letter: Option<Letter>,
     pub(crate) number: u64,
     pub(crate) text: &'a Text,
-    pub(crate) vector: &'a DepVector,
+    pub(crate) vector: &'a SharedVector,
 }
 
 /// What a receipt adds and answers.
@@ -36,19 +37,7 @@ pub(crate) struct Arrival<'a> {
 pub(crate) struct Plan {
     pub(crate) logged: Record,
     pub(crate) made: Vec<SentLetter>,
-    pub(crate) outputs: Vec<Text>,
     pub(crate) answer: Answer,
-}
-
-/// Equal texts.
-fn copies(alloc: Global, texts: &[Text]) -> Result<Vec<Text>, NoMemory>
-    ensures { IfOk result (λ ts. ts.items ≡ texts.now) }
-{
-    let mut all = Vec::new(alloc);
-    for text in texts {
-        all.push(text.copy()?)?;
-    }
-    Ok(all)
 }
 
 /// The turn that a unit has upon this text, or that it is down.
@@ -75,7 +64,6 @@ fn receive_at<H: Handler>(
     letters: &mut Vec<SentLetter>,
     at: usize,
     logged: Record,
-    outputs: Vec<Text>,
     made: Vec<SentLetter>,
     worked: Done<H>,
 ) -> Result<(), NoMemory>
@@ -83,7 +71,7 @@ fn receive_at<H: Handler>(
     requires few { length logged.vector ≤ 256 }
     requires next { (m : MemberOf H.State) → slice_get members.old.items at ≡ Some m → IsNext m logged worked.input }
     ensures members { IfOk result (λ _. (m : MemberOf H.State) → slice_get members.old.items at ≡ Some m
-        → members.new.items ≡ slice_set members.old.items at (received_member H.meaning m logged outputs.items)) }
+        → members.new.items ≡ slice_set members.old.items at (received_member H.meaning m logged (turn_upon_input H.meaning worked.input).outputs)) }
     ensures letters { IfOk result (λ _. letters.new.items ≡ letters.old.items ++ made.items) }
     ensures err_members { OnErr result (members.new.items ≡ members.old.items) }
     ensures err_letters { OnErr result (letters.new.items ≡ letters.old.items) }
@@ -91,7 +79,7 @@ fn receive_at<H: Handler>(
     let mut made = made;
     letters.reserve(made.len())?;
     let member = &mut members[at];
-    member.receive(logged, outputs, worked)?;
+    member.receive(logged, worked)?;
     let _ = letters.append(&mut made);
     Ok(())
 }
@@ -107,10 +95,11 @@ impl<H: Handler> Tenant<H> {
     /// The vector of the interval that a receipt makes. A tenant has 16 units at most.
     fn vector_upon(
         &self,
+        alloc: Global,
         unit: Unit,
         member: &Member<H>,
         arrival: &Arrival<'_>,
-    ) -> Result<DepVector, NoMemory>
+    ) -> Result<SharedVector, NoMemory>
         requires { places member.now.recovering < 2 ^ 32 }
         ensures { IfOk result (λ v. v ≡ next_vector_of self.now unit member.now (arrived arrival.now)) }
     {
@@ -119,6 +108,7 @@ impl<H: Handler> Tenant<H> {
             return Err(NoMemory);
         }
         vector_upon(
+            alloc,
             &self.table,
             width,
             unit,
@@ -130,11 +120,12 @@ impl<H: Handler> Tenant<H> {
     /// The record of a receipt, whose interval has this vector.
     fn record_upon(
         &self,
+        alloc: Global,
         name: &TenantName,
         unit: Unit,
         member: &Member<H>,
         arrival: &Arrival<'_>,
-        vector: &DepVector,
+        vector: &SharedVector,
     ) -> Result<Record, NoMemory>
         requires room { places member.now.recovering < 2 ^ 32 }
         requires own { vector.now ≡ next_vector_of self.now unit member.now (arrived arrival.now) }
@@ -142,8 +133,9 @@ impl<H: Handler> Tenant<H> {
         ensures few { IfOk result (λ r. length r.vector ≤ 256) }
     {
         let mark = mark_upon(&self.table, unit, member.recovering());
-        let _units = vector.len();
+        let _few = vector.as_slice();
         record_upon(
+            alloc,
             name,
             unit,
             mark,
@@ -160,7 +152,7 @@ impl<H: Handler> Tenant<H> {
         &self,
         alloc: Global,
         unit: Unit,
-        vector: &DepVector,
+        vector: &SharedVector,
         sessions: &Sessions,
         source: Source,
         turn: &Turn<H::State>,
@@ -216,15 +208,13 @@ impl<H: Handler> Tenant<H> {
         requires letters { length self.now.letters + length (sends_within (length self.now.members) turn.now) < 2 ^ 32 }
         ensures { IfOk result (IsPlan name.now self.now unit member.now (arrived arrival.now) turn.now sessions.now) }
     {
-        let vector = self.vector_upon(unit, member, arrival)?;
+        let vector = self.vector_upon(alloc, unit, member, arrival)?;
         let made = self.letters_upon(alloc, unit, &vector, sessions, arrival.source, turn)?;
-        let logged = self.record_upon(name, unit, member, arrival, &vector)?;
-        let outputs = copies(alloc, turn.outputs())?;
+        let logged = self.record_upon(alloc, name, unit, member, arrival, &vector)?;
         let answer = self.reply_upon(alloc, unit, member, made.len(), turn)?;
         Ok(Plan {
             logged,
             made,
-            outputs,
             answer,
         })
     }
@@ -270,13 +260,13 @@ impl<H: Handler> Tenant<H> {
             → IsNext m plan.logged worked.input }
         ensures answer { IfOk result (λ a. a ≡ plan.answer) }
         ensures ok { IfOk result (λ _. (m : MemberOf H.State) → slice_get self.old.members unit ≡ Some m
-            → self.new ≡ received_kept H.meaning self.old unit m plan.logged plan.outputs.items plan.made.items) }
+            → self.new ≡ received_kept H.meaning self.old unit m plan.logged
+            (turn_upon_input H.meaning worked.input).outputs plan.made.items) }
         ensures err { OnErr result (self.new ≡ self.old) }
     {
         let Plan {
             logged,
             made,
-            outputs,
             answer,
         } = plan;
         receive_at(
@@ -284,7 +274,6 @@ impl<H: Handler> Tenant<H> {
             &mut self.letters,
             usize::from(unit.number()),
             logged,
-            outputs,
             made,
             worked,
         )?;

@@ -6,7 +6,7 @@ ghost use Rattle.std.specs.List.{filter};
 ghost use Rattle.session.specs.Counts.{advanced, sent_to};
 ghost use Rattle.compact.specs.Steps.{letters_by as letters_of};
 
-use depvector::DepVector;
+use depvector::SharedVector;
 use model::{NoMemory, Source, Text, Unit};
 use session::Sessions;
 use std::alloc::Global;
@@ -16,7 +16,7 @@ use std::marker::Model;
 #[derive(Drop)]
 struct Parts {
     text: Text,
-    vector: DepVector,
+    vector: SharedVector,
 }
 
 impl Model for Parts {
@@ -48,7 +48,7 @@ impl Content {
     /// # Errors
     ///
     /// `NoMemory` where it finds no memory.
-    pub fn new(alloc: Global, text: Text, vector: DepVector) -> Result<Content, NoMemory>
+    pub fn new(alloc: Global, text: Text, vector: SharedVector) -> Result<Content, NoMemory>
         ensures { IfOk result (λ c. c ≡ record { text = text; vector = vector }) }
     {
         let parts = Box::new(alloc, Parts { text, vector })?;
@@ -62,7 +62,7 @@ impl Content {
     }
 
     /// The vector of the sender's interval.
-    pub fn vector(&self) -> &DepVector
+    pub fn vector(&self) -> &SharedVector
         ensures { result.now ≡ self.now.vector }
     {
         &self.parts.vector
@@ -90,7 +90,7 @@ impl Model for SentLetter {
 fn letter_of(
     alloc: Global,
     unit: Unit,
-    vector: &DepVector,
+    vector: &SharedVector,
     receiver: Unit,
     text: Text,
     number: u64,
@@ -104,7 +104,7 @@ fn letter_of(
               (record { text = text; vector = vector.now });
         }) }
 {
-    let vector = vector.copy()?;
+    let vector = vector.copy(alloc)?;
     let content = Content::new(alloc, text, vector)?;
     Ok(SentLetter {
         source: unit,
@@ -119,7 +119,7 @@ fn letter_of(
 fn letters_from(
     alloc: Global,
     unit: Unit,
-    vector: &DepVector,
+    vector: &SharedVector,
     counts: &mut Sessions,
     sends: &[(Unit, Text)],
     width: usize,
@@ -146,7 +146,7 @@ fn letters_from(
 fn letters_of_one(
     alloc: Global,
     unit: Unit,
-    vector: &DepVector,
+    vector: &SharedVector,
     sessions: &Sessions,
     source: &Source,
     send: &(Unit, Text),
@@ -191,7 +191,7 @@ fn counts_after(sessions: &Sessions, source: &Source, sends: usize) -> Result<Se
 pub fn letters_by(
     alloc: Global,
     unit: Unit,
-    vector: &DepVector,
+    vector: &SharedVector,
     sessions: &Sessions,
     source: Source,
     sends: &[(Unit, Text)],

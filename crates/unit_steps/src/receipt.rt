@@ -4,11 +4,12 @@ ghost use Rattle.std.specs.Prelude.{◌≡◌, ◌<◌, ◌≤◌, ◌^◌, IfOk
 ghost use Rattle.rollback.specs.Units.{places};
 ghost use Rattle.unit_steps.specs.Receipts.{last_vector_of, mark_upon as mark_upon_of, vector_upon as vector_upon_of};
 
-use depvector::DepVector;
+use depvector::SharedVector;
 use handler::Handler;
 use incarnation::StartTable;
 use model::{Letter, Mark, NoMemory, Record, Source, TenantName, Text, Unit};
 use rollback::RecoveryUnit;
+use std::alloc::Global;
 
 /// The mark of the interval that a receipt makes, where the path isn't full.
 pub fn mark_upon<H: Handler>(table: &StartTable, unit: Unit, recovering: &RecoveryUnit<H>) -> Mark
@@ -21,7 +22,7 @@ pub fn mark_upon<H: Handler>(table: &StartTable, unit: Unit, recovering: &Recove
 }
 
 /// The vector of the last interval.
-fn last_vector<H: Handler>(recovering: &RecoveryUnit<H>) -> &DepVector
+fn last_vector<H: Handler>(recovering: &RecoveryUnit<H>) -> &SharedVector
     ensures { result.now ≡ last_vector_of recovering.now }
 {
     let last = recovering.last_index();
@@ -35,27 +36,29 @@ fn last_vector<H: Handler>(recovering: &RecoveryUnit<H>) -> &DepVector
 ///
 /// `NoMemory` where the vector finds no memory, or where it has no entry for the unit, or the letter's has more.
 pub fn vector_upon<H: Handler>(
+    alloc: Global,
     table: &StartTable,
     width: usize,
     unit: Unit,
     recovering: &RecoveryUnit<H>,
-    letter: &DepVector,
-) -> Result<DepVector, NoMemory>
+    letter: &SharedVector,
+) -> Result<SharedVector, NoMemory>
     requires { width ≤ 256 }
     ensures { IfOk result (λ v. places recovering.now < 2 ^ 32
         → v ≡ vector_upon_of table.now width unit recovering.now letter.now) }
 {
-    let mut vector = last_vector(recovering).copy()?;
+    let mut vector = last_vector(recovering).to_own(alloc)?;
     vector.widen(width)?;
-    if letter.len() > vector.len() {
+    let sent = letter.as_slice();
+    if sent.len() > vector.len() {
         return Err(NoMemory);
     }
-    vector.join(letter);
+    vector.join_marks(sent);
     if usize::from(unit.number()) >= vector.len() {
         return Err(NoMemory);
     }
     vector.set_own(unit, mark_upon(table, unit, recovering));
-    Ok(vector)
+    vector.into_shared(alloc)
 }
 
 /// The record of a receipt.
@@ -64,6 +67,7 @@ pub fn vector_upon<H: Handler>(
 ///
 /// `NoMemory` where the vector finds no memory.
 pub fn record_upon(
+    alloc: Global,
     tenant: &TenantName,
     unit: Unit,
     mark: Mark,
@@ -71,7 +75,7 @@ pub fn record_upon(
     letter: Option<Letter>,
     number: u64,
     text: &Text,
-    vector: &DepVector,
+    vector: &SharedVector,
 ) -> Result<Record, NoMemory>
     ensures { IfOk result (λ r. r ≡ record {
       tenant = tenant.now;
@@ -86,7 +90,7 @@ pub fn record_upon(
 {
     let tenant = tenant.copy();
     let text = text.copy()?;
-    let vector = vector.to_marks()?;
+    let vector = vector.to_marks(alloc)?;
     Ok(Record {
         tenant,
         unit,

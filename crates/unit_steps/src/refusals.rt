@@ -15,11 +15,11 @@ ghost use Rattle.rollback.specs.Units.{places};
 ghost use Rattle.unit_steps.specs.Receipts.{IsWithin, arrival_refusal as arrival_refusal_of, room_tests, post_refused, letter_refused, turn_refused, past_tests};
 
 use crate::letters::{Content, SentLetter};
-use depvector::DepVector;
+use depvector::SharedVector;
 use handler::{Handler, Turn};
 use incarnation::StartTable;
 use model::{MAX_INDEX, MAX_TEXT_BYTES, MAX_TURN_EFFECTS, Quota, Refusal, Source, Text, Unit};
-use orphan::{is_blind, is_orphan, unstable_units};
+use orphan::{any_blind, any_lost, count_unstable};
 use rollback::{Progress, RecoveryUnit};
 
 /// What a tenant's table and its units' stable lengths tell a unit that knows the first `rows` of the table.
@@ -160,13 +160,14 @@ pub fn post_refusal<H: Handler>(
 }
 
 /// Whether a letter depends on more unstable units than the optimism lets through, or on more units than there are.
-fn is_pending(known: &Known<'_>, optimism: u32, vector: &DepVector) -> bool
+fn is_pending(known: &Known<'_>, optimism: u32, vector: &SharedVector) -> bool
     ensures within { OnFalse result (length vector.now ≤ length known.now.stable_lengths.now) }
     ensures value { length vector.now ≤ length known.now.stable_lengths.now
         → result ≡ nat_lt optimism (unstable_count known.now.table.now known.now.stable_lengths.now vector.now) }
 {
-    vector.len() > known.stable_lengths.len()
-        || unstable_units(vector, known.table, known.stable_lengths) > optimism
+    let marks = vector.as_slice();
+    marks.len() > known.stable_lengths.len()
+        || count_unstable(marks, known.table, known.stable_lengths) > optimism
 }
 
 /// Why a letter is refused for what it depends on. One that depends on more units than there are is pending.
@@ -175,7 +176,7 @@ fn past_refusal<H: Handler>(
     known: &Known<'_>,
     optimism: u32,
     unit: &RecoveryUnit<H>,
-    vector: &DepVector,
+    vector: &SharedVector,
 ) -> Option<Refusal>
     ensures within { IfNone result (length vector.now ≤ length known.now.stable_lengths.now) }
     ensures refusal { length vector.now ≤ length known.now.stable_lengths.now
@@ -188,9 +189,9 @@ fn past_refusal<H: Handler>(
 {
     if !unit.is_up() {
         Some(Refusal::Down)
-    } else if is_blind(vector, known.table, known.rows) {
+    } else if any_blind(vector.as_slice(), known.table, known.rows) {
         Some(Refusal::Wait)
-    } else if is_orphan(vector, known.table, known.rows) {
+    } else if any_lost(vector.as_slice(), known.table, known.rows) {
         Some(Refusal::Orphan)
     } else if is_pending(known, optimism, vector) {
         Some(Refusal::Pending)

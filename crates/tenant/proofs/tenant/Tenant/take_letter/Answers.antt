@@ -4,6 +4,7 @@ use Rattle.compact.specs.Compact.{Content, Letter}
 use Rattle.std.proofs.lemmas.Option.{slice_get_within}
 use Rattle.model.specs.declared.names.Source.TheVariants.{Unit as FromUnit}
 use Rattle.compact.specs.Steps.{delivered}
+use Rattle.handler.specs.Inputs.{turn_upon_input}
 use Rattle.tenant.specs.declared.answer.Answer.{Answer}
 use Rattle.tenant.specs.Kept.{IsAskingBy}
 use Rattle.tenant.proofs.Asking.{refused_stays}
@@ -107,5 +108,5 @@ returns-in_ok-answer-in-Ok-clause-shelves g c =
     content_parts sent.content c.in-Some-content.content c.text.result.now c.vector.result.now c.in-Some-content.is c.text.ensures c.vector.ensures in
     let is = subst (λ (o : Option Content). IsAskingBy c.args.self.now c.in-Some-member.member.now sent o c.args.worked.input) whole (c.requires sent c.in-Some-member.member.now there c.in-Some-member.ensures) in
     let planned = rw (c.in-Ok.is) at c.in_ok-refusal.ensures in
-    received_same g.H.Handler.meaning c.args.self.now c.sent.inside.receiver c.in-Some-member.member.now c.in-Some-member.ensures c.enter.new.self c.in-Ok.plan.logged c.in-Ok.plan.outputs.items c.in-Ok.plan.made.items (c.in_ok-answer-in-Ok.ensures.ok c.in-Some-member.member.now c.in-Some-member.ensures)
+    received_same g.H.Handler.meaning c.args.self.now c.sent.inside.receiver c.in-Some-member.member.now c.in-Some-member.ensures c.enter.new.self c.in-Ok.plan.logged (turn_upon_input g.H.Handler.meaning c.args.worked.input).outputs c.in-Ok.plan.made.items (c.in_ok-answer-in-Ok.ensures.ok c.in-Some-member.member.now c.in-Some-member.ensures)
     (planned_whole c.args.name.now c.args.self.now c.sent.inside.receiver c.in-Some-member.member.now (delivered c.args.letter sent content) c.turn.result.now c.in-Ok.plan planned _ (FromUnit sent.source) content.text c.args.worked.input is)

@@ -2,6 +2,7 @@ use Rattle.std.proofs.Common.{refl, ap}
 use Rattle.std.specs.Prelude.{None}
 use Rattle.std.proofs.lemmas.Option.{slice_get_within}
 use Rattle.model.specs.declared.names.Source.TheVariants.{Outside}
+use Rattle.handler.specs.Inputs.{turn_upon_input}
 use Rattle.tenant.specs.declared.answer.Answer.{Answer}
 use Rattle.tenant.proofs.Asking.{refused_stays}
 use Rattle.tenant.proofs.Planning.{planned_few, planned_next, planned_plain, planned_whole}
@@ -46,5 +47,5 @@ returns-clause-done g c = λ live w log s.
 pub returns-clause-shelves : goal.returns-clause-shelves
 returns-clause-shelves g c =
     let planned = rw (c.in-Ok.is) at c.in_ok-refusal.ensures in
-    received_same g.H.Handler.meaning c.args.self.now c.args.unit c.in-Some.member.now c.in-Some.ensures c.enter.new.self c.in-Ok.plan.logged c.in-Ok.plan.outputs.items c.in-Ok.plan.made.items (c.in_ok-answer-in-Ok.ensures.ok c.in-Some.member.now c.in-Some.ensures)
+    received_same g.H.Handler.meaning c.args.self.now c.args.unit c.in-Some.member.now c.in-Some.ensures c.enter.new.self c.in-Ok.plan.logged (turn_upon_input g.H.Handler.meaning c.args.worked.input).outputs c.in-Ok.plan.made.items (c.in_ok-answer-in-Ok.ensures.ok c.in-Some.member.now c.in-Some.ensures)
     (planned_whole c.args.name.now c.args.self.now c.args.unit c.in-Some.member.now _ c.turn.result.now c.in-Ok.plan planned _ Outside c.args.text c.args.worked.input (c.requires c.in-Some.member.now c.in-Some.ensures))

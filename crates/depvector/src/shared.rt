@@ -1,0 +1,114 @@
+//! Vectors that are done.
+
+ghost use Rattle.std.specs.Prelude.{◌≡◌, ◌≤◌, IfOk, length};
+ghost use Rattle.depvector.specs.Vectors.{begun_vector, mark_for};
+
+use crate::marks::mark_of;
+use crate::vector::DepVector;
+use model::{Mark, Marks, NoMemory, Unit};
+use std::alloc::Global;
+use std::marker::Model;
+
+/// A vector that is done, seen as the list of its marks: that of an interval, of its letters and of its record. Copies of
+/// a long one share one place in memory; a short one lies in the value itself.
+#[derive(Drop)]
+pub struct SharedVector {
+    marks: Marks,
+}
+
+impl Model for SharedVector {
+    ghost use Rattle.std.specs.Prelude.{List, ◌≤◌, length};
+    ghost use Rattle.model.specs.declared.names.Mark.{Mark};
+
+    ghost Value = { List Mark };
+
+    ghost view = { λ v. v.marks };
+
+    ghost invariant = { λ v. length v.marks ≤ 256 };
+}
+
+impl SharedVector {
+    /// The vector of a beginning, for a tenant of `n` units.
+    ///
+    /// # Errors
+    ///
+    /// `NoMemory` where the entries find no memory.
+    pub fn new(alloc: Global, n: usize) -> Result<SharedVector, NoMemory>
+        requires { n ≤ 256 }
+        ensures { IfOk result (λ v. v ≡ begun_vector n) }
+    {
+        let begun = DepVector::new(alloc, n)?;
+        begun.into_shared(alloc)
+    }
+
+    /// The vector of these marks. Takes no memory.
+    pub(crate) fn from_marks(marks: Marks) -> SharedVector
+        requires { length marks ≤ 256 }
+        ensures { result ≡ marks }
+    {
+        SharedVector { marks }
+    }
+
+    /// The vector of these marks, unit 0 first, which shares their place.
+    ///
+    /// # Errors
+    ///
+    /// `NoMemory` where there are 2^63 - 1 copies already, or where the marks lie in a place of their own and a copy of
+    /// them finds no memory.
+    pub fn of(alloc: Global, marks: &Marks) -> Result<SharedVector, NoMemory>
+        requires { length marks.now ≤ 256 }
+        ensures { IfOk result (λ v. v ≡ marks.now) }
+    {
+        let marks = marks.copy(alloc)?;
+        Ok(SharedVector { marks })
+    }
+
+    /// The marks, unit 0 first.
+    pub fn as_slice(&self) -> &[Mark]
+        ensures marks { result.now ≡ self.now }
+        ensures few { length result.now ≤ 256 }
+    {
+        self.marks.as_slice()
+    }
+
+    /// The mark of a unit; a unit without an entry is at its beginning.
+    pub fn get(&self, unit: Unit) -> Mark
+        ensures { result ≡ mark_for self.now unit }
+    {
+        mark_of(self.as_slice(), unit)
+    }
+
+    /// An equal vector.
+    ///
+    /// # Errors
+    ///
+    /// `NoMemory` as in [`SharedVector::of`].
+    pub fn copy(&self, alloc: Global) -> Result<SharedVector, NoMemory>
+        ensures { IfOk result (λ v. v ≡ self.now) }
+    {
+        SharedVector::of(alloc, &self.marks)
+    }
+
+    /// The marks as a record holds them.
+    ///
+    /// # Errors
+    ///
+    /// `NoMemory` as in [`SharedVector::of`].
+    pub fn to_marks(&self, alloc: Global) -> Result<Marks, NoMemory>
+        ensures marks { IfOk result (λ m. m ≡ self.now) }
+        ensures few { IfOk result (λ m. length m ≤ 256) }
+    {
+        self.marks.copy(alloc)
+    }
+
+    /// An equal vector to go on from.
+    ///
+    /// # Errors
+    ///
+    /// `NoMemory` where the entries find no memory.
+    pub fn to_own(&self, alloc: Global) -> Result<DepVector, NoMemory>
+        ensures { IfOk result (λ v. v ≡ self.now) }
+    {
+        DepVector::of(alloc, self.as_slice())
+    }
+}
