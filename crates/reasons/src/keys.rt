@@ -2,6 +2,7 @@
 
 /// The greatest whole number where a unit stands, and everywhere else.
 pub(crate) const GREATEST_BYTE: u64 = u8::MAX as u64;
+
 pub(crate) const GREATEST_WORD: u64 = u32::MAX as u64;
 
 /// What a key's value must be.

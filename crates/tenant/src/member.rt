@@ -167,11 +167,7 @@ impl<H: Handler> Member<H> {
     /// # Errors
     ///
     /// `NoMemory` where it finds no memory or can't be counted; the unit stays as it was.
-    pub(crate) fn receive(
-        &mut self,
-        logged: Record,
-        worked: Done<H>,
-    ) -> Result<(), NoMemory>
+    pub(crate) fn receive(&mut self, logged: Record, worked: Done<H>) -> Result<(), NoMemory>
         requires few { length logged.vector ≤ 256 }
         requires next { IsNext self.old logged worked.input }
         ensures ok { IfOk result (λ _. self.new ≡ received_member H.meaning self.old logged
