@@ -16,7 +16,15 @@ fn record_of(alloc: Global, tenant: &str, unit: u8, number: u32) -> Result<Recor
     };
     let source = Source::Unit(Unit::new(0));
     let letter = Some(Letter::new(number));
-    receipt(alloc, tenant, unit, source, letter, u64::from(number), &[mark])
+    receipt(
+        alloc,
+        tenant,
+        unit,
+        source,
+        letter,
+        u64::from(number),
+        &[mark],
+    )
 }
 
 /// Appends a record.
