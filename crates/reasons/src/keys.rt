@@ -1,9 +1,9 @@
 //! The keys of each form, and what their values must be.
 
-/// The greatest whole number where a unit stands.
+/// The greatest number of a unit.
 pub(crate) const GREATEST_BYTE: u64 = u8::MAX as u64;
 
-/// The greatest whole number elsewhere.
+/// The greatest number anywhere else.
 pub(crate) const GREATEST_WORD: u64 = u32::MAX as u64;
 
 /// What a key's value must be.
