@@ -24,8 +24,10 @@ joins (Join kind ∷ moves) = 1 + joins moves
 
 -- what is told of a run of so many moves, where this was released
 abbrev pub Tells : {S : Type 0} → Result (Network S) Flaw → ℕ → List (List (List ℕ)) → Result Verdict Flaw → Type 0
-Tells {S} run count released (Ok v) = (net : Network S) × (run ≡ Ok net) × BeginWith net.workers released × (v.moves ≡ count)
-Tells {S} run count released (Err (OutputsDiffer u)) = (net : Network S) × (run ≡ Ok net) × DiffersFirst net.workers released u
+Tells {S} run count released (Ok v) =
+    (net : Network S) × (run ≡ Ok net) × BeginWith net.workers released × (v.moves ≡ count)
+Tells {S} run count released (Err (OutputsDiffer u)) =
+    (net : Network S) × (run ≡ Ok net) × DiffersFirst net.workers released u
 Tells run count released (Err (NoUnit u)) = run ≡ Err (NoUnit u)
 Tells run count released (Err (NothingToReceive u)) = run ≡ Err (NothingToReceive u)
 Tells run count released (Err NoMemory) = Unit {0}
@@ -34,5 +36,6 @@ Tells run count released (Err NoMemory) = Unit {0}
 -- the moves are counted. A flaw of a move: the first that cannot be made cannot because of it.
 -- Outputs that differ: the moves are such a run, and the unit is the first whose outputs in it do
 -- not begin with its list. Where there was no memory, nothing is told.
-abbrev pub Audits : {S : Type 0} → Meaning S → List Seat → List Move → List (List (List ℕ)) → Result Verdict Flaw → Type 0
+abbrev pub Audits : {S : Type 0} → Meaning S → List Seat → List Move → List (List (List ℕ)) → Result Verdict Flaw
+    → Type 0
 Audits M seats moves released result = Tells (failure_free M seats moves) (length moves) released result

@@ -14,11 +14,13 @@ flaw_data tenant name unit =
 
 -- the value of the outcome of a tenant's audit
 abbrev pub outcome_data : List ℕ → Result Verdict Flaw → Data
-outcome_data tenant (Ok v) = object (member (codes "audit") (string (codes "ok")) (member (codes "tenant") (string tenant) no_members))
+outcome_data tenant (Ok v) =
+    object (member (codes "audit") (string (codes "ok")) (member (codes "tenant") (string tenant) no_members))
 outcome_data tenant (Err (NoUnit u)) = flaw_data tenant (codes "no-unit") u
 outcome_data tenant (Err (NothingToReceive u)) = flaw_data tenant (codes "nothing-to-receive") u
 outcome_data tenant (Err (OutputsDiffer u)) = flaw_data tenant (codes "outputs-differ") u
-outcome_data tenant (Err NoMemory) = object (member (codes "audit") (string (codes "memory")) (member (codes "tenant") (string tenant) no_members))
+outcome_data tenant (Err NoMemory) =
+    object (member (codes "audit") (string (codes "memory")) (member (codes "tenant") (string tenant) no_members))
 
 -- the text of the outcome of a tenant's audit, without a line feed
 unfoldable pub outcome_text : List ℕ → Result Verdict Flaw → List ℕ

@@ -8,4 +8,5 @@ abbrev pub DiffersFirst : {S : Type 0} → List (Worker S) → List (List (List 
 DiffersFirst [] released u = ⊥
 DiffersFirst (a ∷ workers) [] u = ⊥
 DiffersFirst (a ∷ workers) (r ∷ released) Prim.Native.Nat.zero = ¬ (IsPrefix r a.outputs)
-DiffersFirst (a ∷ workers) (r ∷ released) (Prim.Native.Nat.suc u) = IsPrefix r a.outputs × DiffersFirst workers released u
+DiffersFirst (a ∷ workers) (r ∷ released) (Prim.Native.Nat.suc u) =
+    IsPrefix r a.outputs × DiffersFirst workers released u

@@ -23,11 +23,13 @@ after_turn a source text turn = record {
 
 -- what these sends of a unit send to units that are there
 abbrev pub packets_from : ℕ → ℕ → List (ℕ × List ℕ) → List Packet
-packets_from u units sends = map (λ s. record { source = u; target = s.0; text = s.1 }) (filter (λ s. nat_lt s.0 units) sends)
+packets_from u units sends =
+    map (λ s. record { source = u; target = s.0; text = s.1 }) (filter (λ s. nat_lt s.0 units) sends)
 
 -- no packet is from one unit to the other
 abbrev pub IsNowhere : ℕ → ℕ → List Packet → Type 0
-IsNowhere source target packets = (next_text source target packets ≡ None) × (without_next source target packets ≡ packets)
+IsNowhere source target packets =
+    (next_text source target packets ≡ None) × (without_next source target packets ≡ packets)
 
 -- the i-th packet is the first from one unit to the other
 abbrev pub IsFirst : ℕ → ℕ → List Packet → ℕ → Type 0

@@ -28,7 +28,12 @@ impl<S> Model for Worker<S> {
 
     ghost Value = { WorkerOf S };
 
-    ghost view = { λ w. record { seat = w.seat; state = w.state; received = w.received.items; outputs = w.outputs.items } };
+    ghost view = { λ w. record {
+      seat = w.seat;
+      state = w.state;
+      received = w.received.items;
+      outputs = w.outputs.items;
+    } };
 }
 
 /// A text on its way from one unit to another.

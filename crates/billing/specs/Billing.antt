@@ -30,18 +30,24 @@ not_understood accounts text = puts_out accounts (codes "not understood: " ++ te
 
 -- the account has this balance from now on, and the card is told
 abbrev pub accepted : State → Request → ℕ → Turn State
-accepted accounts request after = record { state = with_balance accounts request.account after; sends = (card_unit, line_of request) ∷ []; outputs = [] }
+accepted accounts request after = record {
+  state = with_balance accounts request.account after;
+  sends = (card_unit, line_of request) ∷ [];
+  outputs = [];
+}
 
 -- nothing moves, and whoever asked is told the balance
 abbrev pub refused : State → Request → ℕ → Turn State
-refused accounts request now = puts_out accounts (codes "refused " ++ (line_of request ++ (codes ": the balance is " ++ decimal now)))
+refused accounts request now =
+    puts_out accounts (codes "refused " ++ (line_of request ++ (codes ": the balance is " ++ decimal now)))
 
 abbrev pub settled_by : State → Request → Option ℕ → Turn State
 settled_by accounts request (Some after) = accepted accounts request after
 settled_by accounts request None = refused accounts request (balance accounts request.account)
 
 abbrev pub settled : State → Request → Turn State
-settled accounts request = settled_by accounts request (balance_after request.movement (balance accounts request.account) request.cents)
+settled accounts request =
+    settled_by accounts request (balance_after request.movement (balance accounts request.account) request.cents)
 
 abbrev pub answered : State → List ℕ → Option Request → Turn State
 answered accounts text (Some request) = settled accounts request

@@ -22,13 +22,15 @@ carried_out request (Some after) = request ∷ []
 carried_out request None = []
 
 abbrev pub carried_out_of : State → Option Request → List Request
-carried_out_of accounts (Some request) = carried_out request (balance_after request.movement (balance accounts request.account) request.cents)
+carried_out_of accounts (Some request) =
+    carried_out request (balance_after request.movement (balance accounts request.account) request.cents)
 carried_out_of accounts None = []
 
 -- the requests among the texts that it carried out
 abbrev pub requests_of : State → List (List ℕ) → List Request
 requests_of accounts [] = []
-requests_of accounts (text ∷ texts) = carried_out_of accounts (request_in text) ++ requests_of (ledger accounts text).state texts
+requests_of accounts (text ∷ texts) =
+    carried_out_of accounts (request_in text) ++ requests_of (ledger accounts text).state texts
 
 abbrev pub charges_cents : Movement → ℕ → ℕ
 charges_cents Charge cents = cents
@@ -41,15 +43,19 @@ refunds_cents Refund cents = cents
 -- what was charged to an account, and what was refunded, by some requests
 abbrev pub charged : List ℕ → List Request → ℕ
 charged name [] = 0
-charged name (request ∷ others) = (if bytes_eq request.account name then charges_cents request.movement request.cents else 0) + charged name others
+charged name (request ∷ others) =
+    (if bytes_eq request.account name then charges_cents request.movement request.cents else 0) + charged name others
 
 abbrev pub refunded : List ℕ → List Request → ℕ
 refunded name [] = 0
-refunded name (request ∷ others) = (if bytes_eq request.account name then refunds_cents request.movement request.cents else 0) + refunded name others
+refunded name (request ∷ others) =
+    (if bytes_eq request.account name then refunds_cents request.movement request.cents else 0) + refunded name others
 
 -- of a ledger that began with no accounts and received these texts
 pub record AddsUp (texts : List (List ℕ)) : Type 0 where
   -- its letters are the requests that it carried out, each once, in order
   pub letters : letters_of [] texts ≡ map (λ request. (card_unit, line_of request)) (requests_of [] texts)
   -- and the balance of each account is what they charged less what they refunded, so that no more was refunded than charged
-  pub balances : (name : List ℕ) → balance (accounts_after [] texts) name + refunded name (requests_of [] texts) ≡ charged name (requests_of [] texts)
+  pub balances : (name : List ℕ)
+      → balance (accounts_after [] texts) name + refunded name (requests_of [] texts)
+      ≡ charged name (requests_of [] texts)

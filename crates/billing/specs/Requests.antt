@@ -50,14 +50,16 @@ has_blank text = nat_lt (position_or_len is_blank text) (length text)
 abbrev pub request_of : Option Movement → List ℕ → Option ℕ → Option Request
 request_of None account cents = None
 request_of (Some movement) account None = None
-request_of (Some movement) account (Some cents) = Some (record { movement = movement; account = account; cents = cents })
+request_of (Some movement) account (Some cents) =
+    Some (record { movement = movement; account = account; cents = cents })
 
 -- a movement's name, a blank, an account, which has no blank, a blank, and cents
 abbrev pub request_in : List ℕ → Option Request
 request_in text =
     let rest = after_first is_blank text in
     if has_blank text && has_blank rest
-    then request_of (movement_named (before_first is_blank text)) (before_first is_blank rest) (cents_told (after_first is_blank rest))
+    then request_of (movement_named (before_first is_blank text)) (before_first is_blank rest)
+    (cents_told (after_first is_blank rest))
     else None
 
 abbrev pub line_of : Request → List ℕ

@@ -28,7 +28,8 @@ pub record IsBook {S : Type 0} (M : Meaning S) (book : Ledger) : Type 0 where
   pub recorded : IsRecordedIn M book.history book.log.records
 
 -- a new book was served these lines, and gave these promises
-pub record IsRun {S : Type 0} (M : Meaning S) (lines : List (List ℕ)) (replies : List Reply) (new : Ledger) : Type 0 where
+pub record IsRun {S : Type 0} (M : Meaning S) (lines : List (List ℕ)) (replies : List Reply)
+    (new : Ledger) : Type 0 where
   pub start : Ledger
   pub empty : start.history ≡ []
   pub served : Serves lines start replies new

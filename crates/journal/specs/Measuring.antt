@@ -14,8 +14,10 @@ IsEnded bytes = (bytes ≡ []) ⊎ ((front : List ℕ) × (bytes ≡ front ++ 10
 -- The bytes are so many bytes of whole lines and so many with no line feed, and so many lines end in them; the lines before the one that is asked for, or all where there are fewer, take so many bytes.
 pub record IsMeasured (all : List ℕ) (from : ℕ) (m : Extent) : Type 0 where
   pub lines : m.lines ≡ line_feeds all
-  pub ends : (whole torn : List ℕ) × (all ≡ whole ++ torn) × (length whole ≡ m.whole) × (length torn ≡ m.torn) × IsEnded whole × All (λ x. x ≢ 10) torn
-  pub first : (front back : List ℕ) × (all ≡ front ++ back) × (length front ≡ m.before) × (line_feeds front ≡ min from m.lines) × IsEnded front
+  pub ends : (whole torn : List ℕ) × (all ≡ whole ++ torn) × (length whole ≡ m.whole) × (length torn ≡ m.torn)
+      × IsEnded whole × All (λ x. x ≢ 10) torn
+  pub first : (front back : List ℕ) × (all ≡ front ++ back) × (length front ≡ m.before)
+      × (line_feeds front ≡ min from m.lines) × IsEnded front
 
 -- more bytes were measured
 abbrev pub Measures : ℕ → List ℕ → Extent → Extent → Type 0

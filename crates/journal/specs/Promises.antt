@@ -15,4 +15,6 @@ tells_memory bytes = ends_with (λ x y. x == y) bytes memory_end
 
 -- each reply for want of memory has such a line
 abbrev pub MemoryIsTold : Type 0
-MemoryIsTold = (count : ℕ) → (tells_memory (reply_line (Refused Memory)) ≡ true) × (tells_memory (reply_line (Stopped count Memory)) ≡ true)
+MemoryIsTold = (count : ℕ)
+    → (tells_memory (reply_line (Refused Memory)) ≡ true)
+    × (tells_memory (reply_line (Stopped count Memory)) ≡ true)

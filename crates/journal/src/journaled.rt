@@ -36,7 +36,14 @@ impl<R, F> Model for Journaled<R, F> {
 
     ghost Value = { Journal R F };
 
-    ghost view = { λ j. record { inner = j.inner; file = j.file; unkept = j.unkept.items; lines = j.lines; is_ended = j.is_ended; is_broken = j.is_broken } };
+    ghost view = { λ j. record {
+      inner = j.inner;
+      file = j.file;
+      unkept = j.unkept.items;
+      lines = j.lines;
+      is_ended = j.is_ended;
+      is_broken = j.is_broken;
+    } };
 
     ghost invariant = { λ j. (0 < vec_capacity j.unkept) × (j.is_broken ≡ false → j.unkept.items ≡ []) };
 }
