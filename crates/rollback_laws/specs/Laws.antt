@@ -31,7 +31,8 @@ PlacesAreSeen {S} M = (r : Recovering S) (x : Unit S) → IsKept r → IsSeen r 
 -- ---- kill and flush
 
 abbrev pub KillsAreSeen : {S : Type 0} → Meaning S → Type 0
-KillsAreSeen {S} M = (r : Recovering S) (x : Unit S) → IsKept r → IsSeen r x → IsSeen (killed_recovering r) (killed_unit x)
+KillsAreSeen {S} M = (r : Recovering S) (x : Unit S) → IsKept r → IsSeen r x
+    → IsSeen (killed_recovering r) (killed_unit x)
 
 abbrev pub FlushesAreSeen : {S : Type 0} → Meaning S → Type 0
 FlushesAreSeen {S} M = (r : Recovering S) (x : Unit S) → IsKept r → IsSeen r x → (place count : ℕ)

@@ -104,7 +104,10 @@ outputs_to outputs n = cond (nat_lt n (2 ^ 32)) (held_below outputs n) outputs
 
 abbrev pub killed_member : {S : Type 0} → Member S → Member S
 killed_member m =
-    record m { recovering = killed_recovering m.recovering; outputs = outputs_to m.outputs (places (killed_recovering m.recovering)) }
+    record m {
+      recovering = killed_recovering m.recovering;
+      outputs = outputs_to m.outputs (places (killed_recovering m.recovering));
+    }
 
 -- ---- checkpoint
 
