@@ -266,7 +266,8 @@ pub(crate) fn answer_with<H: Handler, S: Store>(
     ensures answered { IfOk result (λ o.
         IfSome o (λ a.
         IsAnswered H.meaning step.now a.said a.reply (holding tenants.old log.old) (holding tenants.new log.new))) }
-    ensures stale { IfOk result (λ o. IfNone o (HoldsAsBefore (holding tenants.old log.old) (holding tenants.new log.new))) }
+    ensures stale { IfOk result (λ o. IfNone o
+        (HoldsAsBefore (holding tenants.old log.old) (holding tenants.new log.new))) }
     ensures stale_log { IfOk result (λ o. IfNone o (log.new ≡ log.old)) }
     ensures err { OnErr result (HoldsAsBefore (holding tenants.old log.old) (holding tenants.new log.new)) }
 {

@@ -176,7 +176,8 @@ fn give_back(others: &mut Others)
 fn take_out(others: &mut Others, number: u64) -> Block
     ensures taken { (at : ℕ) → in_block result at ≡ in_numbered others.old number at }
     ensures gone { (at : ℕ) → in_numbered others.new number at ≡ None }
-    ensures rest { (other at : ℕ) → (other ≡ number → ⊥) → in_numbered others.new other at ≡ in_numbered others.old other at }
+    ensures rest { (other at : ℕ) → (other ≡ number → ⊥)
+        → in_numbered others.new other at ≡ in_numbered others.old other at }
 {
     let taken = others.swap_remove(&number);
     give_back(others);
@@ -189,7 +190,8 @@ fn take_out(others: &mut Others, number: u64) -> Block
 /// Lays a block by, where it keeps a record. The block comes back where there is no memory for it.
 fn lay_by(others: &mut Others, number: u64, block: Block) -> Result<(), Block>
     ensures laid { OnOk result ((at : ℕ) → in_numbered others.new number at ≡ in_block block at) }
-    ensures rest { (other at : ℕ) → (other ≡ number → ⊥) → in_numbered others.new other at ≡ in_numbered others.old other at }
+    ensures rest { (other at : ℕ) → (other ≡ number → ⊥)
+        → in_numbered others.new other at ≡ in_numbered others.old other at }
     ensures back { IfErr result (λ back. (at : ℕ) → in_block back at ≡ in_block block at) }
 {
     let mut trimmed = block;

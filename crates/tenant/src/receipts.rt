@@ -71,7 +71,8 @@ fn receive_at<H: Handler>(
     requires few { length logged.vector ≤ 256 }
     requires next { (m : MemberOf H.State) → slice_get members.old.items at ≡ Some m → IsNext m logged worked.input }
     ensures members { IfOk result (λ _. (m : MemberOf H.State) → slice_get members.old.items at ≡ Some m
-        → members.new.items ≡ slice_set members.old.items at (received_member H.meaning m logged (turn_upon_input H.meaning worked.input).outputs)) }
+        → members.new.items ≡ slice_set members.old.items at
+        (received_member H.meaning m logged (turn_upon_input H.meaning worked.input).outputs)) }
     ensures letters { IfOk result (λ _. letters.new.items ≡ letters.old.items ++ made.items) }
     ensures err_members { OnErr result (members.new.items ≡ members.old.items) }
     ensures err_letters { OnErr result (letters.new.items ≡ letters.old.items) }
