@@ -20,7 +20,7 @@ use Rattle.model.specs.World.{incarnation_of}
 use Rattle.rollback.specs.Units.{IsKept, Recovering, unknown}
 use Rattle.rollback_laws.specs.Seen.{HasPlaces, IsSeen}
 use Rattle.rollback_laws.proofs.Places.{places_are_seen}
-use Rattle.unit_steps.specs.Receipts.{arrival_refusal, frontier_of, last_vector_of, letter_refused, mark_upon, past_tests, room_tests, vector_upon}
+use Rattle.unit_steps.specs.Receipts.{arrival_refusal, frontier_of, last_vector_of, letter_refused, mark_upon, past_tests, receipt_room_tests, vector_upon}
 use Rattle.unit_steps.specs.Laws.{FrontiersGoOn, LettersAreRefused, PostsAreRefused, TurnsAreRefused, VectorsAreMade, known_to}
 
 -- a vector is looked up in an interval
@@ -33,7 +33,7 @@ module _ {S : Type 0} (M : Meaning S) (r : Recovering S) (x : Unit S) (kept : Is
   there : HasPlaces r x
   there = places_are_seen M r x kept seen
 
-  room : (text : List ℕ) → tests_of_room k x text ≡ room_tests k.quota.volatile r text
+  room : (text : List ℕ) → tests_of_room k x text ≡ receipt_room_tests k.quota.volatile r text
   room text = λ i. (nat_le 4294967295 (there.long i - 1), Limit) ∷ (nat_le k.quota.volatile (there.unstable i), OverQuota) ∷ (is_long text, TooMuch) ∷ []
 
   -- the tests of the number and of room, where the unit is up

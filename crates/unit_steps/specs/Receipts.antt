@@ -23,8 +23,8 @@ use Rattle.rollback.specs.Units.{Recovering, places, unknown}
 -- ---- the tests of a receipt
 
 -- whether the unit has room for one more receipt
-abbrev pub room_tests : {S : Type 0} → ℕ → Recovering S → List ℕ → List (Bool × Refusal)
-room_tests volatile_quota r text =
+abbrev pub receipt_room_tests : {S : Type 0} → ℕ → Recovering S → List ℕ → List (Bool × Refusal)
+receipt_room_tests volatile_quota r text =
     (nat_le MAX_INDEX (places r - 1), Limit)
     ∷ (nat_le volatile_quota (length r.volatile), OverQuota)
     ∷ (is_long text, TooMuch)
@@ -35,7 +35,7 @@ abbrev pub arrival_refusal : {S : Type 0} → ℕ → Recovering S → Source �
     → Option Refusal
 arrival_refusal volatile_quota r source number text None = Some Down
 arrival_refusal volatile_quota r source number text (Some p) =
-    first_refusal (tests_of_number (taken_from p.sessions source) number ++ room_tests volatile_quota r text)
+    first_refusal (tests_of_number (taken_from p.sessions source) number ++ receipt_room_tests volatile_quota r text)
 
 -- the refusal of a post before its turn
 abbrev pub post_refused : {S : Type 0} → ℕ → Recovering S → ℕ → List ℕ → Option Refusal

@@ -142,7 +142,7 @@ fn letters_from(
 }
 
 /// The letters of one send, for which no counts need be copied: a receipt leaves what was sent before.
-#[tactic(auto, using(rollback::proofs::Sends::sent_same))]
+#[tactic(auto, using(compact::proofs::Received::sent_advanced))]
 fn letters_of_one(
     alloc: Global,
     unit: Unit,

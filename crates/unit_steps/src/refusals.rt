@@ -12,7 +12,7 @@ ghost use Rattle.model.specs.Steps.{is_long as is_long_text, is_large as is_larg
 ghost use Rattle.compact.specs.Steps.{tests_of_number};
 ghost use Rattle.orphan.specs.Tests.{unstable_count};
 ghost use Rattle.rollback.specs.Units.{places};
-ghost use Rattle.unit_steps.specs.Receipts.{IsWithin, arrival_refusal as arrival_refusal_of, room_tests, post_refused, letter_refused, turn_refused, past_tests};
+ghost use Rattle.unit_steps.specs.Receipts.{IsWithin, arrival_refusal as arrival_refusal_of, receipt_room_tests, post_refused, letter_refused, turn_refused, past_tests};
 
 use crate::letters::{Content, SentLetter};
 use depvector::SharedVector;
@@ -127,7 +127,7 @@ fn arrival_refusal_up<H: Handler>(
     text: &Text,
 ) -> Option<Refusal>
     ensures refusal { result ≡ first_refusal (tests_of_number (taken_from progress.now.sessions source) number
-        ++ room_tests volatile_quota unit.now text.now) }
+        ++ receipt_room_tests volatile_quota unit.now text.now) }
     ensures room { IfNone result (places unit.now < 2 ^ 32) }
 {
     let count = progress.sessions.taken(source);
