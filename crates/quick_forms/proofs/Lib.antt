@@ -1,3 +1,4 @@
+mod NoBrace
 mod NoStep
 mod Turns
 mod Written

@@ -1,8 +1,10 @@
 //! The step of a line, token by token.
 
-ghost use Rattle.std.specs.Prelude.{◌≡◌, ◌<◌, ℕ, ◌∷◌, length, Some, None, Err, IfOk, IfSome, MatchBool, OnOk, slice_index, ◌==◌};
+ghost use Rattle.std.specs.Prelude.{◌≡◌, ◌<◌, ℕ, ◌∷◌, length, Some, None, Err, IfOk, IfSome, IsTrue, MatchBool, OnOk, slice_index, ◌==◌};
 ghost use Rattle.json.specs.Json as grammar;
+ghost use Rattle.json.specs.Lex.{tokens};
 ghost use Rattle.json.specs.Token.Token.{begin_object};
+ghost use Rattle.json.specs.Word.{is_space as is_space_of};
 ghost use Rattle.serde_json.specs.Data.{Data, unsigned, number as of_number, string, object as object_data, put, no_members};
 ghost use Rattle.serde_json.specs.Read.{number_of, of_json, of_members, converted};
 ghost use Rattle.forms.specs.Reading.{Gives, step_of, step_of_line};
@@ -38,6 +40,9 @@ pub fn read_step(alloc: Global, scratch: &mut Scratch, line: &[u8]) -> Result<St
     let Ok(text) = simdutf8::compat::from_utf8(line) else {
         return Err(LineFault::Bad);
     };
+    if begins_no_object(text) {
+        return Err(LineFault::Bad);
+    }
     if let Some(step) = shortest(alloc, text)? {
         return Ok(step);
     }
@@ -47,6 +52,23 @@ pub fn read_step(alloc: Global, scratch: &mut Scratch, line: &[u8]) -> Result<St
         Ok(None) => forms::read_step(alloc, line),
         Err(fault) => Err(fault),
     }
+}
+
+/// Whether the text begins with a byte that is neither space nor the brace that begins an object. It is no step then,
+/// and no token of it need be made.
+fn begins_no_object(text: &str) -> bool
+    ensures { IsTrue result → step_of_tokens (tokens text.now) ≡ None }
+{
+    match text.as_bytes().first() {
+        Some(byte) => !is_space(*byte) && *byte != b'{',
+        None => false,
+    }
+}
+
+fn is_space(byte: u8) -> bool
+    ensures { result ≡ is_space_of byte }
+{
+    byte == b' ' || byte == b'\t' || byte == b'\n' || byte == b'\r'
 }
 
 /// The step of the tokens, where they are a quick form. `Bad` where they are no object, or one without a verb.

@@ -25,3 +25,8 @@ pub returns-in-Some : goal.returns-in-Some
 returns-in-Some c =
     let line = c.args.line.now in
     line_step line c.in-Ok.ensures.cases.1 ∙ ap (λ text. step_of_tokens (tokens text)) (sym c.in-Ok.ensures.cases.0) ∙ subst (λ o. IfSome o (λ s. step_of_tokens (tokens c.in-Ok.text.now) ≡ Some s)) c.in-Some.is c.in_ok-step.ensures
+
+pub returns-then-begins_no_object : goal.returns-then-begins_no_object
+returns-then-begins_no_object c =
+    let line = c.args.line.now in
+    line_step line c.in-Ok.ensures.cases.1 ∙ ap (λ text. step_of_tokens (tokens text)) (sym c.in-Ok.ensures.cases.0) ∙ c.begins_no_object.ensures (c.if-begins_no_object.true)
