@@ -1,5 +1,8 @@
+ghost use Rattle.std.specs.Prelude.{◌≤◌, length};
+
 use depvector::{DepVector, SharedVector};
-use model::{Mark, Unit};
+use model::{Mark, NoMemory, Unit};
+use std::alloc::Global;
 use std::test::Fail;
 
 fn mark(incarnation: u32, index: u32) -> Mark {
@@ -36,24 +39,33 @@ fn widens_and_copies(rt: HostRuntime) -> Result<(), Fail> {
     Ok(())
 }
 
+/// Whether marks stay what they are where a vector of them is shared, recorded, read and gone on from.
+fn stay(alloc: Global, marks: &[Mark]) -> Result<bool, NoMemory>
+    requires { length marks.now ≤ 256 }
+{
+    let shared = DepVector::of(alloc, marks)?.into_shared(alloc)?;
+    let recorded = shared.copy(alloc)?.to_marks(alloc)?;
+    let read = SharedVector::of(alloc, &recorded)?;
+    let own = read.to_own(alloc)?;
+    let are_same = recorded.as_slice() == marks && own.as_slice() == marks;
+    Ok(are_same && read.get(Unit::new(255)) == mark(0, 0))
+}
+
 // Fewer marks than lie in the value, as many, and more.
 #[test]
 fn shares_and_goes_on(rt: HostRuntime) -> Result<(), Fail> {
-    for units in [0, 1, 2, 3, 4, 5, 16] {
-        let mut vector = DepVector::new(rt.alloc(), units)?;
-        if units > 0 {
-            vector.set_own(Unit::new((units - 1) as u8), mark(2, 7));
-        }
-        let shared = vector.copy()?.into_shared(rt.alloc())?;
-        assert_eq!(rt; shared.as_slice(), vector.as_slice());
-        let recorded = shared.copy(rt.alloc())?.to_marks(rt.alloc())?;
-        assert_eq!(rt; recorded.as_slice(), vector.as_slice());
-        let read = SharedVector::of(rt.alloc(), &recorded)?;
-        assert_eq!(rt; read.get(Unit::new(16)), mark(0, 0));
-        let mut own = read.to_own(rt.alloc())?;
-        own.widen(17)?;
-        own.join_marks(shared.as_slice());
-        assert_eq!(rt; &own.as_slice()[..units], vector.as_slice());
-    }
+    let alloc = rt.alloc();
+    assert!(rt; stay(alloc, &[])?);
+    assert!(rt; stay(alloc, &[mark(2, 7)])?);
+    assert!(rt; stay(alloc, &[mark(2, 7), mark(0, 1)])?);
+    assert!(rt; stay(alloc, &[mark(2, 7), mark(0, 1), mark(1, 0)])?);
+    assert!(rt; stay(alloc, &[mark(2, 7), mark(0, 1), mark(1, 0), mark(0, 3)])?);
+    assert!(rt;
+        stay(
+            alloc,
+            &[mark(2, 7), mark(0, 1), mark(1, 0), mark(0, 3), mark(4, 4)]
+        )?
+    );
+    assert!(rt; stay(alloc, &[mark(3, 5); 16])?);
     Ok(())
 }
