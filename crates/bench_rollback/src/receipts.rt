@@ -28,7 +28,6 @@ pub(crate) fn logged(alloc: Global, index: u32) -> Result<Record, NoMemory>
         incarnation: 0,
         index,
     };
-    let marks = vec![in alloc; mark]?;
     Ok(Record {
         tenant,
         unit: Unit::new(0),
@@ -37,7 +36,7 @@ pub(crate) fn logged(alloc: Global, index: u32) -> Result<Record, NoMemory>
         letter: None,
         number: u64::from(index).saturating_sub(1),
         text: Text::of(alloc, "a text of sixteen")?,
-        vector: Marks::new(marks),
+        vector: Marks::of(alloc, &[mark])?,
     })
 }
 

@@ -33,6 +33,7 @@ impl SharedVector {
     /// # Errors
     ///
     /// `NoMemory` where the entries find no memory.
+    #[inline(always)]
     pub fn new(alloc: Global, n: usize) -> Result<SharedVector, NoMemory>
         requires { n ≤ 256 }
         ensures { IfOk result (λ v. v ≡ begun_vector n) }
@@ -42,6 +43,7 @@ impl SharedVector {
     }
 
     /// The vector of these marks. Takes no memory.
+    #[inline(always)]
     pub(crate) fn from_marks(marks: Marks) -> SharedVector
         requires { length marks ≤ 256 }
         ensures { result ≡ marks }
@@ -55,6 +57,7 @@ impl SharedVector {
     ///
     /// `NoMemory` where there are 2^63 - 1 copies already, or where the marks lie in a place of their own and a copy of
     /// them finds no memory.
+    #[inline(always)]
     pub fn of(alloc: Global, marks: &Marks) -> Result<SharedVector, NoMemory>
         requires { length marks.now ≤ 256 }
         ensures { IfOk result (λ v. v ≡ marks.now) }
@@ -64,6 +67,7 @@ impl SharedVector {
     }
 
     /// The marks, unit 0 first.
+    #[inline(always)]
     pub fn as_slice(&self) -> &[Mark]
         ensures marks { result.now ≡ self.now }
         ensures few { length result.now ≤ 256 }
@@ -72,6 +76,7 @@ impl SharedVector {
     }
 
     /// The mark of a unit; a unit without an entry is at its beginning.
+    #[inline(always)]
     pub fn get(&self, unit: Unit) -> Mark
         ensures { result ≡ mark_for self.now unit }
     {
@@ -83,6 +88,7 @@ impl SharedVector {
     /// # Errors
     ///
     /// `NoMemory` as in [`SharedVector::of`].
+    #[inline(always)]
     pub fn copy(&self, alloc: Global) -> Result<SharedVector, NoMemory>
         ensures { IfOk result (λ v. v ≡ self.now) }
     {
@@ -94,6 +100,7 @@ impl SharedVector {
     /// # Errors
     ///
     /// `NoMemory` as in [`SharedVector::of`].
+    #[inline(always)]
     pub fn to_marks(&self, alloc: Global) -> Result<Marks, NoMemory>
         ensures marks { IfOk result (λ m. m ≡ self.now) }
         ensures few { IfOk result (λ m. length m ≤ 256) }
@@ -106,6 +113,7 @@ impl SharedVector {
     /// # Errors
     ///
     /// `NoMemory` where the entries find no memory.
+    #[inline(always)]
     pub fn to_own(&self, alloc: Global) -> Result<DepVector, NoMemory>
         ensures { IfOk result (λ v. v ≡ self.now) }
     {

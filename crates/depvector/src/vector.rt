@@ -38,6 +38,7 @@ impl DepVector {
     /// # Errors
     ///
     /// `NoMemory` where the entries find no memory.
+    #[inline(always)]
     pub fn new(alloc: Global, n: usize) -> Result<DepVector, NoMemory>
         requires { n ≤ 256 }
         ensures { IfOk result (λ v. v ≡ begun_vector n) }
@@ -61,6 +62,7 @@ impl DepVector {
     /// # Errors
     ///
     /// `NoMemory` where the entries find no memory.
+    #[inline(always)]
     pub fn of(alloc: Global, marks: &[Mark]) -> Result<DepVector, NoMemory>
         requires { length marks.now ≤ 256 }
         ensures { IfOk result (λ v. v ≡ marks.now) }
@@ -70,6 +72,7 @@ impl DepVector {
     }
 
     /// The marks, unit 0 first.
+    #[inline(always)]
     pub fn as_slice(&self) -> &[Mark]
         ensures marks { result.now ≡ self.now }
         ensures few { length result.now ≤ 256 }
@@ -78,6 +81,7 @@ impl DepVector {
     }
 
     /// How many units have an entry.
+    #[inline(always)]
     pub fn len(&self) -> usize
         ensures len { result ≡ length self.now }
         ensures few { result ≤ 256 }
@@ -86,6 +90,7 @@ impl DepVector {
     }
 
     /// The mark of a unit; a unit without an entry is at its beginning.
+    #[inline(always)]
     pub fn get(&self, unit: Unit) -> Mark
         ensures { result ≡ mark_for self.now unit }
     {
@@ -105,6 +110,7 @@ impl DepVector {
 
     /// As [`DepVector::join`], with the other's marks.
     #[tactic(auto, using(crate::proofs::Joins::joins))]
+    #[inline(always)]
     pub fn join_marks(&mut self, other: &[Mark])
         requires { length other.now ≤ length self.old }
         ensures { self.new ≡ joined self.old other.now }
@@ -113,6 +119,7 @@ impl DepVector {
     }
 
     /// Sets the mark of a unit that has an entry. Takes no memory.
+    #[inline(always)]
     pub fn set_own(&mut self, unit: Unit, mark: Mark)
         requires { unit < length self.old }
         ensures { self.new ≡ slice_set self.old unit mark }
@@ -126,6 +133,7 @@ impl DepVector {
     /// # Errors
     ///
     /// `NoMemory` where the entries find no memory; the vector stays as it was.
+    #[inline(always)]
     pub fn widen(&mut self, n: usize) -> Result<(), NoMemory>
         requires { n ≤ 256 }
         ensures ok { IfOk result (λ _. self.new ≡ widened self.old n) }
@@ -153,6 +161,7 @@ impl DepVector {
     /// # Errors
     ///
     /// `NoMemory` where a place that copies can share finds no memory. A short one needs none.
+    #[inline(always)]
     pub fn into_shared(self, alloc: Global) -> Result<SharedVector, NoMemory>
         ensures { IfOk result (λ v. v ≡ self) }
     {

@@ -29,7 +29,7 @@ has_float-reply (Restarted row) = refl
 has_float-reply (Noticed None) = refl
 has_float-reply (Noticed (Some row)) = refl
 has_float-reply (Released outputs) = rw (texts_plain outputs) refl
-has_float-reply (Status at held known outside released rows stable up volatile) = refl
+has_float-reply (Status up at held known outside released rows stable volatile) = refl
 has_float-reply (Stopped count refusal) = refl
 has_float-reply (Refused refusal) = refl
 
@@ -55,6 +55,6 @@ depth-reply (Restarted row) = lit≤ tt
 depth-reply (Noticed None) = lit≤ tt
 depth-reply (Noticed (Some row)) = lit≤ tt
 depth-reply (Released outputs) = rw (texts_flat outputs) (lit≤ tt)
-depth-reply (Status at held known outside released rows stable up volatile) = lit≤ tt
+depth-reply (Status up at held known outside released rows stable volatile) = lit≤ tt
 depth-reply (Stopped count refusal) = lit≤ tt
 depth-reply (Refused refusal) = lit≤ tt

@@ -98,7 +98,7 @@ reply_data (Killed lost) =
 reply_data (Restarted row) = restarted_data row
 reply_data (Noticed row) = noticed_data row
 reply_data (Released outputs) = released_data outputs
-reply_data (Status at held known outside released rows stable up volatile) =
+reply_data (Status up at held known outside released rows stable volatile) =
     status_data at held known outside released rows stable up volatile
 reply_data (Stopped count refusal) =
     object (member (codes "count") (whole count) (member (codes "no") (name_data refusal) no_members))
@@ -106,7 +106,7 @@ reply_data (Refused refusal) = object (member (codes "no") (name_data refusal) n
 
 -- a reply that tells what a unit is at
 abbrev pub IsStatus : Reply → Type 0
-IsStatus (Status at held known outside released rows stable up volatile) = Unit {0}
+IsStatus (Status up at held known outside released rows stable volatile) = Unit {0}
 IsStatus _ = ⊥
 
 -- the compact text of a value

@@ -1,21 +1,19 @@
 -- Further worked examples: limits, stores that fail, checkpoints, optimism, joins and certificates.
 use Rattle.std.proofs.Common.{◌≡◌, refl, ℕ, zero, suc, drop, map}
-use Rattle.std.specs.Prelude.{Bool, true, false, List, [], ◌∷◌, ◌++◌, Option, Some, None, codes, decimal, replicate, Ok, Err}
+use Rattle.std.specs.Prelude.{false, List, [], ◌∷◌, ◌++◌, Some, None, codes, decimal, replicate, Ok}
 use Rattle.std.specs.Fmt.{digits}
 use Rattle.model.specs.declared.refusals.Refusal.TheVariants.{NoTenant, BadOpen, Wait, Orphan, Repeat, TooMuch, Limit, Store, Pending}
 use Rattle.model.specs.declared.replies.Reply.TheVariants.{Opened, Joined, Accepted, Flushed, Checkpointed, Killed, Restarted, Noticed, Released, Status, Stopped, Refused}
-use Rattle.model.specs.declared.replies.End.TheVariants.{Whole, Device}
-use Rattle.model.specs.declared.steps.TenantStep.{TenantStep}
+use Rattle.model.specs.declared.replies.End.TheVariants.{Device}
 use Rattle.model.specs.declared.steps.TenantStep.TheVariants.{Open, Join, Flush, Checkpoint, Kill, Restart, Notice, Release, Status as ReadStatus}
 use Rattle.model.specs.declared.moves.Move.TheVariants.{Outside, Letter, Join as JoinMove}
-use Rattle.model.specs.declared.names.Row.{Row}
 use Rattle.model.specs.Alone.{Event, alone}
 use Rattle.model.specs.FailureFree.{failure_free}
 use Rattle.model.specs.Lists.{numbers_from}
 use Rattle.model.specs.Nodes.{began}
 use Rattle.model.specs.Sample.{sample}
 use Rattle.model.specs.Steps.{first_refusal, at_unit, at_up, restart}
-use Rattle.model.specs.World.{World, Member}
+use Rattle.model.specs.World.{World}
 use Rattle.model.specs.Records.{quiet}
 use Rattle.model.proofs.Rows.{asks, flush, post, deliver, opening, at, start, replies, certificate_after, outputs_of, relay_and_echo, vector_after}
 
@@ -74,7 +72,7 @@ store_fails : replies (
     ∷ Flushed 2
     ∷ Killed 0
     ∷ Refused Store
-    ∷ Status (at 0 3) 3 0 3 0 0 3 false 0
+    ∷ Status false (at 0 3) 3 0 3 0 0 3 0
     ∷ Restarted (start 1 4)
     ∷ [])
 unfolding first_refusal at_unit at_up

@@ -6,7 +6,6 @@ use Rattle.model.specs.declared.names.Quota.{Quota}
 use Rattle.model.specs.declared.names.Mark.{Mark}
 use Rattle.model.specs.declared.names.Start.{Start}
 use Rattle.model.specs.declared.replies.Reply.{Reply}
-use Rattle.model.specs.declared.replies.Said.{Said}
 use Rattle.model.specs.declared.replies.Reply.TheVariants.{Opened, Joined, Accepted, Flushed, Checkpointed, Killed, Restarted, Noticed, Released, Status, Refused}
 use Rattle.model.specs.declared.replies.End.TheVariants.{Whole}
 use Rattle.model.specs.declared.steps.TenantStep.{TenantStep}
@@ -82,7 +81,7 @@ one_unit_status : replies (
     ∷ Released ([])
     ∷ Flushed 1
     ∷ Released ((codes "x") ∷ [])
-    ∷ Status (at 0 1) 0 0 1 1 0 1 true 0
+    ∷ Status true (at 0 1) 0 0 1 1 0 1 0
     ∷ [])
 unfolding first_refusal at_unit at_up digits
 one_unit_status = refl
@@ -222,7 +221,7 @@ nothing_released_twice : replies (
     ∷ Killed 0
     ∷ Restarted (start 1 2)
     ∷ Released ([])
-    ∷ Status (at 0 1) 0 1 0 1 1 1 true 0
+    ∷ Status true (at 0 1) 0 1 0 1 1 1 0
     ∷ [])
 unfolding first_refusal at_unit at_up digits
 nothing_released_twice = refl
@@ -262,7 +261,7 @@ ring_of_relays : replies (
     ∷ Killed 1
     ∷ Restarted (start 2 1)
     ∷ Noticed (Some (start 2 1))
-    ∷ Status (at 0 0) 0 5 0 0 5 0 true 0
+    ∷ Status true (at 0 0) 0 5 0 0 5 0 0
     ∷ [])
 unfolding first_refusal at_unit at_up digits
 ring_of_relays = refl
@@ -300,7 +299,7 @@ checkpoint_when_logged : replies (
     ∷ Checkpointed (at 0 1)
     ∷ Killed 0
     ∷ Restarted (start 1 2)
-    ∷ Status (at 0 1) 1 1 1 0 1 1 true 0
+    ∷ Status true (at 0 1) 1 1 1 0 1 1 0
     ∷ [])
 unfolding first_refusal at_unit at_up digits
 checkpoint_when_logged = refl
@@ -375,7 +374,7 @@ cut_inside_a_stable_path : replies (
     ∷ Killed 1
     ∷ Restarted (start 1 1)
     ∷ Noticed (Some (start 1 2))
-    ∷ Status (at 0 1) 1 2 1 0 2 1 true 0
+    ∷ Status true (at 0 1) 1 2 1 0 2 1 0
     ∷ Accepted (at 1 2) 2 ([])
     ∷ Flushed 1
     ∷ Released ((codes "k") ∷ (codes "m") ∷ [])
@@ -402,7 +401,7 @@ released_prefix : replies (
     ∷ Flushed 2
     ∷ Accepted (at 0 3) 3 ([])
     ∷ Released ((codes "a") ∷ (codes "b") ∷ [])
-    ∷ Status (at 0 3) 1 0 3 2 0 2 true 1
+    ∷ Status true (at 0 3) 1 0 3 2 0 2 1
     ∷ Killed 1
     ∷ Restarted (start 1 3)
     ∷ Released ([])

@@ -1,5 +1,5 @@
 -- What is kept of a tenant's past: the checkpoints of its units, and what is behind the greatest that is firm.
-use Rattle.std.specs.Prelude.{ℕ, suc, ◌+◌, ◌-◌, Bool, true, false, cond, not, ◌&&◌, ◌||◌, ◌==◌, nat_lt, List, [], ◌∷◌, ◌++◌, length, take, drop, replicate, Option, Some, None, slice_get, slice_set}
+use Rattle.std.specs.Prelude.{ℕ, suc, ◌+◌, ◌-◌, Bool, false, cond, not, ◌&&◌, ◌||◌, ◌==◌, nat_lt, List, [], ◌∷◌, ◌++◌, length, take, drop, replicate, Option, Some, None, slice_get, slice_set}
 use Rattle.std.specs.List.{count_by, enumerate_from, filter, fold, list_any, take_while}
 use Rattle.model.specs.declared.limits.TheConstants.{MAX_CHECKPOINTS}
 use Rattle.model.specs.declared.kept.Kept.{Kept}
@@ -11,7 +11,6 @@ use Rattle.model.specs.Alone.{Event, step}
 use Rattle.model.specs.Handler.{Meaning}
 use Rattle.model.specs.Lists.{has}
 use Rattle.model.specs.Nodes.{Cause, Message, Node, began, letter, node_at, outside}
-use Rattle.model.specs.Steps.{Outcome}
 use Rattle.model.specs.World.{Member, World, executed, is_firm}
 
 -- ---- the checkpoints of a unit

@@ -284,9 +284,9 @@ release M w u = at_up w u (λ m.
 
 abbrev pub status : {S : Type 0} → Meaning S → World → ℕ → Outcome
 status M w u = at_unit w u (λ m. record {
-  reply = Status (mark_of (last_node w m)) (length (held M w m)) m.known
+  reply = Status m.up (mark_of (last_node w m)) (length (held M w m)) m.known
       (taken w.nodes m.path Outside) (length m.released) (length w.table)
-      (m.stable - 1) m.up (length m.path - m.stable);
+      (m.stable - 1) (length m.path - m.stable);
   world = Some w;
 })
 

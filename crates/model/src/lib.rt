@@ -17,6 +17,7 @@ mod names;
 mod records;
 mod refusals;
 mod replies;
+mod short_list;
 mod steps;
 mod text;
 

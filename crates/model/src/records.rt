@@ -24,6 +24,7 @@ pub struct Record {
 
 impl Record {
     /// An equal record.
+    #[inline(always)]
     pub fn copy(&self, alloc: Global) -> Result<Record, NoMemory>
         ensures { IfOk result (λ r. r ≡ self.now) }
     {

@@ -52,6 +52,8 @@ pub enum Reply {
     },
     /// What the unit is at: `stable` is its stable length less 1, `volatile` what lies past that.
     Status {
+        // Ahead of the numbers, between which it would leave a gap.
+        up: bool,
         at: Mark,
         held: u64,
         known: u64,
@@ -59,7 +61,6 @@ pub enum Reply {
         released: u64,
         rows: u64,
         stable: u64,
-        up: bool,
         volatile: u64,
     },
     /// A flush ended early, after so many records.

@@ -14,12 +14,12 @@ ghost use Rattle.model.specs.Storage.{stored_bytes};
 use crate::fault::NoMemory;
 use crate::limits::MAX_NAME_BYTES;
 use crate::names::Letter;
+use crate::short_list::ShortList;
 use arrayvec::ArrayString;
-use smallvec::SmallVec;
 use std::alloc::Global;
 use std::hash::{Hash, Hasher};
 use std::marker::Model;
-use std::sync::ArcStr;
+use std::sync::{ArcSlice, ArcStr};
 
 /// How many bytes a text may have that lies in the value itself.
 const MAX_INLINE_BYTES: usize = 16;
@@ -35,6 +35,7 @@ enum Storage {
 
 impl Storage {
     /// The characters in the value itself, where they fit.
+    #[inline(always)]
     fn inline(text: &str) -> Option<Storage>
         ensures { IfSome result (λ s. stored_bytes s ≡ text.now) }
     {
@@ -44,6 +45,7 @@ impl Storage {
         }
     }
 
+    #[inline(always)]
     fn as_str(&self) -> &str
         ensures { result.now ≡ stored_bytes self.now }
     {
@@ -53,6 +55,7 @@ impl Storage {
         }
     }
 
+    #[inline(always)]
     fn copy(&self) -> Result<Storage, NoMemory>
         ensures { IfOk result (λ s. stored_bytes s ≡ stored_bytes self.now) }
     {
@@ -94,6 +97,7 @@ impl Text {
     }
 
     /// A text of its own with these characters. A short one takes no memory.
+    #[inline(always)]
     pub fn of(alloc: Global, text: &str) -> Result<Text, NoMemory>
         ensures { IfOk result (λ t. t ≡ text.now) }
     {
@@ -106,6 +110,7 @@ impl Text {
         })
     }
 
+    #[inline(always)]
     pub fn as_str(&self) -> &str
         ensures { result.now ≡ self.now }
     {
@@ -124,6 +129,7 @@ impl Text {
     /// # Errors
     ///
     /// `NoMemory` where there are 2^63 - 1 of it already.
+    #[inline(always)]
     pub fn copy(&self) -> Result<Text, NoMemory>
         ensures { IfOk result (λ t. t ≡ self.now) }
     {
@@ -178,6 +184,7 @@ impl Texts {
         Texts { texts }
     }
 
+    #[inline(always)]
     pub fn as_slice(&self) -> &[Text]
         ensures { result.now ≡ self.now }
     {
@@ -193,6 +200,7 @@ impl Texts {
     }
 
     /// Equal texts.
+    #[inline(always)]
     pub fn copy(&self, alloc: Global) -> Result<Texts, NoMemory>
         ensures { IfOk result (λ t. t ≡ self.now) }
     {
@@ -215,55 +223,84 @@ impl Eq for Texts {
     ghost laws = { Prim.search (comparing, rules) };
 }
 
-/// How many letters of a list lie in the value itself.
-const MAX_INLINE_LETTERS: usize = 4;
-
-/// A list of letters, seen as the list of their numbers. A short one takes no memory.
+/// A list of letters, seen as the list of their numbers. A short one lies in the value itself; copies of any other share
+/// one place in memory, which goes with the last of them.
 #[derive(Debug, Drop)]
 pub struct Letters {
-    letters: SmallVec<Letter, MAX_INLINE_LETTERS>,
+    letters: ShortList<Letter>,
 }
 
 impl Model for Letters {
     ghost use Rattle.std.specs.Prelude.{List, ℕ};
+    ghost use Rattle.model.specs.Storage.{stored_items};
 
     ghost Value = { List ℕ };
 
-    ghost view = { λ l. l.letters.items };
+    ghost view = { λ l. stored_items l.letters };
+}
+
+/// The letter that comes so many after the first.
+fn nth(first: usize, i: usize) -> Letter
+    requires { first + i < 2 ^ 32 }
+    ensures { result ≡ first + i }
+{
+    Letter::new((first + i) as u32)
+}
+
+/// The `n` letters from `first` on, in a place of their own.
+fn letters_from(alloc: Global, first: usize, n: usize) -> Result<Vec<Letter>, NoMemory>
+    requires { first + n < 2 ^ 32 }
+    ensures { IfOk result (λ ls. ls.items ≡ numbers_from first n) }
+{
+    let mut letters = Vec::new(alloc);
+    for i in 0..n {
+        letters.push(nth(first, i))?;
+    }
+    Ok(letters)
 }
 
 impl Letters {
-    pub fn new(letters: Vec<Letter>) -> Letters
-        ensures { result ≡ letters.items }
+    /// A list of its own of these letters. A short one takes no memory.
+    #[inline(always)]
+    pub fn of(alloc: Global, letters: &[Letter]) -> Result<Letters, NoMemory>
+        ensures { IfOk result (λ ls. ls ≡ letters.now) }
     {
-        Letters {
-            letters: SmallVec::from_vec(letters),
-        }
+        let letters = ShortList::of_slice(alloc, letters)?;
+        Ok(Letters { letters })
     }
 
     /// The `n` letters from `first` on.
+    #[inline(always)]
     pub fn from_first(alloc: Global, first: usize, n: usize) -> Result<Letters, NoMemory>
         requires { first + n < 2 ^ 32 }
         ensures { IfOk result (λ ls. ls ≡ numbers_from first n) }
     {
-        let mut letters = SmallVec::new(alloc);
-        for i in 0..n {
-            letters.push(Letter::new((first + i) as u32))?;
-        }
+        let letters = match n {
+            0 => ShortList::Zero,
+            1 => ShortList::of_slice(alloc, &[nth(first, 0)])?,
+            2 => ShortList::of_slice(alloc, &[nth(first, 0), nth(first, 1)])?,
+            _ => ShortList::Shared(ArcSlice::from_vec(letters_from(alloc, first, n)?)?),
+        };
         Ok(Letters { letters })
     }
 
+    #[inline(always)]
     pub fn as_slice(&self) -> &[Letter]
         ensures { result.now ≡ self.now }
     {
         self.letters.as_slice()
     }
 
-    /// An equal list.
+    /// An equal list. It takes memory only where 2^63 - 1 lists share it already.
+    ///
+    /// # Errors
+    ///
+    /// `NoMemory` where it finds none then.
+    #[inline(always)]
     pub fn copy(&self, alloc: Global) -> Result<Letters, NoMemory>
         ensures { IfOk result (λ l. l ≡ self.now) }
     {
-        let letters = SmallVec::from_slice(alloc, self.as_slice())?;
+        let letters = self.letters.copy(alloc)?;
         Ok(Letters { letters })
     }
 }
@@ -331,6 +368,7 @@ impl TenantName {
         }
     }
 
+    #[inline(always)]
     pub fn as_str(&self) -> &str
         ensures { result.now ≡ self.now }
     {
@@ -339,6 +377,7 @@ impl TenantName {
     }
 
     /// An equal name.
+    #[inline(always)]
     pub fn copy(&self) -> TenantName
         ensures { result ≡ self.now }
     {

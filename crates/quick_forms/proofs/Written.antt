@@ -82,7 +82,7 @@ unfolding data_text escape_byte
 released_text outputs = refl
 
 pub status_text : (at : Mark) (held known outside released rows stable : ℕ) (up : Bool) (volatile : ℕ)
-    → reply_text (Status at held known outside released rows stable up volatile)
+    → reply_text (Status up at held known outside released rows stable volatile)
     ≡ ((codes "{\"at\":[" ++ decimal at.incarnation) ++ (codes "," ++ decimal at.index)) ++ ((codes "],\"held\":" ++ decimal held) ++ ((codes ",\"known\":" ++ decimal known) ++ ((codes ",\"ok\":\"status\",\"outside\":" ++ decimal outside) ++ ((codes ",\"released\":" ++ decimal released) ++ ((codes ",\"rows\":" ++ decimal rows) ++ ((codes ",\"stable\":" ++ decimal stable) ++ (up_text up ++ (codes ",\"volatile\":" ++ (decimal volatile ++ codes "}")))))))))
 unfolding data_text escape_byte up_text
 status_text at held known outside released rows stable true volatile =

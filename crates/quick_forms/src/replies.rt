@@ -133,7 +133,7 @@ fn status(
     volatile: u64,
 ) -> Result<(), NoMemory>
     ensures { OnOk result (out.new.items ≡ out.old.items
-        ++ reply_text (Status at held known outside released rows stable up volatile)) }
+        ++ reply_text (Status up at held known outside released rows stable volatile)) }
 {
     mark_after(out, "{\"at\":[", at)?;
     number_after(out, "],\"held\":", held)?;
@@ -241,15 +241,37 @@ fn number_between(out: &mut Vec<u8>, before: &str, n: u64, behind: &str) -> Resu
     Ok(())
 }
 
+#[inline(always)]
 fn number_after(out: &mut Vec<u8>, before: &str, n: u64) -> Result<(), NoMemory>
     ensures { OnOk result (out.new.items ≡ out.old.items ++ (before.now ++ decimal n)) }
 {
     words(out, before)?;
-    let mut digits = Buffer::new();
-    words(out, digits.format(n))?;
+    digits(out, n)?;
     Ok(())
 }
 
+#[inline(always)]
+fn digits(out: &mut Vec<u8>, n: u64) -> Result<(), NoMemory>
+    ensures { OnOk result (out.new.items ≡ out.old.items ++ decimal n) }
+{
+    if n < 10 {
+        return digit(out, n as u8);
+    }
+    let mut room = Buffer::new();
+    words(out, room.format(n))
+}
+
+/// The one digit of a small number, as most are.
+#[tactic(auto, using(std::proofs::lemmas::Fmt::decimal_digit))]
+fn digit(out: &mut Vec<u8>, n: u8) -> Result<(), NoMemory>
+    requires { n < 10 }
+    ensures { OnOk result (out.new.items ≡ out.old.items ++ decimal n) }
+{
+    out.push(b'0' + n)?;
+    Ok(())
+}
+
+#[inline(always)]
 fn words(out: &mut Vec<u8>, text: &str) -> Result<(), NoMemory>
     ensures { OnOk result (out.new.items ≡ out.old.items ++ text.now) }
 {

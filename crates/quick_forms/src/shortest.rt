@@ -43,10 +43,16 @@ pub(crate) fn shortest(alloc: Global, line: &str) -> Result<Option<Step>, NoMemo
     }
 }
 
-/// The verb, and what stands behind it.
+/// The verb, and what stands behind it. The verbs that come most are found in one comparison.
 fn head(line: &str) -> Option<(&str, &str)>
     ensures { IfSome result (λ p. line.now ≡ codes "{\"do\":" ++ (quoted_text p.0.now ++ p.1.now)) }
 {
+    if let Some(rest) = after(line, "{\"do\":\"deliver\"") {
+        return Some(("deliver", rest));
+    }
+    if let Some(rest) = after(line, "{\"do\":\"post\"") {
+        return Some(("post", rest));
+    }
     string_behind(line, "{\"do\":")
 }
 

@@ -31,6 +31,7 @@ pub(crate) fn begun_path(alloc: Global, width: usize) -> Result<VecDeque<Interva
 }
 
 /// Adds an interval and its record. Where that finds no memory, both stay.
+#[inline(always)]
 pub(crate) fn append(
     intervals: &mut VecDeque<Interval>,
     volatile: &mut VolatileLog,

@@ -23,6 +23,6 @@ pub(crate) fn receipt(
         letter,
         number,
         text: Text::of(alloc, "x")?,
-        vector: Marks::new(vector.to_vec(alloc)?),
+        vector: Marks::of(alloc, vector)?,
     })
 }

@@ -33,7 +33,7 @@ module _ {S : Type 0} (M : Meaning S) (name : List ℕ) (live : ℕ → List ℕ
   pub status_done : (m : Member S) → slice_get t.members u ≡ Some m → (at : Mark) (held known outside released rows stable : ℕ) (up : Bool) (volatile : ℕ)
       → ((x : Unit S) → IsKept m.recovering → IsSeen m.recovering x → at ≡ last_mark u x) → held ≡ length m.outputs → known ≡ m.known → outside ≡ m.recovering.outside
       → ((texts : List (List ℕ)) → slice_get t.released u ≡ Some texts → released ≡ length texts) → rows ≡ length t.table → stable ≡ stable_places m.recovering - 1 → up ≡ is_some m.recovering.progress → volatile ≡ length m.recovering.volatile
-      → Leaves M name live (status M w u) (Status at held known outside released rows stable up volatile) t log
+      → Leaves M name live (status M w u) (Status up at held known outside released rows stable volatile) t log
   status_done m found at held known outside released rows stable up volatile a b c d e f g h v =
       let x = keeps t live k s.1 u m found in
       let i = x.is in
@@ -47,7 +47,7 @@ module _ {S : Type 0} (M : Meaning S) (name : List ℕ) (live : ℕ → List ℕ
       let g' : x.unit.stable - 1 ≡ stable = ap (λ n. n - 1) i.seen.stable ∙ sym g in
       let h' : x.unit.up ≡ up = i.seen.up ∙ sym h in
       leaves M name live log (status M w u) (λ z f. stepped (record { step = StatusStep u; said = record { appended = 0; end = Whole } }) s.2.reached f) _
-      (record { reply = Status at held known outside released rows stable up volatile; state = k })
+      (record { reply = Status up at held known outside released rows stable volatile; state = k })
       (statuses_follow M name k w log s.2 u)
-      (ap (at_unit_of k (status_of k u)) x.at ∙ (λ j. record { reply = Status (a' j) (b' j) (c' j) (d' j) (e' j) (f' j) (g' j) (h' j) ((all.unstable ∙ sym v) j); state = k }))
+      (ap (at_unit_of k (status_of k u)) x.at ∙ (λ j. record { reply = Status (h' j) (a' j) (b' j) (c' j) (d' j) (e' j) (f' j) (g' j) ((all.unstable ∙ sym v) j); state = k }))
       t s.1

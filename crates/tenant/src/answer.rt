@@ -4,10 +4,11 @@ ghost use Rattle.std.specs.Prelude.{◌≡◌, IfOk, IsOk};
 ghost use Rattle.model.specs.Records.{quiet as quiet_said};
 ghost use Rattle.tenant.specs.Outcomes.{IsPlain, failing};
 ghost use Rattle.model.specs.declared.refusals.Refusal.TheVariants.{Store};
-ghost use Rattle.model.specs.declared.replies.Reply.TheVariants.{Refused};
+ghost use Rattle.model.specs.declared.replies.Reply.TheVariants.{Accepted, Refused};
 
-use model::{End, NoMemory, Refusal, Reply, Said};
+use model::{End, Letters, Mark, NoMemory, Refusal, Reply, Said};
 use std::alloc::Global;
+use std::marker::Model;
 
 /// What the store said during a step, and the reply twice: one is given, and one is kept. Both are
 /// made before the step changes anything.
@@ -82,6 +83,75 @@ impl Answer {
             },
             kept: Reply::Refused {
                 refusal: Refusal::Store,
+            },
+        }
+    }
+}
+
+/// The answer to a receipt, in few bytes until it is given: the mark of the new interval, the outputs then held, and the
+/// letters that it made, twice.
+#[derive(Drop)]
+pub(crate) struct Acceptance {
+    at: Mark,
+    held: u64,
+    letters: Letters,
+    kept: Letters,
+}
+
+impl Model for Acceptance {
+    ghost use Rattle.model.specs.Records.{quiet};
+    ghost use Rattle.model.specs.declared.replies.Reply.TheVariants.{Accepted};
+    ghost use Rattle.tenant.specs.declared.answer.Answer.{Answer as AnswerOf};
+
+    ghost Value = { AnswerOf };
+
+    ghost view = { λ a. record {
+      said = quiet;
+      reply = Accepted a.at a.held a.letters;
+      kept = Accepted a.at a.held a.kept;
+    } };
+}
+
+impl Acceptance {
+    /// A receipt is accepted.
+    ///
+    /// # Errors
+    ///
+    /// `NoMemory` where the second list of letters finds no memory.
+    pub(crate) fn new(
+        alloc: Global,
+        at: Mark,
+        held: u64,
+        letters: Letters,
+    ) -> Result<Acceptance, NoMemory>
+        ensures { IfOk result (λ a. (a.reply ≡ Accepted at held letters) × IsPlain a) }
+    {
+        let kept = letters.copy(alloc)?;
+        Ok(Acceptance {
+            at,
+            held,
+            letters,
+            kept,
+        })
+    }
+
+    /// The answer itself.
+    pub(crate) fn into_answer(self) -> Answer
+        ensures { result ≡ self }
+    {
+        let Acceptance {
+            at,
+            held,
+            letters,
+            kept,
+        } = self;
+        Answer {
+            said: quiet(),
+            reply: Reply::Accepted { at, held, letters },
+            kept: Reply::Accepted {
+                at,
+                held,
+                letters: kept,
             },
         }
     }

@@ -12,12 +12,12 @@ ghost use Rattle.tenant.specs.Kept.{IsNext, Member as MemberOf, next_record_of, 
 ghost use Rattle.tenant.specs.Outcomes.{IsPlain};
 ghost use Rattle.tenant.specs.Plans.{IsPlan, IsPlanned, arrived};
 
-use crate::answer::Answer;
+use crate::answer::{Acceptance, Answer};
 use crate::member::Member;
 use crate::tenant::Tenant;
 use depvector::SharedVector;
 use handler::{Ask, Done, Handler, Turn};
-use model::{Letter, Letters, NoMemory, Record, Refusal, Reply, Source, TenantName, Text, Unit};
+use model::{Letter, Letters, NoMemory, Record, Refusal, Source, TenantName, Text, Unit};
 use session::Sessions;
 use std::alloc::Global;
 use unit_steps::{SentLetter, letters_by, mark_upon, record_upon, turn_refusal, vector_upon};
@@ -37,7 +37,7 @@ pub(crate) struct Arrival<'a> {
 pub(crate) struct Plan {
     pub(crate) logged: Record,
     pub(crate) made: Vec<SentLetter>,
-    pub(crate) answer: Answer,
+    pub(crate) answer: Acceptance,
 }
 
 /// The turn that a unit has upon this text, or that it is down.
@@ -176,7 +176,7 @@ impl<H: Handler> Tenant<H> {
         member: &Member<H>,
         made: usize,
         turn: &Turn<H::State>,
-    ) -> Result<Answer, NoMemory>
+    ) -> Result<Acceptance, NoMemory>
         requires room { places member.now.recovering < 2 ^ 32 }
         requires held { length member.now.outputs + length turn.now.outputs < 2 ^ 32 }
         requires letters { length self.now.letters + length (sends_within (length self.now.members) turn.now) < 2 ^ 32 }
@@ -185,12 +185,9 @@ impl<H: Handler> Tenant<H> {
         ensures plain { IfOk result IsPlain }
     {
         let letters = Letters::from_first(alloc, self.letters.len(), made)?;
-        let reply = Reply::Accepted {
-            at: mark_upon(&self.table, unit, member.recovering()),
-            held: member.held_count() as u64 + turn.outputs().len() as u64,
-            letters,
-        };
-        Answer::plain(alloc, reply)
+        let at = mark_upon(&self.table, unit, member.recovering());
+        let held = member.held_count() as u64 + turn.outputs().len() as u64;
+        Acceptance::new(alloc, at, held, letters)
     }
 
     /// What a receipt adds and answers that passed all tests, where the unit's sessions are these.
@@ -278,6 +275,6 @@ impl<H: Handler> Tenant<H> {
             made,
             worked,
         )?;
-        Ok(answer)
+        Ok(answer.into_answer())
     }
 }

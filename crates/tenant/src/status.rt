@@ -30,8 +30,8 @@ struct Standing {
 
 impl Standing {
     fn reply(&self) -> Reply
-        ensures { result ≡ Status self.now.at self.now.held self.now.known self.now.outside self.now.released
-            self.now.rows self.now.stable self.now.up self.now.volatile }
+        ensures { result ≡ Status self.now.up self.now.at self.now.held self.now.known self.now.outside
+            self.now.released self.now.rows self.now.stable self.now.volatile }
     {
         Reply::Status {
             at: self.at,

@@ -87,6 +87,7 @@ impl Model for SentLetter {
 }
 
 /// The letter of a send, of which the sender had sent so many to the receiver before.
+#[inline(always)]
 fn letter_of(
     alloc: Global,
     unit: Unit,

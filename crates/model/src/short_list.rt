@@ -1,0 +1,85 @@
+//! Where the items of a list lie that is mostly short.
+
+ghost use Rattle.std.specs.Prelude.{◌≡◌, ◌≤◌, IfOk, IfSome, IsSome, length};
+ghost use Rattle.model.specs.Storage.{stored_items};
+
+use crate::fault::NoMemory;
+use std::alloc::Global;
+use std::sync::ArcSlice;
+
+/// How many items of a list lie in the value itself.
+pub(crate) const MAX_INLINE_ITEMS: usize = 4;
+
+/// Where the items of a list lie.
+#[derive(Debug, Drop)]
+pub(crate) enum ShortList<T> {
+    // In the value itself: the first so many of these.
+    Zero,
+    One([T; MAX_INLINE_ITEMS]),
+    Two([T; MAX_INLINE_ITEMS]),
+    Three([T; MAX_INLINE_ITEMS]),
+    Four([T; MAX_INLINE_ITEMS]),
+    // In one place in memory, which goes with the last of its copies.
+    Shared(ArcSlice<T>),
+}
+
+impl<T: Copy> ShortList<T> {
+    /// The items in the value itself, where there are so few.
+    #[inline(always)]
+    fn inline(items: &[T]) -> Option<ShortList<T>>
+        ensures few { length items.now ≤ 4 → IsSome result }
+        ensures same { IfSome result (λ l. stored_items l ≡ items.now) }
+    {
+        match items {
+            [] => Some(ShortList::Zero),
+            [a] => Some(ShortList::One([*a, *a, *a, *a])),
+            [a, b] => Some(ShortList::Two([*a, *b, *b, *b])),
+            [a, b, c] => Some(ShortList::Three([*a, *b, *c, *c])),
+            [a, b, c, d] => Some(ShortList::Four([*a, *b, *c, *d])),
+            _ => None,
+        }
+    }
+
+    #[inline(always)]
+    pub(crate) fn as_slice(&self) -> &[T]
+        ensures { result.now ≡ stored_items self.now }
+    {
+        match self {
+            ShortList::Zero => &[],
+            ShortList::One(items) => &items[..1],
+            ShortList::Two(items) => &items[..2],
+            ShortList::Three(items) => &items[..3],
+            ShortList::Four(items) => items,
+            ShortList::Shared(items) => items.as_slice(),
+        }
+    }
+
+    /// A list of its own of these items, which copies can share.
+    #[inline(always)]
+    pub(crate) fn of_slice(alloc: Global, items: &[T]) -> Result<ShortList<T>, NoMemory>
+        ensures { IfOk result (λ l. stored_items l ≡ items.now) }
+    {
+        match ShortList::inline(items) {
+            Some(list) => Ok(list),
+            None => Ok(ShortList::Shared(ArcSlice::from_slice(alloc, items)?)),
+        }
+    }
+
+    /// An equal list. It takes memory only where 2^63 - 1 lists share the items already.
+    #[inline(always)]
+    pub(crate) fn copy(&self, alloc: Global) -> Result<ShortList<T>, NoMemory>
+        ensures { IfOk result (λ l. stored_items l ≡ stored_items self.now) }
+    {
+        match self {
+            ShortList::Zero => Ok(ShortList::Zero),
+            ShortList::One(items) => Ok(ShortList::One(*items)),
+            ShortList::Two(items) => Ok(ShortList::Two(*items)),
+            ShortList::Three(items) => Ok(ShortList::Three(*items)),
+            ShortList::Four(items) => Ok(ShortList::Four(*items)),
+            ShortList::Shared(items) => match items.clone() {
+                Ok(shared) => Ok(ShortList::Shared(shared)),
+                Err(_) => ShortList::of_slice(alloc, items.as_slice()),
+            },
+        }
+    }
+}
