@@ -1,7 +1,7 @@
 //! The line that tells a reply, written after what a buffer holds: the words of each reply as they stand in its text,
 //! and its numbers and names between them.
 
-ghost use Rattle.std.specs.Prelude.{◌≡◌, ◌++◌, IfOk, OnOk, codes, decimal, false, Some};
+ghost use Rattle.std.specs.Prelude.{◌≡◌, ◌<◌, ◌++◌, IfOk, OnOk, codes, decimal, false, Some};
 ghost use Rattle.json.specs.Print.{quoted as quoted_text};
 ghost use Rattle.serde_json.specs.Written.{items_text};
 ghost use Rattle.forms.specs.Writing.{wholes, texts as texts_data, reply_text};

@@ -44,6 +44,7 @@ pub(crate) fn shortest(alloc: Global, line: &str) -> Result<Option<Step>, NoMemo
 }
 
 /// The verb, and what stands behind it. The verbs that come most are found in one comparison.
+#[tactic(auto, unfolding(json::specs::Print::escape_byte))]
 fn head(line: &str) -> Option<(&str, &str)>
     ensures { IfSome result (λ p. line.now ≡ codes "{\"do\":" ++ (quoted_text p.0.now ++ p.1.now)) }
 {
