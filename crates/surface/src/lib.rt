@@ -16,6 +16,8 @@ mod ident_calls;
 #[cfg(test)]
 mod incarnation_calls;
 #[cfg(test)]
+mod letters_calls;
+#[cfg(test)]
 mod orphan_calls;
 #[cfg(test)]
 mod output_commit_calls;
