@@ -55,8 +55,7 @@ impl SharedVector {
     ///
     /// # Errors
     ///
-    /// `NoMemory` where there are 2^63 - 1 copies already, or where the marks lie in a place of their own and a copy of
-    /// them finds no memory.
+    /// `NoMemory` where there are 2^63 - 1 copies already, and one more finds no memory.
     #[inline(always)]
     pub fn of(alloc: Global, marks: &Marks) -> Result<SharedVector, NoMemory>
         requires { length marks.now ≤ 256 }

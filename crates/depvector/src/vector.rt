@@ -100,7 +100,6 @@ impl DepVector {
     /// Takes the later mark for each unit: by incarnation, then by index. Takes no memory.
     ///
     /// The other vector is not the longer one, since a tenant's units are never fewer than they were.
-    #[tactic(auto, using(crate::proofs::Joins::joins))]
     pub fn join(&mut self, other: &DepVector)
         requires { length other.now ≤ length self.old }
         ensures { self.new ≡ joined self.old other.now }

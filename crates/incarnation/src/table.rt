@@ -47,6 +47,7 @@ impl StartTable {
     }
 
     /// How many rows there are.
+    #[inline(always)]
     pub fn len(&self) -> usize
         ensures { result ≡ length self.now }
     {
@@ -98,6 +99,7 @@ impl StartTable {
     /// Whether the mark's incarnation is the unit's first or has a row among the first `known` ones.
     /// Takes no memory, and looks at one row.
     #[tactic(auto, using(crate::proofs::FilesLaws::tells_is, crate::proofs::FilesLaws::tells_none))]
+    #[inline(always)]
     pub fn tells_of(&self, known: usize, unit: Unit, mark: Mark) -> bool
         ensures { result ≡ mark_told (take known self.now) unit mark }
     {
@@ -110,6 +112,7 @@ impl StartTable {
     /// Whether the first `known` rows lose the unit's interval with this mark.
     /// Takes no memory, and looks at no more than 64 numbers.
     #[tactic(auto, using(crate::proofs::FilesLaws::loses_is, crate::proofs::FilesLaws::loses_none))]
+    #[inline(always)]
     pub fn loses(&self, known: usize, unit: Unit, mark: Mark) -> bool
         ensures { result ≡ mark_lost (take known self.now) unit mark }
     {
@@ -120,6 +123,7 @@ impl StartTable {
     }
 
     /// What is filed for a unit, if anything.
+    #[inline(always)]
     fn filed(&self, unit: Unit) -> Option<&UnitRows>
         ensures filed { MatchOption result (filed_of self.now unit ≡ nothing_filed) (λ f.
             f.now ≡ filed_of self.now unit) }

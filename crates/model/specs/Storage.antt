@@ -14,6 +14,5 @@ abbrev pub stored_items : {T : Type 0} → ShortList T → List T
 stored_items lists.Zero = []
 stored_items (lists.One items) = take 1 items
 stored_items (lists.Two items) = take 2 items
-stored_items (lists.Three items) = take 3 items
-stored_items (lists.Four items) = items
+stored_items (lists.Three items) = items
 stored_items (lists.Shared items) = arc_slice_items items

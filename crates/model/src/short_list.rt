@@ -8,7 +8,7 @@ use std::alloc::Global;
 use std::sync::ArcSlice;
 
 /// How many items of a list lie in the value itself.
-pub(crate) const MAX_INLINE_ITEMS: usize = 4;
+pub(crate) const MAX_INLINE_ITEMS: usize = 3;
 
 /// Where the items of a list lie.
 #[derive(Debug, Drop)]
@@ -18,7 +18,6 @@ pub(crate) enum ShortList<T> {
     One([T; MAX_INLINE_ITEMS]),
     Two([T; MAX_INLINE_ITEMS]),
     Three([T; MAX_INLINE_ITEMS]),
-    Four([T; MAX_INLINE_ITEMS]),
     // In one place in memory, which goes with the last of its copies.
     Shared(ArcSlice<T>),
 }
@@ -27,15 +26,14 @@ impl<T: Copy> ShortList<T> {
     /// The items in the value itself, where there are so few.
     #[inline(always)]
     fn inline(items: &[T]) -> Option<ShortList<T>>
-        ensures few { length items.now ≤ 4 → IsSome result }
+        ensures few { length items.now ≤ MAX_INLINE_ITEMS → IsSome result }
         ensures same { IfSome result (λ l. stored_items l ≡ items.now) }
     {
         match items {
             [] => Some(ShortList::Zero),
-            [a] => Some(ShortList::One([*a, *a, *a, *a])),
-            [a, b] => Some(ShortList::Two([*a, *b, *b, *b])),
-            [a, b, c] => Some(ShortList::Three([*a, *b, *c, *c])),
-            [a, b, c, d] => Some(ShortList::Four([*a, *b, *c, *d])),
+            [a] => Some(ShortList::One([*a, *a, *a])),
+            [a, b] => Some(ShortList::Two([*a, *b, *b])),
+            [a, b, c] => Some(ShortList::Three([*a, *b, *c])),
             _ => None,
         }
     }
@@ -48,8 +46,7 @@ impl<T: Copy> ShortList<T> {
             ShortList::Zero => &[],
             ShortList::One(items) => &items[..1],
             ShortList::Two(items) => &items[..2],
-            ShortList::Three(items) => &items[..3],
-            ShortList::Four(items) => items,
+            ShortList::Three(items) => items,
             ShortList::Shared(items) => items.as_slice(),
         }
     }
@@ -75,7 +72,6 @@ impl<T: Copy> ShortList<T> {
             ShortList::One(items) => Ok(ShortList::One(*items)),
             ShortList::Two(items) => Ok(ShortList::Two(*items)),
             ShortList::Three(items) => Ok(ShortList::Three(*items)),
-            ShortList::Four(items) => Ok(ShortList::Four(*items)),
             ShortList::Shared(items) => match items.clone() {
                 Ok(shared) => Ok(ShortList::Shared(shared)),
                 Err(_) => ShortList::of_slice(alloc, items.as_slice()),

@@ -19,7 +19,7 @@ use arrayvec::ArrayString;
 use std::alloc::Global;
 use std::hash::{Hash, Hasher};
 use std::marker::Model;
-use std::sync::{ArcSlice, ArcStr};
+use std::sync::ArcStr;
 
 /// How many bytes a text may have that lies in the value itself.
 const MAX_INLINE_BYTES: usize = 16;
@@ -260,7 +260,11 @@ fn letters_from(alloc: Global, first: usize, n: usize) -> Result<Vec<Letter>, No
 }
 
 impl Letters {
-    /// A list of its own of these letters. A short one takes no memory.
+    /// A list of its own of these letters.
+    ///
+    /// # Errors
+    ///
+    /// `NoMemory` where they find no memory. A short list takes none.
     #[inline(always)]
     pub fn of(alloc: Global, letters: &[Letter]) -> Result<Letters, NoMemory>
         ensures { IfOk result (λ ls. ls ≡ letters.now) }
@@ -270,6 +274,10 @@ impl Letters {
     }
 
     /// The `n` letters from `first` on.
+    ///
+    /// # Errors
+    ///
+    /// `NoMemory` where they find no memory. One or two take none.
     #[inline(always)]
     pub fn from_first(alloc: Global, first: usize, n: usize) -> Result<Letters, NoMemory>
         requires { first + n < 2 ^ 32 }
@@ -279,7 +287,7 @@ impl Letters {
             0 => ShortList::Zero,
             1 => ShortList::of_slice(alloc, &[nth(first, 0)])?,
             2 => ShortList::of_slice(alloc, &[nth(first, 0), nth(first, 1)])?,
-            _ => ShortList::Shared(ArcSlice::from_vec(letters_from(alloc, first, n)?)?),
+            _ => ShortList::of_slice(alloc, letters_from(alloc, first, n)?.as_slice())?,
         };
         Ok(Letters { letters })
     }

@@ -25,6 +25,7 @@
 
 mod paths;
 mod vectors;
+mod without_rows;
 
 pub use paths::first_orphan;
 pub use vectors::{any_blind, any_lost, count_unstable, is_blind, is_orphan, unstable_units};

@@ -3,6 +3,7 @@
 ghost use Rattle.std.specs.Prelude.{◌≡◌, ◌≤◌, ◌<◌, length, take};
 ghost use Rattle.orphan.specs.Tests.{is_blind_by, is_orphan_by, is_stable_by, unstable_count};
 
+use crate::without_rows;
 use depvector::DepVector;
 use incarnation::StartTable;
 use model::{Mark, Unit};
@@ -20,6 +21,9 @@ pub fn any_blind(marks: &[Mark], table: &StartTable, known: usize) -> bool
     requires { length marks.now ≤ 256 }
     ensures { result ≡ is_blind_by (take known table.now) marks.now }
 {
+    if table.len() == 0 {
+        return without_rows::any_blind(marks);
+    }
     for (unit, mark) in marks.iter().enumerate() {
         if !table.tells_of(known, Unit::new(unit as u8), *mark) {
             return true;
@@ -36,10 +40,14 @@ pub fn is_orphan(vector: &DepVector, table: &StartTable, known: usize) -> bool
 }
 
 /// As [`is_orphan`], for a vector's marks, unit 0 first.
+#[tactic(auto, using(crate::proofs::NoRows::none_lost))]
 pub fn any_lost(marks: &[Mark], table: &StartTable, known: usize) -> bool
     requires { length marks.now ≤ 256 }
     ensures { result ≡ is_orphan_by (take known table.now) marks.now }
 {
+    if table.len() == 0 {
+        return false;
+    }
     for (unit, mark) in marks.iter().enumerate() {
         if table.loses(known, Unit::new(unit as u8), *mark) {
             return true;
@@ -73,6 +81,9 @@ pub fn count_unstable(marks: &[Mark], table: &StartTable, stable_lengths: &[u64]
     requires given { length marks.now ≤ length stable_lengths.now }
     ensures { result ≡ unstable_count table.now stable_lengths.now marks.now }
 {
+    if table.len() == 0 {
+        return without_rows::count_unstable(marks, stable_lengths);
+    }
     let mut count = 0;
     for (unit, mark) in marks.iter().enumerate() {
         if !is_stable(table, stable_lengths, unit, *mark) {

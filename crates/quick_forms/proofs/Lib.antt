@@ -4,4 +4,5 @@ mod Turns
 mod Written
 mod Lists
 mod Parts
+mod Plain
 mod Compact

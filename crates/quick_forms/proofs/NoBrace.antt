@@ -1,12 +1,12 @@
 -- A text that begins with neither a space nor a brace that opens is no step.
-use Rattle.std.proofs.Common.{◌≡◌, refl, sym, ap, ◌∙◌, ℕ, Bool, true, false, cond, ◌||◌, List, [], ◌∷◌, ◌-◌, length, take}
+use Rattle.std.proofs.Common.{◌≡◌, refl, ap, ◌∙◌, ℕ, Bool, true, false, cond, List, [], ◌∷◌, ◌-◌, length, take}
 use Rattle.std.specs.Prelude.{◌==◌, not, slice_get, IsTrue, Option, Some, None}
 use Rattle.std.proofs.lemmas.Bool.{not-true, true≢false}
 use Rattle.std.proofs.lemmas.Option.{same_Some}
 use Rattle.json.specs.Ascii as ascii
 use Rattle.json.specs.Token.{Token, begin_object, end_object, begin_array, end_array, key, string, number, boolean, null, bad}
-use Rattle.json.specs.Word.{is_operator, is_space, word, number_before, literal, after_number, ends_word, head}
-use Rattle.json.specs.Lex.{Class, Lexeme, Mode, Place, begins_colon, class, comma, colon, fresh, lex, lex_byte, operator_lexeme, place_token, punctuate, string_token, token, tokens}
+use Rattle.json.specs.Word.{is_operator, is_space, word, number_before, after_number, ends_word, head}
+use Rattle.json.specs.Lex.{Class, Lexeme, Mode, Place, begins_colon, comma, colon, fresh, lex, lex_byte, operator_lexeme, place_token, punctuate, string_token, token, tokens}
 use Rattle.quick_forms.specs.Seen.{step_of_tokens}
 use Rattle.quick_forms.proofs.NoStep.{nothing_is_no_step, closing_is_no_step, array_is_no_step, bracket_is_no_step, key_is_no_step, text_is_no_step, number_is_no_step, flag_is_no_step, null_is_no_step, bad_is_no_step}
 

@@ -54,7 +54,7 @@ fn head(line: &str) -> Option<(&str, &str)>
     if let Some(rest) = after(line, "{\"do\":\"post\"") {
         return Some(("post", rest));
     }
-    string_behind(line, "{\"do\":")
+    plain_before(after(line, "{\"do\":\"")?, "\"")
 }
 
 /// What a post says behind its verb: its number, tenant, text and unit.
@@ -62,9 +62,9 @@ fn post_parts(rest: &str) -> Option<(u64, &str, &str, u64)>
     ensures { IfSome result (λ p. rest.now ≡ post_tail p.0 p.1.now p.2.now p.3) }
 {
     let (number, rest) = number_behind(rest, ",\"number\":")?;
-    let (tenant, rest) = string_behind(rest, ",\"tenant\":")?;
-    let (text, rest) = string_behind(rest, ",\"text\":")?;
-    let (unit, rest) = number_behind(rest, ",\"unit\":")?;
+    let (tenant, rest) = plain_before(after(rest, ",\"tenant\":\"")?, "\",\"text\":\"")?;
+    let (text, rest) = plain_before(rest, "\",\"unit\":")?;
+    let (unit, rest) = whole(rest)?;
     if rest == "}" {
         Some((number, tenant, text, unit))
     } else {
@@ -77,8 +77,8 @@ fn deliver_parts(rest: &str) -> Option<(u64, &str)>
     ensures { IfSome result (λ p. rest.now ≡ deliver_tail p.0 p.1.now) }
 {
     let (letter, rest) = number_behind(rest, ",\"letter\":")?;
-    let (tenant, rest) = string_behind(rest, ",\"tenant\":")?;
-    if rest == "}" {
+    let (tenant, rest) = plain_before(after(rest, ",\"tenant\":\"")?, "\"}")?;
+    if rest.is_empty() {
         Some((letter, tenant))
     } else {
         None
@@ -89,20 +89,13 @@ fn deliver_parts(rest: &str) -> Option<(u64, &str)>
 fn place_parts(rest: &str) -> Option<(&str, u64)>
     ensures { IfSome result (λ p. rest.now ≡ place_tail p.0.now p.1) }
 {
-    let (tenant, rest) = string_behind(rest, ",\"tenant\":")?;
-    let (unit, rest) = number_behind(rest, ",\"unit\":")?;
+    let (tenant, rest) = plain_before(after(rest, ",\"tenant\":\"")?, "\",\"unit\":")?;
+    let (unit, rest) = whole(rest)?;
     if rest == "}" {
         Some((tenant, unit))
     } else {
         None
     }
-}
-
-/// The string behind these words, and what stands behind it, where the text begins so.
-fn string_behind<'a>(text: &'a str, words: &str) -> Option<(&'a str, &'a str)>
-    ensures { IfSome result (λ p. text.now ≡ words.now ++ (quoted_text p.0.now ++ p.1.now)) }
-{
-    quoted(after(text, words)?)
 }
 
 /// The number behind these words, and what stands behind it, where the text begins so.
@@ -119,13 +112,14 @@ fn after<'a>(text: &'a str, words: &str) -> Option<&'a str>
     text.strip_prefix(words)
 }
 
-/// The string that the text begins with, where it needs no escape, and what stands behind it.
-fn quoted(text: &str) -> Option<(&str, &str)>
-    ensures { IfSome result (λ p. text.now ≡ quoted_text p.0.now ++ p.1.now) }
+/// The string without an escape that the text begins with, up to these words, and what stands behind them. The words
+/// begin with the quote that ends the string.
+fn plain_before<'a>(text: &'a str, words: &str) -> Option<(&'a str, &'a str)>
+    ensures text { IfSome result (λ p. text.now ≡ p.0.now ++ (words.now ++ p.1.now)) }
+    ensures plain { IfSome result (λ p. escape p.0.now ≡ p.0.now) }
 {
-    let inner = after(text, "\"")?;
-    let (string, rest) = inner.split_at_checked(plain_len(inner.as_bytes()))?;
-    let rest = after(rest, "\"")?;
+    let (string, rest) = text.split_at_checked(plain_len(text.as_bytes()))?;
+    let rest = after(rest, words)?;
     Some((string, rest))
 }
 

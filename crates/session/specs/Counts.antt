@@ -1,5 +1,5 @@
 -- What a unit took from each source and sent to each unit.
-use Rattle.std.specs.Prelude.{ℕ, ◌+◌, ◌^◌, ◌<◌, List, length, replicate, slice_index_or, slice_set}
+use Rattle.std.specs.Prelude.{ℕ, ◌+◌, ◌^◌, ◌<◌, ◌≤◌, List, length, replicate, slice_index_or, slice_set}
 use Rattle.model.specs.declared.names.Source.{Source}
 use Rattle.model.specs.declared.names.Source.TheVariants.{Outside, Unit as FromUnit}
 use Rattle.model.specs.Lists.{padded}
@@ -57,3 +57,7 @@ sent_one c unit =
 -- the counts of a tenant that has n units now
 abbrev pub widened_counts : Counts → ℕ → Counts
 widened_counts c n = record c { units = padded nothing c.units n }
+
+-- no unit was sent more letters
+abbrev pub NoneSentMore : List Exchange → ℕ → Type 0
+NoneSentMore units most = (unit : ℕ) → (slice_index_or units unit nothing).sent ≤ most

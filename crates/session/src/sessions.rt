@@ -20,14 +20,18 @@ use std::marker::Model;
 pub struct Sessions {
     outside: u64,
     units: Vec<Exchange>,
+    // No unit was sent more letters than so many, by which mostly no count need be looked at.
+    most_sent: u64,
 }
 
 impl Model for Sessions {
-    ghost use Rattle.session.specs.Counts.{Counts};
+    ghost use Rattle.session.specs.Counts.{Counts, NoneSentMore};
 
     ghost Value = { Counts };
 
     ghost view = { λ s. record { outside = s.outside; units = s.units.items } };
+
+    ghost invariant = { λ s. NoneSentMore s.units.items s.most_sent };
 }
 
 impl Sessions {
@@ -40,7 +44,11 @@ impl Sessions {
         ensures { IfOk result (λ s. s ≡ no_counts n) }
     {
         let units = vec![in alloc; Exchange::none(); n]?;
-        Ok(Sessions { outside: 0, units })
+        Ok(Sessions {
+            outside: 0,
+            units,
+            most_sent: 0,
+        })
     }
 
     /// How many units have an entry.
@@ -80,7 +88,17 @@ impl Sessions {
     pub fn has_room(&self, source: Source, letters: usize) -> bool
         ensures { IsTrue result ↔ HasRoom self.now source letters }
     {
-        self.can_advance(source) && have_room(self.units.as_slice(), letters as u64)
+        self.can_advance(source) && self.can_send(letters as u64)
+    }
+
+    /// Whether so many more letters to each unit can be counted.
+    fn can_send(&self, letters: u64) -> bool
+        ensures { IsTrue result ↔ ((unit : ℕ) → sent_to self.now unit + letters < 2 ^ 64) }
+    {
+        if self.most_sent <= u64::MAX - letters {
+            return true;
+        }
+        have_room(self.units.as_slice(), letters)
     }
 
     /// Whether one more receipt from the source can be counted.
@@ -126,6 +144,7 @@ impl Sessions {
     {
         let exchange = &mut self.units[usize::from(unit.number())];
         exchange.sent += 1;
+        self.most_sent = self.most_sent.saturating_add(1);
     }
 
     /// Cuts every count back to those of an earlier snapshot. Units that joined since then are again
@@ -135,6 +154,7 @@ impl Sessions {
         ensures { self.new ≡ widened_counts snapshot.now (length self.old.units) }
     {
         self.outside = snapshot.outside;
+        self.most_sent = snapshot.most_sent;
         cut_all(self.units.as_mut_slice(), snapshot.units.as_slice());
     }
 
@@ -166,6 +186,7 @@ impl Sessions {
         Ok(Sessions {
             outside: self.outside,
             units,
+            most_sent: self.most_sent,
         })
     }
 }

@@ -218,6 +218,7 @@ impl<H: Handler> Tenant<H> {
     }
 
     /// What a receipt adds and answers that passed the tests before its turn, or why it is refused for what its turn makes.
+    #[inline(always)]
     pub(crate) fn planned(
         &self,
         alloc: Global,
@@ -246,6 +247,7 @@ impl<H: Handler> Tenant<H> {
     }
 
     /// Takes a receipt as it was planned.
+    #[inline(always)]
     pub(crate) fn enter(
         &mut self,
         unit: Unit,
