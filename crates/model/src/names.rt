@@ -1,6 +1,6 @@
 //! Names of units, kinds, letters and intervals.
 
-ghost use Rattle.std.specs.Prelude.{◌≡◌};
+ghost use Rattle.std.specs.Prelude.{◌≡◌, ◌+◌, ◌*◌};
 ghost use Rattle.model.specs.World.{greater_mark};
 
 use std::marker::Model;
@@ -120,14 +120,29 @@ pub struct Mark {
     pub index: u32,
 }
 
+/// How many indices 32 bits have.
+const INDICES: u64 = 4_294_967_296;
+
 impl Mark {
     /// The later of two marks: by incarnation, then by index.
+    #[tactic(auto, using(crate::proofs::Later::order_tells))]
+    #[inline(always)]
     pub fn later(self, other: Mark) -> Mark
         ensures { result ≡ greater_mark self other }
     {
-        let is_later = self.incarnation < other.incarnation
-            || (self.incarnation == other.incarnation && self.index <= other.index);
-        if is_later { other } else { self }
+        if self.order() <= other.order() {
+            other
+        } else {
+            self
+        }
+    }
+
+    /// A number that is greater where the mark is later, so that one comparison tells.
+    #[inline(always)]
+    fn order(self) -> u64
+        ensures { result ≡ self.incarnation * INDICES + self.index }
+    {
+        u64::from(self.incarnation) * INDICES + u64::from(self.index)
     }
 }
 

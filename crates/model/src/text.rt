@@ -170,7 +170,7 @@ impl Model for Texts {
 fn copies(alloc: Global, texts: &[Text]) -> Result<Vec<Text>, NoMemory>
     ensures { IfOk result (λ ts. ts.items ≡ texts.now) }
 {
-    let mut all = Vec::new(alloc);
+    let mut all = Vec::with_capacity(alloc, texts.len())?;
     for text in texts {
         all.push(text.copy()?)?;
     }

@@ -17,6 +17,10 @@ is_orphan_by rows vector = any_mark (mark_lost rows) 0 vector
 abbrev pub is_stable_by : List Row → List ℕ → ℕ → Mark → Bool
 is_stable_by rows stable_lengths u g = nat_lt g.index (slice_index stable_lengths u) && not (mark_lost rows u g)
 
+-- some entry is not stable
+abbrev pub is_unstable_by : List Row → List ℕ → List Mark → Bool
+is_unstable_by rows stable_lengths vector = any_mark (λ u g. not (is_stable_by rows stable_lengths u g)) 0 vector
+
 -- how many marks pass, where the marks are of the units from u on
 abbrev pub count_marks : (ℕ → Mark → Bool) → ℕ → List Mark → ℕ
 count_marks p u [] = 0

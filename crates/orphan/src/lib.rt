@@ -1,8 +1,8 @@
 //! Tests of dependency vectors against the rows of a tenant: what is blind, an orphan or unstable
 //! (orphans are those of Strom and Yemini 1985).
 //!
-//! - `is_blind`, `is_orphan`, `unstable_units`: tests of one vector, and by its marks alone `any_blind`, `any_lost` and
-//!   `count_unstable`;
+//! - `is_blind`, `is_orphan`, `unstable_units`: tests of one vector, and by its marks alone `any_blind`, `any_lost`,
+//!   `count_unstable` and `any_unstable`;
 //! - `first_orphan`: the first place of a path that is an orphan.
 //!
 //! Of vectors that hold the greatest mark of each unit in a past, these are the definitions' tests of
@@ -28,4 +28,6 @@ mod vectors;
 mod without_rows;
 
 pub use paths::first_orphan;
-pub use vectors::{any_blind, any_lost, count_unstable, is_blind, is_orphan, unstable_units};
+pub use vectors::{
+    any_blind, any_lost, any_unstable, count_unstable, is_blind, is_orphan, unstable_units,
+};

@@ -1,7 +1,7 @@
 //! Tests of one vector.
 
 ghost use Rattle.std.specs.Prelude.{◌≡◌, ◌≤◌, ◌<◌, length, take};
-ghost use Rattle.orphan.specs.Tests.{is_blind_by, is_orphan_by, is_stable_by, unstable_count};
+ghost use Rattle.orphan.specs.Tests.{is_blind_by, is_orphan_by, is_stable_by, is_unstable_by, unstable_count};
 
 use crate::without_rows;
 use depvector::DepVector;
@@ -91,4 +91,22 @@ pub fn count_unstable(marks: &[Mark], table: &StartTable, stable_lengths: &[u64]
         }
     }
     count
+}
+
+/// Whether some entry is lost, or does not stand within the unit's stable length, for a vector's marks, unit 0 first.
+/// There is a stable length for each entry. Takes no memory, and a constant time for each entry up to the first such one.
+pub fn any_unstable(marks: &[Mark], table: &StartTable, stable_lengths: &[u64]) -> bool
+    requires few { length marks.now ≤ 256 }
+    requires given { length marks.now ≤ length stable_lengths.now }
+    ensures { result ≡ is_unstable_by table.now stable_lengths.now marks.now }
+{
+    if table.len() == 0 {
+        return without_rows::any_unstable(marks, stable_lengths);
+    }
+    for (unit, mark) in marks.iter().enumerate() {
+        if !is_stable(table, stable_lengths, unit, *mark) {
+            return true;
+        }
+    }
+    false
 }

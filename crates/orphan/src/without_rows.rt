@@ -2,21 +2,26 @@
 
 ghost use Rattle.std.specs.Prelude.{◌≡◌, ◌≤◌, ◌<◌, ◌==◌, [], length, not};
 ghost use Rattle.std.specs.List.{list_any};
-ghost use Rattle.orphan.specs.Tests.{is_blind_by, is_stable_by, unstable_count};
+ghost use Rattle.orphan.specs.Tests.{is_blind_by, is_stable_by, is_unstable_by, unstable_count};
 
 use model::Mark;
 
-/// Whether a mark is of a later incarnation than the first.
-fn is_later(mark: Mark) -> bool
-    ensures { result ≡ not (mark.incarnation == 0) }
+/// The bits that some mark's incarnation has.
+fn incarnation_bits(marks: &[Mark]) -> u32
+    ensures { (result == 0) ≡ not (list_any (λ g. not (g.incarnation == 0)) marks.now) }
 {
-    mark.incarnation != 0
+    let mut bits = 0;
+    for mark in marks {
+        bits |= mark.incarnation;
+    }
+    bits
 }
 
+/// Whether a mark is of a later incarnation than the first. All are looked at: to stop at the first such one takes longer.
 fn any_later(marks: &[Mark]) -> bool
     ensures { result ≡ list_any (λ g. not (g.incarnation == 0)) marks.now }
 {
-    marks.iter().any(|mark| is_later(*mark))
+    incarnation_bits(marks) != 0
 }
 
 /// Whether some mark is one that no row tells of.
@@ -48,4 +53,18 @@ pub(crate) fn count_unstable(marks: &[Mark], stable_lengths: &[u64]) -> u32
         }
     }
     count
+}
+
+/// Whether some mark does not stand within its unit's stable length.
+pub(crate) fn any_unstable(marks: &[Mark], stable_lengths: &[u64]) -> bool
+    requires few { length marks.now ≤ 256 }
+    requires given { length marks.now ≤ length stable_lengths.now }
+    ensures { result ≡ is_unstable_by [] stable_lengths.now marks.now }
+{
+    for (unit, mark) in marks.iter().enumerate() {
+        if !is_stable(stable_lengths, unit, *mark) {
+            return true;
+        }
+    }
+    false
 }

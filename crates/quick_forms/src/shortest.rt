@@ -8,7 +8,7 @@ ghost use Rattle.json.specs.Print.{escape, escape_byte, quoted as quoted_text};
 ghost use Rattle.quick_forms.specs.Seen.{step_of_tokens};
 ghost use Rattle.quick_forms.specs.Tails.{post_tail, deliver_tail, place_tail};
 
-use crate::steps::{deliver, place, post};
+use crate::steps::{delivery, place, posted};
 use model::{NoMemory, Step};
 use std::alloc::Global;
 
@@ -22,38 +22,47 @@ pub(crate) fn shortest(alloc: Global, line: &str) -> Result<Option<Step>, NoMemo
     if line.len() > MOST_BYTES {
         return Ok(None);
     }
-    let Some((verb, rest)) = head(line) else {
-        return Ok(None);
-    };
-    if verb == "post" {
-        let Some((number, tenant, text, unit)) = post_parts(rest) else {
-            return Ok(None);
-        };
-        Ok(post(alloc, verb, number, tenant, text, unit)?)
-    } else if verb == "deliver" {
+    if let Some(rest) = behind_deliver(line) {
         let Some((letter, tenant)) = deliver_parts(rest) else {
             return Ok(None);
         };
-        Ok(deliver(verb, letter, tenant))
-    } else {
-        let Some((tenant, unit)) = place_parts(rest) else {
+        return Ok(delivery(letter, tenant));
+    }
+    if let Some(rest) = behind_post(line) {
+        let Some((number, tenant, text, unit)) = post_parts(rest) else {
             return Ok(None);
         };
-        Ok(place(verb, tenant, unit))
+        return Ok(posted(alloc, number, tenant, text, unit)?);
     }
+    let Some((verb, rest)) = head(line) else {
+        return Ok(None);
+    };
+    let Some((tenant, unit)) = place_parts(rest) else {
+        return Ok(None);
+    };
+    Ok(place(verb, tenant, unit))
 }
 
-/// The verb, and what stands behind it. The verbs that come most are found in one comparison.
+/// What stands behind the verb of a delivery.
 #[tactic(auto, unfolding(json::specs::Print::escape_byte))]
+fn behind_deliver(line: &str) -> Option<&str>
+    ensures { IfSome result (λ rest. line.now ≡ codes "{\"do\":" ++ (quoted_text (codes "deliver") ++ rest.now)) }
+{
+    after(line, "{\"do\":\"deliver\"")
+}
+
+/// What stands behind the verb of a post.
+#[tactic(auto, unfolding(json::specs::Print::escape_byte))]
+fn behind_post(line: &str) -> Option<&str>
+    ensures { IfSome result (λ rest. line.now ≡ codes "{\"do\":" ++ (quoted_text (codes "post") ++ rest.now)) }
+{
+    after(line, "{\"do\":\"post\"")
+}
+
+/// The verb, and what stands behind it.
 fn head(line: &str) -> Option<(&str, &str)>
     ensures { IfSome result (λ p. line.now ≡ codes "{\"do\":" ++ (quoted_text p.0.now ++ p.1.now)) }
 {
-    if let Some(rest) = after(line, "{\"do\":\"deliver\"") {
-        return Some(("deliver", rest));
-    }
-    if let Some(rest) = after(line, "{\"do\":\"post\"") {
-        return Some(("post", rest));
-    }
     plain_before(after(line, "{\"do\":\"")?, "\"")
 }
 

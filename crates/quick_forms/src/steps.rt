@@ -1,6 +1,6 @@
 //! The step of a line, token by token.
 
-ghost use Rattle.std.specs.Prelude.{◌≡◌, ◌<◌, ℕ, ◌∷◌, length, Some, None, Err, IfOk, IfSome, IsTrue, MatchBool, OnOk, slice_index, ◌==◌};
+ghost use Rattle.std.specs.Prelude.{◌≡◌, ◌<◌, ℕ, ◌∷◌, codes, length, Some, None, Err, IfOk, IfSome, IsTrue, MatchBool, OnOk, slice_index, ◌==◌};
 ghost use Rattle.json.specs.Json as grammar;
 ghost use Rattle.json.specs.Lex.{tokens};
 ghost use Rattle.json.specs.Token.Token.{begin_object};
@@ -272,8 +272,7 @@ fn step(alloc: Global, seen: Seen<'_>) -> Result<Option<Step>, LineFault>
     }
 }
 
-#[tactic(auto, unfolding(forms::specs::Reading::step_of, forms::specs::Reading::post_form))]
-pub(crate) fn post(
+fn post(
     alloc: Global,
     verb: &str,
     number: u64,
@@ -284,7 +283,25 @@ pub(crate) fn post(
     ensures { IfOk result (λ o. IfSome o
         (λ s. step_of (post_data verb.now number tenant.now text.now unit) ≡ Some s)) }
 {
-    if verb != "post" || number > u64::from(MAX_INDEX) || unit > 255 {
+    if verb != "post" {
+        return Ok(None);
+    }
+    posted(alloc, number, tenant, text, unit)
+}
+
+/// The step of a post of these parts.
+#[tactic(auto, unfolding(forms::specs::Reading::step_of, forms::specs::Reading::post_form))]
+pub(crate) fn posted(
+    alloc: Global,
+    number: u64,
+    tenant: &str,
+    text: &str,
+    unit: u64,
+) -> Result<Option<Step>, NoMemory>
+    ensures { IfOk result (λ o. IfSome o
+        (λ s. step_of (post_data (codes "post") number tenant.now text.now unit) ≡ Some s)) }
+{
+    if number > u64::from(MAX_INDEX) || unit > 255 {
         return Ok(None);
     }
     let Some(tenant) = TenantName::new(tenant) else {
@@ -299,11 +316,21 @@ pub(crate) fn post(
     }))
 }
 
-#[tactic(auto, unfolding(forms::specs::Reading::step_of, forms::specs::Reading::deliver_form))]
-pub(crate) fn deliver(verb: &str, letter: u64, tenant: &str) -> Option<Step>
+fn deliver(verb: &str, letter: u64, tenant: &str) -> Option<Step>
     ensures { IfSome result (λ s. step_of (deliver_data verb.now letter tenant.now) ≡ Some s) }
 {
-    if verb != "deliver" || letter > u64::from(MAX_INDEX) {
+    if verb != "deliver" {
+        return None;
+    }
+    delivery(letter, tenant)
+}
+
+/// The step of a delivery of these parts.
+#[tactic(auto, unfolding(forms::specs::Reading::step_of, forms::specs::Reading::deliver_form))]
+pub(crate) fn delivery(letter: u64, tenant: &str) -> Option<Step>
+    ensures { IfSome result (λ s. step_of (deliver_data (codes "deliver") letter tenant.now) ≡ Some s) }
+{
+    if letter > u64::from(MAX_INDEX) {
         return None;
     }
     let tenant = TenantName::new(tenant)?;

@@ -11,60 +11,13 @@ use std::alloc::Global;
 use std::marker::Model;
 use std::mem;
 
-// How many places a block has.
-const BLOCK_PLACES: u64 = 64;
+/// How many places a block has.
+const BLOCK_PLACES: u64 = 16;
 
-/// A place: its record, or none where that was forgotten.
-#[derive(Debug, Drop)]
-pub(crate) struct Place {
-    record: Option<Box<Record>>,
-}
-
-impl Model for Place {
-    ghost use Rattle.std.specs.Prelude.{Option, option_map};
-    ghost use Rattle.model.specs.declared.records.Record.{Record};
-
-    ghost Value = { Option Record };
-
-    ghost view = { λ p. option_map (λ b. b.value) p.record };
-}
-
-impl Place {
-    fn new(alloc: Global, logged: Record) -> Result<Place, NoMemory>
-        ensures { IfOk result (λ p. p ≡ Some logged) }
-    {
-        let boxed = Box::new(alloc, logged)?;
-        Ok(Place {
-            record: Some(boxed),
-        })
-    }
-
-    fn without_record() -> Place
-        ensures { result ≡ None }
-    {
-        Place { record: None }
-    }
-
-    fn record(&self) -> Option<&Record>
-        ensures { MatchOption result (self.now ≡ None) (λ r. self.now ≡ Some r.now) }
-    {
-        match &self.record {
-            Some(boxed) => Some(&**boxed),
-            None => None,
-        }
-    }
-
-    fn empty(&mut self)
-        ensures { self.new ≡ None }
-    {
-        self.record = None;
-    }
-}
-
-/// Places one after the other. Those past the end are empty.
+/// Places one after the other: their records, or none where these were forgotten. Those past the end are empty.
 #[derive(Debug, Drop)]
 struct Block {
-    places: Vec<Place>,
+    places: Vec<Option<Record>>,
 }
 
 impl Model for Block {
@@ -89,7 +42,7 @@ impl Block {
         ensures { MatchOption result (in_block self.now at ≡ None) (λ r. in_block self.now at ≡ Some r.now) }
     {
         match self.places.get(at) {
-            Some(place) => place.record(),
+            Some(place) => place.as_ref(),
             None => None,
         }
     }
@@ -100,26 +53,41 @@ impl Block {
         self.places.is_empty()
     }
 
+    /// Makes room for all places of a block at once, where there is none yet.
+    fn make_room(&mut self) -> Result<(), NoMemory>
+        ensures { self.new ≡ self.old }
+    {
+        if self.places.capacity() == 0 {
+            self.places.reserve_exact(BLOCK_PLACES as usize)?;
+        }
+        Ok(())
+    }
+
     /// Makes so many places, where there are fewer.
     fn widen(&mut self, count: usize) -> Result<(), NoMemory>
         ensures { (at : ℕ) → in_block self.new at ≡ in_block self.old at }
     {
         for _ in self.places.len()..count {
-            self.places.push(Place::without_record())?;
+            self.places.push(None)?;
         }
         Ok(())
     }
 
-    /// Puts a place in.
-    fn put(&mut self, at: usize, place: Place) -> Result<(), NoMemory>
+    /// Puts a record into a place.
+    fn put(&mut self, at: usize, logged: Record) -> Result<(), NoMemory>
         requires { at < BLOCK_PLACES }
-        ensures own { OnOk result (in_block self.new at ≡ place) }
+        ensures own { OnOk result (in_block self.new at ≡ Some logged) }
         ensures rest { (other : ℕ) → (other ≡ at → ⊥) → in_block self.new other ≡ in_block self.old other }
     {
-        self.widen(at + 1)?;
+        self.make_room()?;
+        self.widen(at)?;
+        if at == self.places.len() {
+            self.places.push(Some(logged))?;
+            return Ok(());
+        }
         match self.places.get_mut(at) {
             Some(there) => {
-                *there = place;
+                *there = Some(logged);
                 Ok(())
             }
             None => Err(NoMemory),
@@ -132,7 +100,7 @@ impl Block {
         ensures rest { (other : ℕ) → (other ≡ at → ⊥) → in_block self.new other ≡ in_block self.old other }
     {
         if let Some(place) = self.places.get_mut(at) {
-            place.empty();
+            *place = None;
         }
     }
 
@@ -140,7 +108,7 @@ impl Block {
         ensures { result ≡ true → slice_get self.now (length self.now - 1) ≡ Some None }
     {
         match self.places.last() {
-            Some(place) => place.record().is_none(),
+            Some(place) => place.is_none(),
             None => false,
         }
     }
@@ -247,7 +215,7 @@ fn index_of(place: u64) -> usize
 }
 
 /// What each place has, also those that nothing was put into yet. One block is at hand, so that an
-/// append looks another up only once in 64 places.
+/// append looks another up only once in 16 places.
 #[derive(Debug, Drop)]
 struct Blocks {
     // The block that places are put into, and its number.
@@ -307,9 +275,8 @@ impl Blocks {
         ensures own { OnOk result (in_blocks self.new place ≡ Some logged) }
         ensures rest { (other : ℕ) → (other ≡ place → ⊥) → in_blocks self.new other ≡ in_blocks self.old other }
     {
-        let kept = Place::new(*self.others.allocator(), logged)?;
         self.turn_to(number_of(place))?;
-        self.current.put(index_of(place), kept)
+        self.current.put(index_of(place), logged)
     }
 
     /// Empties a place. It takes no memory.
@@ -326,9 +293,9 @@ impl Blocks {
 }
 
 /// Records by place, seen as the list of all that came in, with empty places for those that were
-/// forgotten. A record takes memory until it is forgotten. Places take memory in blocks of 64: those
-/// blocks that keep a record, and the one that was put into last. So there is at most one block for
-/// each record that is not forgotten, and one more, however many were forgotten.
+/// forgotten. Records lie in blocks of 16 places, each with room for a record: those blocks that keep
+/// one, and the one that was put into last. So there is at most one block for each record that is not
+/// forgotten, and one more, however many were forgotten.
 #[derive(Debug, Drop)]
 pub struct Records {
     // How many came in.

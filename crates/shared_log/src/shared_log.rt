@@ -227,6 +227,9 @@ fn forget_in<S: Store>(
     ensures others { OtherLists tenant.now unit index.old index.new }
     ensures failures { S.failures store.new ≡ S.failures store.old }
 {
+    if count == 0 {
+        return;
+    }
     forget_all(store, first(index::of(index, tenant, unit), count));
     index::forget(index, tenant, unit, count);
 }

@@ -3,7 +3,7 @@ ghost use Rattle.std.specs.Prelude.{◌≡◌, ◌∷◌, [], IfOk};
 use depvector::DepVector;
 use incarnation::StartTable;
 use model::{Mark, Row, Unit};
-use orphan::{first_orphan, is_blind, is_orphan, unstable_units};
+use orphan::{any_blind, any_unstable, first_orphan, is_blind, is_orphan, unstable_units};
 use std::alloc::{AllocError, Global};
 use std::test::Fail;
 
@@ -32,6 +32,20 @@ fn tests_against_known_rows(rt: HostRuntime) -> Result<(), Fail> {
     assert!(rt; unstable_units(&lost, &table, &[3]) == 1);
     assert!(rt; unstable_units(&new, &table, &[2]) == 1);
     assert!(rt; unstable_units(&new, &table, &[3]) == 0);
+    assert!(rt; any_unstable(lost.as_slice(), &table, &[3]));
+    assert!(rt; !any_unstable(new.as_slice(), &table, &[3]));
+    Ok(())
+}
+
+#[test]
+fn tests_against_no_rows(rt: HostRuntime) -> Result<(), Fail> {
+    let table = StartTable::new(rt.alloc());
+    let first = vector(rt.alloc(), 0, 2)?;
+    let later = vector(rt.alloc(), 1, 0)?;
+    assert!(rt; any_blind(later.as_slice(), &table, 0));
+    assert!(rt; !any_blind(first.as_slice(), &table, 0));
+    assert!(rt; any_unstable(first.as_slice(), &table, &[2]));
+    assert!(rt; !any_unstable(first.as_slice(), &table, &[3]));
     Ok(())
 }
 

@@ -1,6 +1,6 @@
 //! A receipt, once its turn is worked: what it adds and answers.
 
-ghost use Rattle.std.specs.Prelude.{◌≡◌, ◌+◌, ◌<◌, ◌≤◌, ◌^◌, ◌++◌, IfOk, IfErr, None, OnErr, Some, length, slice_get, slice_set, vec_len};
+ghost use Rattle.std.specs.Prelude.{◌≡◌, ◌+◌, ◌<◌, ◌≤◌, ◌^◌, ◌++◌, IfOk, IfErr, None, OnErr, Some, length, slice_get, slice_set};
 ghost use Rattle.model.specs.Lists.{numbers_from};
 ghost use Rattle.model.specs.Nodes.{sends_within};
 ghost use Rattle.model.specs.declared.refusals.Refusal.TheVariants.{Down};
@@ -20,7 +20,7 @@ use handler::{Ask, Done, Handler, Turn};
 use model::{Letter, Letters, NoMemory, Record, Refusal, Source, TenantName, Text, Unit};
 use session::Sessions;
 use std::alloc::Global;
-use unit_steps::{SentLetter, letters_by, mark_upon, record_upon, turn_refusal, vector_upon};
+use unit_steps::{Made, SentLetter, letters_by, mark_upon, record_upon, turn_refusal, vector_upon};
 
 /// What a unit receives: from whom, which letter under which number, its text and its vector.
 #[derive(Drop)]
@@ -36,7 +36,7 @@ pub(crate) struct Arrival<'a> {
 #[derive(Drop)]
 pub(crate) struct Plan {
     pub(crate) logged: Record,
-    pub(crate) made: Vec<SentLetter>,
+    pub(crate) made: Made,
     pub(crate) answer: Acceptance,
 }
 
@@ -64,7 +64,7 @@ fn receive_at<H: Handler>(
     letters: &mut Vec<SentLetter>,
     at: usize,
     logged: Record,
-    made: Vec<SentLetter>,
+    made: Made,
     worked: Done<H>,
 ) -> Result<(), NoMemory>
     requires within { at < length members.old.items }
@@ -77,11 +77,10 @@ fn receive_at<H: Handler>(
     ensures err_members { OnErr result (members.new.items ≡ members.old.items) }
     ensures err_letters { OnErr result (letters.new.items ≡ letters.old.items) }
 {
-    let mut made = made;
     letters.reserve(made.len())?;
     let member = &mut members[at];
     member.receive(logged, worked)?;
-    let _ = letters.append(&mut made);
+    made.move_behind(letters);
     Ok(())
 }
 
@@ -157,11 +156,12 @@ impl<H: Handler> Tenant<H> {
         sessions: &Sessions,
         source: Source,
         turn: &Turn<H::State>,
-    ) -> Result<Vec<SentLetter>, NoMemory>
+    ) -> Result<Made, NoMemory>
         ensures made { IfOk result (λ made.
             made.items ≡ letters_of unit vector.now (advanced sessions.now source)
             (sends_within (length self.now.members) turn.now)) }
-        ensures count { IfOk result (λ made. vec_len made ≡ length (sends_within (length self.now.members) turn.now)) }
+        ensures count { IfOk result (λ made.
+            length made.items ≡ length (sends_within (length self.now.members) turn.now)) }
     {
         let width = self.width();
         let made = letters_by(alloc, unit, vector, sessions, source, turn.sends(), width)?;

@@ -6,16 +6,11 @@ use Rattle.std.proofs.lemmas.List.Sums.{take_while-cons}
 use Rattle.std.proofs.lemmas.List.{drop_all}
 use Rattle.model.specs.declared.names.Row.{Row}
 use Rattle.compact.specs.Compact.{Interval}
-use Rattle.compact.specs.Laws.{FirmByCount, firm_front, is_firm_by}
+use Rattle.compact.specs.Laws.{firm_front, is_firm_by}
 use Rattle.model.proofs.Places.{get_below}
 use Rattle.rollback.specs.Units.{Recovering, places}
 use Rattle.unit_steps.specs.Receipts.{frontier_of}
-use Rattle.compact.proofs.Tails as tails
 use Rattle.theory.proofs.Simulation.{drop_at}
-
--- a vector is firm where none of its entries is counted as unstable
-pub firm_by_count : FirmByCount
-firm_by_count rows stable_lengths vector = tails.firm_by_count rows stable_lengths vector
 
 module _ (rows : List Row) (stable_lengths : List ℕ) (intervals : List Interval) (k : ℕ) where
   -- how many from this place on are firm

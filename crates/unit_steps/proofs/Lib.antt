@@ -1,3 +1,4 @@
 pub mod Both
 pub mod Frontiers
+pub mod Pending
 pub mod Seen

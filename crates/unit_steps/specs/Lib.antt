@@ -1,2 +1,3 @@
 pub mod Receipts
 pub mod Laws
+pub mod Made

@@ -9,17 +9,16 @@ ghost use Rattle.unit_steps.specs.Receipts.{frontier_of, IsFrontier, NoLonger};
 use depvector::SharedVector;
 use handler::Handler;
 use incarnation::StartTable;
-use orphan::count_unstable;
+use orphan::any_unstable;
 use rollback::RecoveryUnit;
 
 /// Whether all that an interval of this vector depends on is stable. A vector of more units than there are is not firm.
-#[tactic(auto, using(crate::proofs::Frontiers::firm_by_count))]
 fn is_firm(table: &StartTable, stable_lengths: &[u64], vector: &SharedVector) -> bool
     ensures { length vector.now ≤ length stable_lengths.now
         → result ≡ is_firm_by table.now stable_lengths.now vector.now }
 {
     let marks = vector.as_slice();
-    marks.len() <= stable_lengths.len() && count_unstable(marks, table, stable_lengths) == 0
+    marks.len() <= stable_lengths.len() && !any_unstable(marks, table, stable_lengths)
 }
 
 /// Whether the interval at this index is firm.

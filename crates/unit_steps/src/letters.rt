@@ -6,6 +6,7 @@ ghost use Rattle.std.specs.List.{filter};
 ghost use Rattle.session.specs.Counts.{advanced, sent_to};
 ghost use Rattle.compact.specs.Steps.{letters_by as letters_of};
 
+use crate::made::Made;
 use depvector::SharedVector;
 use model::{NoMemory, Source, Text, Unit};
 use session::Sessions;
@@ -152,7 +153,7 @@ fn letters_of_one(
     source: &Source,
     send: &(Unit, Text),
     width: usize,
-) -> Result<Vec<SentLetter>, NoMemory>
+) -> Result<Made, NoMemory>
     ensures { IfOk result (λ made.
         made.items ≡ letters_of unit vector.now (advanced sessions.now source.now) (filter (λ s.
         nat_lt s.0 width) (send.now ∷ []))) }
@@ -160,13 +161,13 @@ fn letters_of_one(
     if !sessions.has_room(*source, 1) {
         return Err(NoMemory);
     }
-    let mut made = Vec::new(alloc);
-    if usize::from(send.0.number()) < width {
-        let number = sessions.number_to(send.0);
-        let text = send.1.copy()?;
-        made.push(letter_of(alloc, unit, vector, send.0, text, number)?)?;
+    if usize::from(send.0.number()) >= width {
+        return Ok(Made::none());
     }
-    Ok(made)
+    let number = sessions.number_to(send.0);
+    let text = send.1.copy()?;
+    let letter = letter_of(alloc, unit, vector, send.0, text, number)?;
+    Ok(Made::one(letter))
 }
 
 /// The counts after a receipt from the source, which have room for so many sends.
@@ -197,13 +198,13 @@ pub fn letters_by(
     source: Source,
     sends: &[(Unit, Text)],
     width: usize,
-) -> Result<Vec<SentLetter>, NoMemory>
+) -> Result<Made, NoMemory>
     ensures { IfOk result (λ made.
         made.items ≡ letters_of unit vector.now (advanced sessions.now source) (filter (λ s.
         nat_lt s.0 width) sends.now)) }
 {
     if sends.is_empty() {
-        return Ok(Vec::new(alloc));
+        return Ok(Made::none());
     }
     if sends.len() == 1 {
         return letters_of_one(alloc, unit, vector, sessions, &source, &sends[0], width);
@@ -212,5 +213,6 @@ pub fn letters_by(
     if counts.len() < width {
         return Err(NoMemory);
     }
-    letters_from(alloc, unit, vector, &mut counts, sends, width)
+    let letters = letters_from(alloc, unit, vector, &mut counts, sends, width)?;
+    Ok(Made::many(letters))
 }

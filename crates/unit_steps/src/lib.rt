@@ -12,10 +12,12 @@
 mod frontier;
 pub mod laws;
 mod letters;
+mod made;
 mod receipt;
 mod refusals;
 
 pub use frontier::frontier_after;
 pub use letters::{Content, SentLetter, letters_by};
+pub use made::Made;
 pub use receipt::{mark_upon, record_upon, vector_upon};
 pub use refusals::{Known, letter_refusal, post_refusal, turn_refusal};

@@ -160,14 +160,19 @@ pub fn post_refusal<H: Handler>(
 }
 
 /// Whether a letter depends on more unstable units than the optimism lets through, or on more units than there are.
+#[tactic(auto, using(crate::proofs::Pending::few_unstable))]
 fn is_pending(known: &Known<'_>, optimism: u32, vector: &SharedVector) -> bool
     ensures within { OnFalse result (length vector.now ≤ length known.now.stable_lengths.now) }
     ensures value { length vector.now ≤ length known.now.stable_lengths.now
         → result ≡ nat_lt optimism (unstable_count known.now.table.now known.now.stable_lengths.now vector.now) }
 {
     let marks = vector.as_slice();
-    marks.len() > known.stable_lengths.len()
-        || count_unstable(marks, known.table, known.stable_lengths) > optimism
+    if marks.len() > known.stable_lengths.len() {
+        return true;
+    }
+    // Of few units few are unstable.
+    marks.len() > optimism as usize
+        && count_unstable(marks, known.table, known.stable_lengths) > optimism
 }
 
 /// Why a letter is refused for what it depends on. One that depends on more units than there are is pending.

@@ -1,13 +1,9 @@
-use Rattle.std.proofs.Common.{◌≡◌, ◌∙◌, ap, length, arith}
+use Rattle.std.proofs.Common.{◌≡◌, ◌∙◌, ap, length}
 use Rattle.std.specs.Prelude.{nat_lt}
 use Rattle.std.specs.List.{filter}
-use Rattle.model.specs.Nodes.{sends_within}
 use Rattle.tenant.proofs.tenant.Tenant.letters_upon.Goals as goal
 use Rattle.compact.proofs.Received.{length_letters_by}
 
 pub returns-clause-count : goal.returns-clause-count
 returns-clause-count g c =
-    let count : length c.in_ok-made.made.items ≡ length (sends_within (length c.args.self.now.members) c.args.turn.now) =
-    (ap length c.in_ok-made.ensures ∙ length_letters_by c.args.unit c.args.vector.now _ _ ∙ (λ i. length (filter (λ s. nat_lt s.0 (c.width-width.ensures i)) (c.sends.ensures i)))) in
-    let long = c.in_ok-made.made.ok in
-    omega (arith, count, long)
+    ap length c.in_ok-made.ensures ∙ length_letters_by c.args.unit c.args.vector.now _ _ ∙ (λ i. length (filter (λ s. nat_lt s.0 (c.width-width.ensures i)) (c.sends.ensures i)))
