@@ -15,9 +15,10 @@ import bad_lines
 import ends
 import kept
 import kills
+import texts
 from program import Program
 
-SUITES = (("memory", allocations), ("what is kept", kept), ("input and output", ends), ("kills", kills), ("lines", bad_lines))
+SUITES = (("memory", allocations), ("what is kept", kept), ("input and output", ends), ("kills", kills), ("lines", bad_lines), ("texts", texts))
 
 
 def named(word):

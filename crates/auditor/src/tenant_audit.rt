@@ -8,20 +8,9 @@ ghost use Rattle.auditor.specs.Lists.{IsClear, lists_at};
 use audit::{Verdict, check};
 use book::Book;
 use handler::Handler;
-use model::{Flaw, MAX_UNITS, NoMemory, TenantName, Text, Texts, Unit};
+use model::{Flaw, MAX_UNITS, NoMemory, TenantName, Texts, Unit};
 use shared_log::Store;
 use std::alloc::Global;
-
-/// Equal texts.
-fn copy_texts(alloc: Global, texts: &[Text]) -> Result<Texts, NoMemory>
-    ensures { IfOk result (λ copies. copies ≡ texts.now) }
-{
-    let mut copies = Vec::new(alloc);
-    for text in texts {
-        copies.push(text.copy()?)?;
-    }
-    Ok(Texts::new(copies))
-}
 
 /// What each unit of the tenant released, unit 0 first. There is nothing of a tenant that is not
 /// open.
@@ -35,7 +24,7 @@ fn all_released<H: Handler, S: Store>(
     let mut lists = Vec::new(alloc);
     for number in 0..MAX_UNITS as u8 {
         if let Some(released) = book.released(tenant, Unit::new(number)) {
-            lists.push(copy_texts(alloc, released)?)?;
+            lists.push(Texts::of(alloc, released)?)?;
         }
     }
     Ok(lists)

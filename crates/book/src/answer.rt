@@ -187,7 +187,7 @@ pub(crate) fn answer<H: Handler, S: Store>(
         IsAnswered H.meaning step.now a.said a.reply (holding tenants.old log.old) (holding tenants.new log.new)) }
     ensures err { OnErr result (HoldsAsBefore (holding tenants.old log.old) (holding tenants.new log.new)) }
 {
-    let own_step = step.tenant_step(alloc)?;
+    let own_step = step.tenant_step()?;
     let name = step.tenant();
     if let Some(tenant) = tenants.get_mut(name) {
         return answer_open(alloc, handler, tenant, name, own_step, log);
@@ -209,7 +209,7 @@ pub(crate) fn ask<H: Handler>(
     let Some(tenant) = tenants.get(step.tenant()) else {
         return Ok(None);
     };
-    let own_step = step.tenant_step(alloc)?;
+    let own_step = step.tenant_step()?;
     tenant.prepare(alloc, handler, &own_step)
 }
 
@@ -271,7 +271,7 @@ pub(crate) fn answer_with<H: Handler, S: Store>(
     ensures stale_log { IfOk result (λ o. IfNone o (log.new ≡ log.old)) }
     ensures err { OnErr result (HoldsAsBefore (holding tenants.old log.old) (holding tenants.new log.new)) }
 {
-    let own_step = step.tenant_step(alloc)?;
+    let own_step = step.tenant_step()?;
     let name = step.tenant();
     if let Some(opened) = tenants.get_mut(name) {
         return answer_open_with(alloc, handler, opened, name, own_step, worked, log);

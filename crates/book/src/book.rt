@@ -146,7 +146,7 @@ impl<H: Handler, S: Store> Book<H, S> {
     fn step_copy(&mut self, step: &Step) -> Reply
         ensures { IsEntered self.old Caller step.now result self.new }
     {
-        match step.copy(self.alloc) {
+        match step.copy() {
             Ok(own_step) => self.step(own_step),
             Err(_) => memory_reply(step),
         }

@@ -20,7 +20,7 @@ pub(crate) fn open(alloc: Global, tenant: &str, kinds: &[&str]) -> Result<Step, 
     }
     Ok(Step::Open {
         tenant: name(tenant)?,
-        kinds: Texts::new(names),
+        kinds: Texts::new(names)?,
         quota: Quota {
             volatile: MAX_VOLATILE_QUOTA,
             held: MAX_HELD_QUOTA,

@@ -296,7 +296,7 @@ fn all_texts(alloc: Global, items: &[Value]) -> Result<Texts, LineFault>
         let text = item.as_str().ok_or(LineFault::Bad)?;
         texts.push(Text::of(alloc, text)?)?;
     }
-    Ok(Texts::new(texts))
+    Ok(Texts::new(texts)?)
 }
 
 // ---- how many keys there are

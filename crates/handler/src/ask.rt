@@ -81,13 +81,14 @@ impl<H: Handler> Ask<H> {
     pub fn work(self, alloc: Global, handler: &H) -> Result<Done<H>, NoMemory>
         ensures { IfOk result (λ d. d.input ≡ self) }
     {
-        let turn = handler.handle(
+        let mut turn = handler.handle(
             alloc,
             self.seat,
             &self.state,
             self.source,
             self.text.as_str(),
         )?;
+        turn.share(&self.text);
         Ok(Done { input: self, turn })
     }
 }

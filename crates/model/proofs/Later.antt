@@ -1,5 +1,5 @@
 -- Which of two marks is the later, told by one number.
-use Rattle.std.proofs.Common.{◌≡◌, ◌+◌, ◌*◌, ◌<◌, ℕ, ◌||◌, ◌&&◌, ◌==◌, nat_lt, nat_le, arith}
+use Rattle.std.proofs.Common.{◌≡◌, ◌+◌, ◌*◌, ◌<◌, nat_le, arith}
 use Rattle.model.specs.declared.names.Mark.{Mark}
 use Rattle.model.specs.World.{mark_le}
 

@@ -93,7 +93,7 @@ impl Reply {
             Reply::Restarted { row } => Ok(Reply::Restarted { row: *row }),
             Reply::Noticed { row } => Ok(Reply::Noticed { row: *row }),
             Reply::Released { outputs } => Ok(Reply::Released {
-                outputs: outputs.copy(alloc)?,
+                outputs: outputs.copy()?,
             }),
             Reply::Status {
                 at,

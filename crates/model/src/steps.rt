@@ -6,7 +6,6 @@ ghost use Rattle.model.specs.Addresses.{addressed};
 use crate::fault::NoMemory;
 use crate::names::{Letter, Quota, Unit};
 use crate::text::{TenantName, Text, Texts};
-use std::alloc::Global;
 
 /// A step of one tenant.
 #[derive(Debug, Drop)]
@@ -145,8 +144,12 @@ impl Step {
         }
     }
 
-    /// The step without the tenant's name. Only an `Open`, a `Join` and a `Post` take memory.
-    pub fn tenant_step(&self, alloc: Global) -> Result<TenantStep, NoMemory>
+    /// The step without the tenant's name, which takes no memory.
+    ///
+    /// # Errors
+    ///
+    /// `NoMemory` where there are 2^63 - 1 copies of its texts already.
+    pub fn tenant_step(&self) -> Result<TenantStep, NoMemory>
         ensures { IfOk result (λ s. s ≡ (addressed self.now).1) }
     {
         match self {
@@ -156,7 +159,7 @@ impl Step {
                 optimism,
                 ..
             } => Ok(TenantStep::Open {
-                kinds: kinds.copy(alloc)?,
+                kinds: kinds.copy()?,
                 quota: *quota,
                 optimism: *optimism,
             }),
@@ -182,8 +185,12 @@ impl Step {
         }
     }
 
-    /// An equal step.
-    pub fn copy(&self, alloc: Global) -> Result<Step, NoMemory>
+    /// An equal step, which takes no memory.
+    ///
+    /// # Errors
+    ///
+    /// `NoMemory` where there are 2^63 - 1 copies of its texts already.
+    pub fn copy(&self) -> Result<Step, NoMemory>
         ensures { IfOk result (λ s. s ≡ self.now) }
     {
         let tenant = self.tenant().copy();
@@ -195,7 +202,7 @@ impl Step {
                 ..
             } => Ok(Step::Open {
                 tenant,
-                kinds: kinds.copy(alloc)?,
+                kinds: kinds.copy()?,
                 quota: *quota,
                 optimism: *optimism,
             }),

@@ -19,7 +19,7 @@ use arrayvec::ArrayString;
 use std::alloc::Global;
 use std::hash::{Hash, Hasher};
 use std::marker::Model;
-use std::sync::ArcStr;
+use std::sync::{ArcSlice, ArcStr};
 
 /// How many bytes a text may have that lies in the value itself.
 const MAX_INLINE_BYTES: usize = 16;
@@ -52,6 +52,15 @@ impl Storage {
         match self {
             Storage::Inline(string) => string.as_str(),
             Storage::Shared(string) => string.as_str(),
+        }
+    }
+
+    /// Whether they lie in the value itself.
+    #[inline(always)]
+    fn is_inline(&self) -> bool {
+        match self {
+            Storage::Inline(_) => true,
+            Storage::Shared(_) => false,
         }
     }
 
@@ -136,6 +145,20 @@ impl Text {
         let storage = self.storage.copy()?;
         Ok(Text { storage })
     }
+
+    /// Gives its place up for the other's, where it is long and has the same bytes: then both share one. It stays the same
+    /// text, and this takes no memory.
+    #[inline(always)]
+    pub fn share_with(&mut self, other: &Text)
+        ensures { self.new ≡ self.old }
+    {
+        if self.storage.is_inline() || *self != *other {
+            return;
+        }
+        if let Ok(shared) = other.copy() {
+            *self = shared;
+        }
+    }
 }
 
 impl PartialEq for Text {
@@ -152,36 +175,49 @@ impl Eq for Text {
     ghost laws = { Prim.search (comparing, rules) };
 }
 
-/// A list of texts, seen as the list of their bytes.
+/// A list of texts, seen as the list of their bytes. Copies share one place in memory, which goes with the last of them.
 #[derive(Debug, Drop)]
 pub struct Texts {
-    texts: Vec<Text>,
+    texts: ArcSlice<Text>,
 }
 
 impl Model for Texts {
     ghost use Rattle.std.specs.Prelude.{List, ℕ};
+    ghost use Rattle.std.specs.Arc.{arc_slice_items};
 
     ghost Value = { List (List ℕ) };
 
-    ghost view = { λ t. t.texts.items };
-}
-
-/// Equal texts.
-fn copies(alloc: Global, texts: &[Text]) -> Result<Vec<Text>, NoMemory>
-    ensures { IfOk result (λ ts. ts.items ≡ texts.now) }
-{
-    let mut all = Vec::with_capacity(alloc, texts.len())?;
-    for text in texts {
-        all.push(text.copy()?)?;
-    }
-    Ok(all)
+    ghost view = { λ t. arc_slice_items t.texts };
 }
 
 impl Texts {
-    pub fn new(texts: Vec<Text>) -> Texts
-        ensures { result ≡ texts.items }
+    /// These texts, where they lie, for copies to share. Gives the room behind them back, and takes a few bytes.
+    ///
+    /// # Errors
+    ///
+    /// `NoMemory` where these bytes find no memory.
+    pub fn new(texts: Vec<Text>) -> Result<Texts, NoMemory>
+        ensures { IfOk result (λ t. t ≡ texts.items) }
     {
-        Texts { texts }
+        let mut exact = texts;
+        exact.shrink_to_fit();
+        let texts = ArcSlice::from_vec(exact)?;
+        Ok(Texts { texts })
+    }
+
+    /// A list of its own of these texts.
+    ///
+    /// # Errors
+    ///
+    /// `NoMemory` where the list finds no memory, or there are 2^63 - 1 copies of a text already.
+    pub fn of(alloc: Global, texts: &[Text]) -> Result<Texts, NoMemory>
+        ensures { IfOk result (λ t. t ≡ texts.now) }
+    {
+        let mut copies = Vec::with_capacity(alloc, texts.len())?;
+        for text in texts {
+            copies.push(text.copy()?)?;
+        }
+        Texts::new(copies)
     }
 
     #[inline(always)]
@@ -191,20 +227,16 @@ impl Texts {
         self.texts.as_slice()
     }
 
-    /// The texts, which takes no memory.
-    pub fn into_vec(self) -> Vec<Text>
-        ensures { result.items ≡ self }
-    {
-        let Texts { texts } = self;
-        texts
-    }
-
-    /// Equal texts.
+    /// An equal list, which takes no memory.
+    ///
+    /// # Errors
+    ///
+    /// `NoMemory` where there are 2^63 - 1 of it already.
     #[inline(always)]
-    pub fn copy(&self, alloc: Global) -> Result<Texts, NoMemory>
+    pub fn copy(&self) -> Result<Texts, NoMemory>
         ensures { IfOk result (λ t. t ≡ self.now) }
     {
-        let texts = copies(alloc, self.as_slice())?;
+        let texts = self.texts.clone()?;
         Ok(Texts { texts })
     }
 }

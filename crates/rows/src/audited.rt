@@ -90,7 +90,7 @@ fn list(alloc: Global, texts: &[&str]) -> anyhow::Result<Texts> {
     for text in texts {
         all.push(Text::of(alloc, text)?)?;
     }
-    Ok(Texts::new(all))
+    Ok(Texts::new(all)?)
 }
 
 fn move_of(alloc: Global, words: &[&str]) -> anyhow::Result<Move> {

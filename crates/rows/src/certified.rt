@@ -56,19 +56,11 @@ fn released(alloc: Global, book: &Books, name: &TenantName) -> anyhow::Result<Ve
     let mut lists = Vec::new(alloc);
     for number in 0..MAX_UNITS as u8 {
         match calls::released(book, name, number) {
-            Some(outputs) => lists.push(copies(alloc, outputs)?)?,
+            Some(outputs) => lists.push(Texts::of(alloc, outputs)?)?,
             None => return Ok(lists),
         }
     }
     Ok(lists)
-}
-
-fn copies(alloc: Global, outputs: &[Text]) -> anyhow::Result<Texts> {
-    let mut texts = Vec::new(alloc);
-    for output in outputs {
-        texts.push(output.copy()?)?;
-    }
-    Ok(Texts::new(texts))
 }
 
 /// Adds the line of a move.
@@ -120,7 +112,7 @@ fn others(alloc: Global, released: &[Texts]) -> anyhow::Result<Vec<Texts>> {
     for _ in 0..released.len() {
         let mut texts = Vec::new(alloc);
         texts.push(Text::of(alloc, "of nobody")?)?;
-        lists.push(Texts::new(texts))?;
+        lists.push(Texts::new(texts)?)?;
     }
     Ok(lists)
 }

@@ -1,9 +1,9 @@
 -- How much a tenant has of a unit's past is what the rules of keeping leave.
-use Rattle.std.proofs.Common.{◌≡◌, inl, inr, refl, sym, ◌∙◌, ap, ℕ, zero, suc, ◌+◌, ◌-◌, ◌<◌, Bool, true, false, cond, not, ◌&&◌, List, [], ◌∷◌, length, map, arith}
-use Rattle.std.specs.Prelude.{Option, Some, None, option_map, slice_get, is_none, ◌==◌}
+use Rattle.std.proofs.Common.{◌≡◌, inl, inr, refl, sym, ◌∙◌, ap, ℕ, suc, ◌+◌, ◌-◌, Bool, true, false, cond, not, ◌&&◌, List, [], ◌∷◌, length, arith}
+use Rattle.std.specs.Prelude.{Option, Some, option_map, slice_get, is_none, ◌==◌}
 use Rattle.std.specs.List.{count_by, enumerate_from, filter}
 use Rattle.std.specs.Option.{is_some}
-use Rattle.std.proofs.lemmas.Option.{slice_get_past, slice_get_within, same_Some}
+use Rattle.std.proofs.lemmas.Option.{slice_get_past}
 use Rattle.std.proofs.lemmas.List.{length-map}
 use Rattle.std.proofs.lemmas.List.Sums.{sum_by-cons}
 use native.Mathlib.Decide.{dec_lt}
@@ -15,8 +15,8 @@ use Rattle.model.specs.Nodes.{Message}
 use Rattle.model.specs.World.{Member, World, executed}
 use Rattle.model.proofs.Places.{get_below}
 use Rattle.theory.proofs.ListLaws.{at_map, bool_cases, eq_true}
-use Rattle.compact.specs.Compact.{IsLetter, Letter}
-use Rattle.tenant.specs.Keeping.{IsKeeping, KeepsPast, amount_of, is_whole_to, kept_by, shelf_of, shelves_of}
+use Rattle.compact.specs.Compact.{Letter}
+use Rattle.tenant.specs.Keeping.{IsKeeping, KeepsPast, amount_of, is_whole_to, kept_by, shelf_of}
 use Rattle.tenant.specs.Kept.{TenantState, Member as MemberOf}
 use Rattle.tenant.specs.Stands.{Stands, live_in}
 use Rattle.tenant.proofs.Lasting.{past_opened}

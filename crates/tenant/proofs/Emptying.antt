@@ -1,25 +1,23 @@
 -- A unit's base moves, and the tenant keeps what the rules leave.
-use Rattle.std.proofs.Common.{◌≡◌, ◌⊎◌, inl, inr, refl, sym, ◌∙◌, ap, subst, ℕ, zero, suc, ◌+◌, ◌-◌, ◌<◌, ◌≤◌, Bool, true, false, cond, ◌||◌, List, [], ◌∷◌, ◌++◌, length, take, drop, arith, map, length-set}
+use Rattle.std.proofs.Common.{◌≡◌, inl, inr, refl, sym, ◌∙◌, ap, subst, ℕ, zero, suc, ◌+◌, ◌-◌, ◌<◌, ◌≤◌, Bool, true, false, cond, ◌||◌, List, [], ◌∷◌, ◌++◌, length, take, drop, arith, map}
 use Rattle.std.specs.Prelude.{Option, Some, None, option_map, slice_get, slice_set, is_none, ◌==◌}
-use Rattle.std.specs.List.{fold, list_any}
+use Rattle.std.specs.List.{list_any}
 use Rattle.std.specs.Option.{option_map_or}
-use Rattle.std.proofs.lemmas.List.{drop-drop, drop-map, map-set, take-append-drop, take-map}
+use Rattle.std.proofs.lemmas.List.{drop-drop, drop-map, map-set, take-map}
 use Rattle.std.proofs.lemmas.List.Folds.{list_any-append}
 use Rattle.std.proofs.lemmas.Option.{slice_get_past, slice_get_within, same_Some}
-use Rattle.std.proofs.lemmas.Bool.Decides.{nat_tests}
 use native.Mathlib.Decide.{dec_lt, ℕ_discrete}
 use Rattle.model.specs.declared.records.Record.{Record}
-use Rattle.model.specs.Alone.{Reachable}
 use Rattle.model.specs.Handler.{Meaning}
 use Rattle.model.specs.Keeping.{Shelf, all_based, based, changed, changed_if, firm_length, received_at, received_for_good, receives}
-use Rattle.model.specs.Nodes.{Cause, Message, Node, began, letter, node_at, outside}
-use Rattle.model.specs.Records.{letter_of, vector_of}
-use Rattle.model.specs.World.{Member, World, executed}
+use Rattle.model.specs.Nodes.{Cause, Node, began, letter, node_at, outside}
+use Rattle.model.specs.Records.{letter_of}
+use Rattle.model.specs.World.{Member, World}
 use Rattle.model.proofs.Places.{get_below}
 use Rattle.theory.proofs.Certificate.{Invariant, reachable_invariant}
 use Rattle.theory.proofs.ListLaws.{any_at, any_none, at_map, bool_cases, eq_true, get_drop, get_set, get_take, or_cases, set_get_other, set_get_same, true_eq, or_false}
 use Rattle.layer_laws.specs.Laws.{frontier}
-use Rattle.compact.specs.Compact.{Compact, Interval, IsUnit, Letter, Unit, interval_of}
+use Rattle.compact.specs.Compact.{Compact, Interval, IsUnit, Letter, interval_of}
 use Rattle.compact.specs.Forgetting.{without_content}
 use Rattle.compact.specs.StepLaws.{StandsCompact}
 use Rattle.checkpoint.specs.declared.snapshot.Snapshot.{Snapshot as SnapshotOf}
@@ -27,7 +25,7 @@ use Rattle.checkpoint.specs.Shelves.{is_at}
 use Rattle.rollback.specs.Units.{Recovering, based_on, forgotten}
 use Rattle.rollback_laws.proofs.Places.{places_are_seen}
 use Rattle.tenant.specs.Bases.{emptied_all, emptied_at, emptied_by, moved_kept, next_base, passed}
-use Rattle.tenant.specs.Keeping.{IsKeeping, KeepsPast, based_one, shelf_of, shelves_of}
+use Rattle.tenant.specs.Keeping.{IsKeeping, KeepsPast, based_one, shelf_of}
 use Rattle.tenant.specs.Kept.{TenantState, Member as MemberOf}
 use Rattle.tenant.specs.Represents.{IsCompact}
 use Rattle.tenant.specs.Stands.{IsStanding, Stands, live_in}

@@ -1,6 +1,6 @@
 -- What each step makes of the checkpoints, and that the tenant then keeps what the rules leave.
-use Rattle.std.proofs.Common.{◌≡◌, ◌⊎◌, inl, inr, refl, sym, ◌∙◌, ap, subst, ℕ, zero, suc, ◌+◌, ◌-◌, ◌<◌, Bool, true, false, cond, List, [], ◌∷◌, ◌++◌, length, arith, map, append-nil, append_assoc, length-set}
-use Rattle.std.specs.Prelude.{IfOk, IfSome, Option, Some, None, Result, Ok, Err, slice_get, slice_set, is_none, nat_lt, replicate}
+use Rattle.std.proofs.Common.{◌≡◌, ◌⊎◌, inl, inr, refl, sym, ◌∙◌, ap, subst, ℕ, zero, suc, ◌+◌, ◌-◌, true, false, List, [], ◌∷◌, ◌++◌, length, arith, map, append-nil, append_assoc, length-set}
+use Rattle.std.specs.Prelude.{IfOk, IfSome, Option, Some, None, Result, Ok, Err, slice_get, slice_set, is_none, replicate}
 use Rattle.std.specs.List.{fold}
 use Rattle.std.specs.Option.{is_some}
 use Rattle.std.proofs.lemmas.List.{map-append, map-set}
@@ -17,11 +17,10 @@ use Rattle.model.specs.declared.replies.Reply.TheVariants.{Opened, Joined, Accep
 use Rattle.model.specs.declared.replies.Said.{Said}
 use Rattle.model.specs.declared.steps.TenantStep.{TenantStep}
 use Rattle.model.specs.declared.steps.TenantStep.TheVariants.{Open, Join, Post, Deliver, Flush, Checkpoint, Kill, Restart, Notice, Release, Status}
-use Rattle.model.specs.Alone.{step_open}
 use Rattle.model.specs.Handler.{Meaning}
 use Rattle.model.specs.Keeping.{Shelf, after_join, after_open, after_return, changed, changed_if, cut, first_shelf, last_index, put, shelves_after, where_added}
 use Rattle.model.specs.Steps.{Outcome, flush_reply, kind_or_0}
-use Rattle.model.specs.World.{World, Member as InWorld}
+use Rattle.model.specs.World.{World}
 use Rattle.model.proofs.Places.{get_below}
 use Rattle.theory.proofs.ListLaws.{at_map, set_get_same, set_same}
 use Rattle.session.specs.Counts.{Counts, sent_one}
@@ -33,9 +32,8 @@ use Rattle.rollback_laws.proofs.Places.{places_are_seen}
 use Rattle.shared_log.specs.Logged.{Logged}
 use Rattle.rollback_laws.specs.Seen.{IsSeen}
 use Rattle.tenant.specs.declared.answer.Answer.{Answer}
-use Rattle.tenant.specs.Keeping.{AddsLetters, Bases, IsKeeping, KeepsOn, KeepsPast, OpensPast, SameShelves, Shelves, shelf_of, shelves_of}
+use Rattle.tenant.specs.Keeping.{AddsLetters, Bases, KeepsOn, KeepsPast, OpensPast, SameShelves, Shelves, shelf_of, shelves_of}
 use Rattle.tenant.specs.Kept.{MakesStable, TenantState, Member, checkpointed_member, fitted_member, flushed_member, returned_kept, joined_kept, opened_kept, received_kept, received_member, with_begun}
-use Rattle.tenant.specs.Outcomes.{done}
 use Rattle.tenant.specs.Represents.{StandsFor}
 use Rattle.tenant.specs.Returns.{Returns}
 use Rattle.tenant.specs.Stands.{Did, Stands, live_in}

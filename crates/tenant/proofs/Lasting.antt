@@ -1,7 +1,7 @@
 -- What was received up to a base stays so over a step, and so does what a tenant keeps of its past.
-use Rattle.std.proofs.Common.{◌≡◌, ◌⊎◌, inl, inr, refl, sym, ◌∙◌, ap, subst, ℕ, zero, suc, ◌+◌, ◌-◌, ◌<◌, ◌≤◌, Bool, true, false, cond, ◌||◌, List, [], ◌∷◌, ◌++◌, length, take, arith, map}
-use Rattle.std.specs.Prelude.{Option, Some, None, slice_get, slice_set, is_none, ◌==◌}
-use Rattle.std.specs.List.{list_any, take_while}
+use Rattle.std.proofs.Common.{◌≡◌, ◌⊎◌, inl, inr, refl, sym, ◌∙◌, ap, ℕ, zero, suc, ◌-◌, ◌<◌, ◌≤◌, Bool, true, false, cond, ◌||◌, List, [], ◌∷◌, ◌++◌, length, take, arith}
+use Rattle.std.specs.Prelude.{Option, Some, None, slice_get, is_none, ◌==◌}
+use Rattle.std.specs.List.{list_any}
 use Rattle.std.proofs.lemmas.Option.{slice_get_within, same_Some}
 use Rattle.std.proofs.lemmas.Bool.Decides.{nat_tests}
 use Rattle.std.proofs.lemmas.List.{length-map}
@@ -13,7 +13,7 @@ use Rattle.model.specs.declared.steps.TenantStep.{TenantStep}
 use Rattle.model.specs.Alone.{Reachable, step_open}
 use Rattle.model.specs.Alone.Reachable.{stepped}
 use Rattle.model.specs.Handler.{Meaning}
-use Rattle.model.specs.Keeping.{Shelf, changed, changed_if, cut, first_shelf, put, with_room, received_at, received_for_good, receives}
+use Rattle.model.specs.Keeping.{Shelf, changed, changed_if, first_shelf, put, with_room, received_at, received_for_good, receives}
 use Rattle.model.specs.Lists.{has}
 use Rattle.model.specs.Nodes.{Cause, Message, Node, began, letter, node_at, outside, parents, place_before, sender_of}
 use Rattle.model.specs.Steps.{Outcome}
@@ -31,10 +31,8 @@ use Rattle.compact.specs.Compact.{Content, IsContent, IsLetter, Letter}
 use Rattle.tenant.specs.Keeping.{IsKeeping, KeepsPast, Shelves, shelf_of, shelves_of}
 use Rattle.tenant.specs.Kept.{TenantState, Member as MemberOf}
 use Rattle.tenant.specs.Outcomes.{done}
-use Rattle.tenant.specs.Represents.{StandsFor}
 use Rattle.tenant.specs.Stands.{IsStanding, live_in}
-use Rattle.tenant.proofs.Reading.{StandsAt, stands_at}
-use Rattle.tenant.proofs.Standing.{opened}
+use Rattle.tenant.proofs.Reading.{stands_at}
 
 -- ---- closed, and opened for the proofs of this crate
 

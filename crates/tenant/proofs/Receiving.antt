@@ -1,8 +1,6 @@
 -- A receipt that is taken.
-use Rattle.std.proofs.Common.{◌≡◌, refl, sym, ◌∙◌, ap, subst, ℕ, suc, ◌+◌, ◌-◌, ◌<◌, ◌^◌, List, [], ◌∷◌, ◌++◌, length, arith}
+use Rattle.std.proofs.Common.{◌≡◌, refl, sym, ◌∙◌, ap, subst, ℕ, ◌+◌, ◌<◌, ◌^◌, List, ◌++◌, length}
 use Rattle.std.specs.Prelude.{Some, slice_set}
-use Rattle.std.proofs.lemmas.List.{append_assoc}
-use Rattle.model.specs.declared.names.Mark.{Mark}
 use Rattle.model.specs.declared.names.Row.{Row}
 use Rattle.model.specs.declared.records.Record.{Record}
 use Rattle.model.specs.declared.replies.Reply.TheVariants.{Accepted}
@@ -12,7 +10,7 @@ use Rattle.model.specs.Nodes.{sends_within}
 use Rattle.model.specs.Steps.{first_refusal}
 use Rattle.model.specs.World.{World}
 use Rattle.handler.specs.Inputs.{Input, turn_upon_input}
-use Rattle.session.specs.Counts.{Counts, advanced, sent_one}
+use Rattle.session.specs.Counts.{advanced}
 use Rattle.output_commit.specs.Holds.{held_of}
 use Rattle.compact.specs.Compact.{Compact, Letter, Progress}
 use Rattle.compact.specs.Steps.{Receipt, accepted_of, letters_by, new_letters, next_mark, next_record, next_vector, receiving_state, receiving_unit, tests_of_turn, turn_of_receipt, with_unit_at}

@@ -1,12 +1,11 @@
 -- Where the store is asked by a restart or a notice.
-use Rattle.std.proofs.Common.{◌≡◌, refl, ℕ, Bool, true, false, cond, not, ◌&&◌, if◌then◌else◌, List, [], ◌∷◌, length}
+use Rattle.std.proofs.Common.{◌≡◌, refl, ℕ, Bool, true, false, cond, not, ◌&&◌, if◌then◌else◌, [], ◌∷◌, length}
 use Rattle.std.specs.Prelude.{Option, Some, None, nat_le, nat_lt, slice_get}
 use Rattle.model.specs.declared.refusals.Refusal.TheVariants.{Down, Limit, Store, Up}
-use Rattle.model.specs.declared.replies.Reply.{Reply}
 use Rattle.model.specs.declared.replies.Reply.TheVariants.{Refused}
 use Rattle.model.specs.declared.replies.Said.{Said}
 use Rattle.model.specs.Records.{IsFetching, notice_fetches, restart_fetches, quiet}
-use Rattle.model.specs.Steps.{Outcome, at_unit, at_up, first_refusal, going_back_tests, gone_back, if_unit, is_device, is_down, notice, notice_orphan, notice_rows, outcome_or, path_kept, restart, unless}
+use Rattle.model.specs.Steps.{Outcome, at_unit, at_up, first_refusal, going_back_tests, if_unit, is_device, is_down, notice, notice_orphan, notice_rows, outcome_or, path_kept, restart, unless}
 use Rattle.model.specs.World.{Member, World, incarnation_of}
 use Rattle.tenant.specs.Outcomes.{failing}
 

@@ -1,13 +1,10 @@
 -- No vector of a unit that the tenant keeps is longer than there are units.
-use Rattle.std.proofs.Common.{◌≡◌, refl, sym, ◌∙◌, ap, ℕ, zero, suc, ◌+◌, ◌<◌, ◌≤◌, List, length, drop, arith}
+use Rattle.std.proofs.Common.{◌≡◌, sym, ◌∙◌, ap, ℕ, ◌+◌, ◌<◌, ◌≤◌, List, length, drop, arith}
 use Rattle.std.specs.Prelude.{Some, slice_get}
-use Rattle.std.proofs.lemmas.List.{length-map}
 use Rattle.std.proofs.lemmas.Option.{slice_get_within}
 use Rattle.model.specs.declared.records.Record.{Record}
 use Rattle.model.specs.Handler.{Meaning}
-use Rattle.model.specs.Lists.{numbers_from}
-use Rattle.model.specs.Nodes.{Node, node_at}
-use Rattle.model.specs.World.{World, greatest_mark, past_nodes}
+use Rattle.model.specs.World.{World}
 use Rattle.model.specs.Records.{vector_of}
 use Rattle.model.proofs.Places.{get_below}
 use Rattle.theory.proofs.Certificate.{Invariant, reachable_invariant}

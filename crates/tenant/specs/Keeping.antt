@@ -1,5 +1,5 @@
 -- What a tenant keeps of its world's past.
-use Rattle.std.specs.Prelude.{◌≡◌, ℕ, suc, ◌+◌, ◌++◌, ◌∷◌, ◌==◌, ◌&&◌, [], Bool, true, false, cond, List, length, map, take, Option, Some, None, option_map, slice_get, is_none}
+use Rattle.std.specs.Prelude.{◌≡◌, ℕ, ◌+◌, ◌++◌, ◌==◌, ◌&&◌, Bool, false, cond, List, length, map, Option, Some, None, option_map, slice_get, is_none}
 use Rattle.std.specs.List.{filter}
 use Rattle.std.specs.Option.{is_some}
 use Rattle.model.specs.declared.kept.Kept.{Kept as Amount}

@@ -48,7 +48,7 @@
 //!     let Some(tenant) = tenants.get(step.tenant()) else {
 //!         return Ok(None);
 //!     };
-//!     let own_step = step.tenant_step(alloc)?;
+//!     let own_step = step.tenant_step()?;
 //!     tenant.prepare(alloc, handler, &own_step)
 //! }
 //! ```

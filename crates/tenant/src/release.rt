@@ -78,12 +78,12 @@ impl<H: Handler> Tenant<H> {
         }
     }
 
-    /// Releases the unit's held outputs from the front, as long as they are firm. Their texts are copied
-    /// twice before any of them leaves.
+    /// Releases the unit's held outputs from the front, as long as they are firm. The list of their
+    /// texts is made before any of them leaves.
     ///
     /// # Errors
     ///
-    /// `NoMemory` where the copies, or the list of what the unit released, find none; the tenant stays as it was.
+    /// `NoMemory` where this list, or that of what the unit released, finds none; the tenant stays as it was.
     pub(crate) fn release(&mut self, alloc: Global, unit: Unit) -> Result<Answer, NoMemory>
         ensures done { IfOk result (λ a. Does H.meaning (λ w. release_of H.meaning w unit) self.old a.reply self.new) }
         ensures plain { IfOk result IsPlain }
@@ -95,7 +95,7 @@ impl<H: Handler> Tenant<H> {
             Ok(_) => {}
             Err(refusal) => return Ok(Answer::refused(refusal)),
         }
-        let outputs = Texts::new(self.firm_texts(alloc, unit)?);
+        let outputs = Texts::new(self.firm_texts(alloc, unit)?)?;
         let answer = Answer::plain(alloc, Reply::Released { outputs })?;
         self.release_at(unit)?;
         Ok(answer)

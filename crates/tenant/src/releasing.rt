@@ -26,7 +26,7 @@ fn firm_at(hold: &Hold, place: usize, frontier: u64) -> Option<&Text>
 pub(crate) fn copy_firm(alloc: Global, hold: &Hold, frontier: u64) -> Result<Vec<Text>, NoMemory>
     ensures { IfOk result (λ texts. texts.items ≡ firm_texts hold.now.outputs frontier) }
 {
-    let mut texts = Vec::new(alloc);
+    let mut texts = Vec::with_capacity(alloc, hold.len())?;
     for place in 0..hold.len() {
         match firm_at(hold, place, frontier) {
             Some(text) => texts.push(text.copy()?)?,

@@ -1,5 +1,5 @@
 -- The first refusal of several lists of tests.
-use Rattle.std.proofs.Common.{◌≡◌, sym, ◌∙◌, ap, Bool, List, [], ◌++◌}
+use Rattle.std.proofs.Common.{◌≡◌, sym, ◌∙◌, ap, Bool, List, ◌++◌}
 use Rattle.std.specs.Prelude.{Some, None}
 use Rattle.model.specs.declared.refusals.Refusal.{Refusal}
 use Rattle.model.specs.Steps.{first_refusal}

@@ -1,5 +1,5 @@
 -- What holds of a letter that depends on few units.
-use Rattle.std.proofs.Common.{◌≡◌, ◌+◌, ◌≤◌, ℕ, suc, Bool, true, false, List, [], ◌∷◌, cond, length, nat_lt, arith, rules}
+use Rattle.std.proofs.Common.{◌+◌, ◌≤◌, ℕ, suc, Bool, true, false, List, [], ◌∷◌, cond, length, arith}
 use Rattle.model.specs.declared.names.Mark.{Mark}
 use Rattle.model.specs.declared.names.Row.{Row}
 use Rattle.orphan.specs.Tests.{count_marks, unstable_count}

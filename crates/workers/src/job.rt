@@ -100,7 +100,7 @@ impl<'a, H: Handler, S: Store, G: Gate> Job<'a, H, S, G> {
             feed: self.feed,
             at,
         };
-        let mut own = step.copy(self.alloc)?;
+        let mut own = step.copy()?;
         let mut asked = None;
         for _ in 0..TRIES {
             let prepared = self.shared.lock(rt).prepare(&own)?;

@@ -5,7 +5,6 @@ use Rattle.model.proofs.Places.{get_below}
 use Rattle.tenant.specs.Kept.{TenantState}
 use Rattle.tenant.proofs.Moving.{lets_beside, moved_stands}
 use Rattle.tenant.proofs.Standing.{opened}
-use Rattle.std.proofs.Common.{◌<◌}
 use Rattle.tenant.proofs.Emptying.{none_keeps, one_keeps}
 use Rattle.tenant.proofs.tenant.Tenant.forget_one.Goals.{else-at-len-via-then-at-len+else-at-len-2, else-at-len-via-else-at-len}
 use Rattle.tenant.proofs.tenant.Tenant.forget_one.Goals as goal

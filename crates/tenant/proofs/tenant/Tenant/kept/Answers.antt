@@ -1,4 +1,4 @@
-use Rattle.std.proofs.Common.{◌≡◌, ◌∙◌}
+use Rattle.std.proofs.Common.{◌∙◌}
 use Rattle.tenant.proofs.Counted.{kept_same}
 use Rattle.tenant.proofs.tenant.Tenant.kept.Goals as goal
 

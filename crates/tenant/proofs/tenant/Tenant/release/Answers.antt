@@ -20,9 +20,9 @@ release_at-requires-after_bounds g c κs within = slice_get_within c.args.self.n
 
 pub returns-clause-done : goal.returns-clause-done
 returns-clause-done g c = λ name live w log s. rw (c.in_ok-answer.ensures.0)
-    (release_done g.H.Handler.meaning name live c.args.self.now w log s c.args.unit c.in-Ok.field-0.now c.in-Ok.ensures.found c.in-Ok.ensures.up c.release_at.new.self c.new-outputs.result
+    (release_done g.H.Handler.meaning name live c.args.self.now w log s c.args.unit c.in-Ok.field-0.now c.in-Ok.ensures.found c.in-Ok.ensures.up c.release_at.new.self _
     (λ frontier texts own front was. c.in_ok-release_at.ensures.ok c.in-Ok.field-0.now frontier texts c.in-Ok.ensures.found own front was)
-    (λ frontier there. c.new-outputs.ensures ∙ c.in_ok-firm_texts.ensures c.in-Ok.field-0.now frontier c.in-Ok.ensures.found there))
+    (λ frontier there. c.in_ok-outputs.ensures ∙ c.in_ok-firm_texts.ensures c.in-Ok.field-0.now frontier c.in-Ok.ensures.found there))
 
 pub returns-in-Err-clause-shelves : goal.returns-in-Err-clause-shelves
 returns-in-Err-clause-shelves g c = λ name w records s. none_changed c.args.self.now c.args.self.now refl

@@ -1,4 +1,4 @@
-use Rattle.std.proofs.Common.{◌≡◌, ap, sym}
+use Rattle.std.proofs.Common.{ap, sym}
 use Rattle.model.specs.Steps.{Outcome}
 use Rattle.tenant.specs.Stands.{live_in}
 use Rattle.tenant.proofs.Standing.{opened}

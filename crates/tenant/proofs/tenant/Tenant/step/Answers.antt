@@ -2,7 +2,7 @@ use Rattle.std.proofs.Common.{refl}
 use Rattle.model.specs.declared.steps.TenantStep.TheVariants.{Deliver, Join, Kill, Post, Release, Status}
 use Rattle.tenant.proofs.Stepping.{any_did, any_ok, plain_ok}
 use Rattle.tenant.proofs.Keeping.{join_ok, none_changed, notice_ok, release_ok, restart_ok, same_keeps, same_ok}
-use Rattle.tenant.proofs.Keeping.StepStays.{deliver_stays, kill_stays, post_stays, release_stays, status_stays}
+use Rattle.tenant.proofs.Keeping.StepStays.{deliver_stays, kill_stays, post_stays, status_stays}
 use Rattle.tenant.proofs.tenant.Tenant.step.Goals as goal
 
 pub returns-in-Join-clause-did : goal.returns-in-Join-clause-did
