@@ -73,12 +73,27 @@ given = b"".join(line.rstrip() + b"\\n" for line in sys.stdin.buffer)
 sys.exit(subprocess.run(words, input=given).returncode)
 """
 
+# What goes through is kept eight times.
+HOARDED = """
+hoard = []
+real = subprocess.Popen(words, stdin=subprocess.PIPE, stdout=subprocess.PIPE)
+for line in sys.stdin.buffer:
+    hoard.extend(bytes(bytearray(line)) for _ in range(8))
+    real.stdin.write(line)
+    real.stdin.flush()
+    sys.stdout.buffer.write(real.stdout.readline())
+    sys.stdout.buffer.flush()
+real.stdin.close()
+sys.exit(real.wait())
+"""
+
 FAULTS = [
     ("a step answered memory that was done", DONE_ALL_THE_SAME, "allocations of echo"),
     ("a reader's fault that loses an answered line", ANSWER_LOST, "input of echo"),
     ("a writer's fault that is not told", FAULT_UNTOLD, "output of echo"),
     ("an output that a kill lets leave twice", RELEASED_TWICE, "kills everywhere of tees"),
     ("a line that is too long, but read", LENGTH_IGNORED, "line: a status line of 65,537"),
+    ("texts that are kept eight times", HOARDED, "texts are kept once"),
 ]
 
 

@@ -5,9 +5,7 @@ kept once, they and all else take less than that, and eight times as much where 
 """
 
 import json
-import os
-import subprocess
-import tempfile
+import re
 
 POSTS, BATCH, BYTES = 4000, 100, 4096
 UNITS = ["tee", "tee", "tee", "echo"]
@@ -31,20 +29,23 @@ def lines():
             yield from (line(do="release", unit=unit) for unit in range(len(UNITS)))
 
 
+def peak(process):
+    """How many bytes of memory it had at most so far. What began it doesn't count."""
+    with open(f"/proc/{process.pid}/status") as status:
+        return 1024 * int(re.search(r"VmHWM:\s*(\d+) kB", status.read())[1])
+
+
 def kept_once(program):
     """How many runs that were, and what was wrong."""
-    with tempfile.TemporaryFile(dir=program.room) as given, tempfile.TemporaryFile(dir=program.room) as written:
-        given.writelines(it + b"\n" for it in lines())
-        given.seek(0)
-        process = subprocess.Popen([program.path, "run"], stdin=given, stdout=written)
-        _, status, usage = os.wait4(process.pid, 0)
-        written.seek(0)
-        left = sum(len(json.loads(it).get("outputs", [])) for it in written)
-    wrong, peak = [], usage.ru_maxrss * 1024
+    talk = program.talk()
+    left = sum(len(json.loads(talk.ask(it) or "{}").get("outputs", [])) for it in lines())
+    most = peak(talk.process)
+    _, status = talk.end()
+    wrong = []
     if status or left != POSTS * len(UNITS):
         wrong.append(f"status {status}, and {left} outputs left")
-    if peak > 3 * POSTS * BYTES:
-        wrong.append(f"{POSTS} texts of {BYTES} bytes took {peak} bytes")
+    if most > 3 * POSTS * BYTES:
+        wrong.append(f"{POSTS} texts of {BYTES} bytes took {most} bytes")
     return 1, wrong
 
 
