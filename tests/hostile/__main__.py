@@ -13,12 +13,12 @@ from multiprocessing import Pool
 import allocations
 import bad_lines
 import ends
+import footprint
 import kept
 import kills
-import texts
 from program import Program
 
-SUITES = (("memory", allocations), ("what is kept", kept), ("input and output", ends), ("kills", kills), ("lines", bad_lines), ("texts", texts))
+SUITES = (("memory", allocations), ("what is kept", kept), ("input and output", ends), ("kills", kills), ("lines", bad_lines), ("footprint", footprint))
 
 
 def named(word):

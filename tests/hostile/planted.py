@@ -94,6 +94,7 @@ FAULTS = [
     ("an output that a kill lets leave twice", RELEASED_TWICE, "kills everywhere of tees"),
     ("a line that is too long, but read", LENGTH_IGNORED, "line: a status line of 65,537"),
     ("texts that are kept eight times", HOARDED, "texts are kept once"),
+    ("lines that are kept beside their records", HOARDED, "records are small"),
 ]
 
 

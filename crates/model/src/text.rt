@@ -195,7 +195,7 @@ impl Texts {
     ///
     /// # Errors
     ///
-    /// `NoMemory` where these bytes find no memory.
+    /// `NoMemory` where these bytes find no memory. The texts are let go of then.
     pub fn new(texts: Vec<Text>) -> Result<Texts, NoMemory>
         ensures { IfOk result (λ t. t ≡ texts.items) }
     {

@@ -86,8 +86,8 @@ tabled_set f g n p x h e =
     set_from f g 0 n p x (λ i d. h i (λ s. d (s ∙ sym z))) (ap g z ∙ e)
 
 -- a place with something in it has what is found there
-pub found_at : {X : Type 0} (f : ℕ → Option X) (n place : ℕ) (now : List (Option X)) (x y z : X) → tabled f n ≡ now → slice_get now place ≡ Some (Some x) → Some y ≡ f place → z ≡ y → slice_get now place ≡ Some (Some z)
-found_at {X = X} f n place now x y z e held found same =
+pub found_at : {X : Type 0} (f : ℕ → Option X) (n place : ℕ) (now : List (Option X)) (x y : X) → tabled f n ≡ now → slice_get now place ≡ Some (Some x) → f place ≡ Some y → slice_get now place ≡ Some (Some y)
+found_at {X = X} f n place now x y e held found =
     ap (λ (xs : List (Option X)). slice_get xs place) (sym e)
     ∙ (tabled_at f n place (tabled_within f n place (Some x) (ap (λ (xs : List (Option X)). slice_get xs place) e ∙ held))
-    ∙ ap (λ (o : Option X). Some o) (sym found ∙ ap (λ (x : X). Some x) (sym same)))
+    ∙ ap (λ (o : Option X). Some o) found)

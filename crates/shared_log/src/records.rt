@@ -5,6 +5,8 @@ ghost use Rattle.indexmap.specs.IndexMap.{IsUnchanged};
 ghost use Rattle.shared_log.specs.Logged.{IsHeld};
 ghost use Rattle.shared_log.specs.Records.{OtherPlaces, in_block, in_numbered, in_blocks};
 
+use crate::last_name::LastName;
+use crate::slot::Slot;
 use indexmap::IndexMap;
 use model::{NoMemory, Record};
 use std::alloc::Global;
@@ -17,7 +19,7 @@ const BLOCK_PLACES: u64 = 16;
 /// Places one after the other: their records, or none where these were forgotten. Those past the end are empty.
 #[derive(Debug, Drop)]
 struct Block {
-    places: Vec<Option<Record>>,
+    places: Vec<Slot>,
 }
 
 impl Model for Block {
@@ -38,13 +40,10 @@ impl Block {
         }
     }
 
-    fn record(&self, at: usize) -> Option<&Record>
-        ensures { MatchOption result (in_block self.now at ≡ None) (λ r. in_block self.now at ≡ Some r.now) }
+    fn slot(&self, at: usize) -> Option<&Slot>
+        ensures { MatchOption result (in_block self.now at ≡ None) (λ s. in_block self.now at ≡ s.now) }
     {
-        match self.places.get(at) {
-            Some(place) => place.as_ref(),
-            None => None,
-        }
+        self.places.get(at)
     }
 
     fn has_none(&self) -> bool
@@ -68,26 +67,26 @@ impl Block {
         ensures { (at : ℕ) → in_block self.new at ≡ in_block self.old at }
     {
         for _ in self.places.len()..count {
-            self.places.push(None)?;
+            self.places.push(Slot::empty())?;
         }
         Ok(())
     }
 
     /// Puts a record into a place.
-    fn put(&mut self, at: usize, logged: Record) -> Result<(), NoMemory>
+    fn put(&mut self, at: usize, slot: Slot) -> Result<(), NoMemory>
         requires { at < BLOCK_PLACES }
-        ensures own { OnOk result (in_block self.new at ≡ Some logged) }
+        ensures own { OnOk result (in_block self.new at ≡ slot) }
         ensures rest { (other : ℕ) → (other ≡ at → ⊥) → in_block self.new other ≡ in_block self.old other }
     {
         self.make_room()?;
         self.widen(at)?;
         if at == self.places.len() {
-            self.places.push(Some(logged))?;
+            self.places.push(slot)?;
             return Ok(());
         }
         match self.places.get_mut(at) {
             Some(there) => {
-                *there = Some(logged);
+                *there = slot;
                 Ok(())
             }
             None => Err(NoMemory),
@@ -100,7 +99,7 @@ impl Block {
         ensures rest { (other : ℕ) → (other ≡ at → ⊥) → in_block self.new other ≡ in_block self.old other }
     {
         if let Some(place) = self.places.get_mut(at) {
-            *place = None;
+            *place = Slot::empty();
         }
     }
 
@@ -108,7 +107,7 @@ impl Block {
         ensures { result ≡ true → slice_get self.now (length self.now - 1) ≡ Some None }
     {
         match self.places.last() {
-            Some(place) => place.is_none(),
+            Some(place) => place.is_empty(),
             None => false,
         }
     }
@@ -234,14 +233,14 @@ impl Blocks {
         }
     }
 
-    fn record(&self, place: u64) -> Option<&Record>
-        ensures { MatchOption result (in_blocks self.now place ≡ None) (λ r. in_blocks self.now place ≡ Some r.now) }
+    fn slot(&self, place: u64) -> Option<&Slot>
+        ensures { MatchOption result (in_blocks self.now place ≡ None) (λ s. in_blocks self.now place ≡ s.now) }
     {
         if number_of(place) == self.number {
-            return self.current.record(index_of(place));
+            return self.current.slot(index_of(place));
         }
         match self.others.get(&number_of(place)) {
-            Some(block) => block.record(index_of(place)),
+            Some(block) => block.slot(index_of(place)),
             None => None,
         }
     }
@@ -271,12 +270,12 @@ impl Blocks {
     }
 
     /// Puts a record into a place.
-    fn put(&mut self, place: u64, logged: Record) -> Result<(), NoMemory>
-        ensures own { OnOk result (in_blocks self.new place ≡ Some logged) }
+    fn put(&mut self, place: u64, slot: Slot) -> Result<(), NoMemory>
+        ensures own { OnOk result (in_blocks self.new place ≡ slot) }
         ensures rest { (other : ℕ) → (other ≡ place → ⊥) → in_blocks self.new other ≡ in_blocks self.old other }
     {
         self.turn_to(number_of(place))?;
-        self.current.put(index_of(place), logged)
+        self.current.put(index_of(place), slot)
     }
 
     /// Empties a place. It takes no memory.
@@ -295,11 +294,14 @@ impl Blocks {
 /// Records by place, seen as the list of all that came in, with empty places for those that were
 /// forgotten. Records lie in blocks of 16 places, each with room for a record: those blocks that keep
 /// one, and the one that was put into last. So there is at most one block for each record that is not
-/// forgotten, and one more, however many were forgotten.
+/// forgotten, and one more, however many were forgotten. Records of one tenant that came in one after
+/// the other share its name, which goes with the last of them.
 #[derive(Debug, Drop)]
 pub struct Records {
     // How many came in.
     count: u64,
+    // Has the name of the one that came in last.
+    names: LastName,
     blocks: Blocks,
 }
 
@@ -320,6 +322,7 @@ impl Records {
     {
         Records {
             count: 0,
+            names: LastName::new(alloc),
             blocks: Blocks::new(alloc),
         }
     }
@@ -332,7 +335,8 @@ impl Records {
         let Some(next) = self.count.checked_add(1) else {
             return Err(NoMemory);
         };
-        self.blocks.put(self.count, logged)?;
+        let name = self.names.place_of(&logged.tenant)?;
+        self.blocks.put(self.count, Slot::of(logged, name))?;
         self.count = next;
         Ok(())
     }
@@ -353,8 +357,8 @@ impl Records {
         requires { IsHeld self.now place }
         ensures { IfOk result (λ r. slice_get self.now place ≡ Some (Some r)) }
     {
-        match self.blocks.record(place) {
-            Some(kept) => kept.copy(alloc),
+        match self.blocks.slot(place) {
+            Some(slot) => slot.copy(alloc),
             None => Err(NoMemory),
         }
     }

@@ -15,5 +15,5 @@ returns-clause-ok c =
     let count = c.self.inside.count in
     let next : c.in-Some.next ≡ count + 1 = grind (arith, c.in-Some.ensures) in
     ap (tabled (in_blocks c.put.new.self)) next
-    ∙ (tabled_push (in_blocks c.self.inside.blocks) (in_blocks c.put.new.self) count (Some c.args.logged) c.in_ok-put.ensures.rest c.in_ok-put.ensures.own
+    ∙ (tabled_push (in_blocks c.self.inside.blocks) (in_blocks c.put.new.self) count (Some c.args.logged) c.in_ok-put.ensures.rest (c.in_ok-put.ensures.own ∙ c.of.ensures)
     ∙ ap (λ (rs : List (Option Record)). rs ++ Some c.args.logged ∷ []) c.self.view_is)

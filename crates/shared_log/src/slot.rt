@@ -1,0 +1,143 @@
+//! What a place has.
+
+ghost use Rattle.std.specs.Prelude.{◌≡◌, IfOk, IsSome, Some, None, true, false};
+ghost use Rattle.std.specs.Arc.{arc_value};
+ghost use Rattle.shared_log.specs.Slots.{held_record, record_with};
+
+use model::{Letter, Mark, Marks, NoMemory, Record, Source, TenantName, Text, Unit};
+use std::alloc::Global;
+use std::marker::Model;
+use std::sync::Arc;
+
+/// Whom the received text came from, and who received it.
+#[derive(Clone, Copy, Debug)]
+struct Route {
+    source: Source,
+    unit: Unit,
+}
+
+/// What else a record has, but for its letter. Records of one tenant can share its name.
+#[derive(Debug, Drop)]
+struct Content {
+    mark: Mark,
+    number: u64,
+    tenant: Arc<TenantName>,
+    text: Text,
+    vector: Marks,
+}
+
+impl Content {
+    #[inline(always)]
+    fn record(
+        &self,
+        alloc: Global,
+        route: Route,
+        letter: Option<Letter>,
+    ) -> Result<Record, NoMemory>
+        ensures { IfOk result (λ r. r ≡ record_with route letter self.now) }
+    {
+        let text = self.text.copy()?;
+        let vector = self.vector.copy(alloc)?;
+        Ok(Record {
+            tenant: self.tenant.copy(),
+            unit: route.unit,
+            mark: self.mark,
+            source: route.source,
+            letter,
+            number: self.number,
+            text,
+            vector,
+        })
+    }
+}
+
+/// What a slot has. The small parts stand beside the tag, where they take no bytes of their own.
+#[derive(Debug, Drop)]
+enum Held {
+    Nothing,
+    // A record that received no letter.
+    Letterless(Route, Content),
+    Lettered(Route, Letter, Content),
+}
+
+impl Held {
+    #[inline(always)]
+    fn of(route: Route, letter: Option<Letter>, content: Content) -> Held
+        ensures { held_record result ≡ Some (record_with route letter content) }
+    {
+        match letter {
+            None => Held::Letterless(route, content),
+            Some(letter) => Held::Lettered(route, letter, content),
+        }
+    }
+}
+
+/// A record, or none. It takes fewer bytes than a `Record`.
+#[derive(Debug, Drop)]
+pub(crate) struct Slot {
+    held: Held,
+}
+
+impl Model for Slot {
+    ghost use Rattle.std.specs.Prelude.{Option};
+    ghost use Rattle.model.specs.declared.records.Record.{Record};
+    ghost use Rattle.shared_log.specs.Slots.{held_record};
+
+    ghost Value = { Option Record };
+
+    ghost view = { λ s. held_record s.held };
+}
+
+impl Slot {
+    pub(crate) fn empty() -> Slot
+        ensures { result ≡ None }
+    {
+        Slot {
+            held: Held::Nothing,
+        }
+    }
+
+    /// The record, with this place for its tenant's name.
+    #[inline(always)]
+    pub(crate) fn of(logged: Record, name: Arc<TenantName>) -> Slot
+        requires { arc_value name ≡ logged.tenant }
+        ensures { result ≡ Some logged }
+    {
+        let letter = logged.letter;
+        let route = Route {
+            source: logged.source,
+            unit: logged.unit,
+        };
+        let content = Content {
+            mark: logged.mark,
+            number: logged.number,
+            tenant: name,
+            text: logged.text,
+            vector: logged.vector,
+        };
+        Slot {
+            held: Held::of(route, letter, content),
+        }
+    }
+
+    pub(crate) fn is_empty(&self) -> bool
+        ensures empty { result ≡ true → self.now ≡ None }
+        ensures full { result ≡ false → IsSome self.now }
+    {
+        match &self.held {
+            Held::Nothing => true,
+            Held::Letterless(..) | Held::Lettered(..) => false,
+        }
+    }
+
+    /// An equal record. Where there is none, it ends as for want of memory.
+    pub(crate) fn copy(&self, alloc: Global) -> Result<Record, NoMemory>
+        ensures { IfOk result (λ r. self.now ≡ Some r) }
+    {
+        match &self.held {
+            Held::Nothing => Err(NoMemory),
+            Held::Letterless(route, content) => content.record(alloc, *route, None),
+            Held::Lettered(route, letter, content) => content.record(alloc, *route, Some(*letter)),
+        }
+    }
+}
