@@ -156,7 +156,7 @@ module _ {S : Type 0} (M : Meaning S) where
   answer_is : (s : Step) → memory_reply s ≡ memory_answer (addressed s).1
   answer_is (AnyOpen tenant kinds quota optimism) = refl
   answer_is (AnyJoin tenant kind) = refl
-  answer_is (AnyPost tenant unit number text) = refl
+  answer_is (AnyPost unit number tenant text) = refl
   answer_is (AnyDeliver tenant letter) = refl
   answer_is (AnyFlush tenant unit) = refl
   answer_is (AnyCheckpoint tenant unit) = refl

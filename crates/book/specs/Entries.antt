@@ -23,7 +23,7 @@ pub record Ledger : Type 0 where
 abbrev pub memory_reply : Step → Reply
 memory_reply (Open tenant kinds quota optimism) = Refused Memory
 memory_reply (Join tenant kind) = Refused Memory
-memory_reply (Post tenant unit number text) = Refused Memory
+memory_reply (Post unit number tenant text) = Refused Memory
 memory_reply (Deliver tenant letter) = Refused Memory
 memory_reply (Flush tenant unit) = Stopped 0 Memory
 memory_reply (Checkpoint tenant unit) = Refused Memory

@@ -94,17 +94,13 @@ impl SharedVector {
         SharedVector::of(alloc, &self.marks)
     }
 
-    /// The marks as a record holds them.
-    ///
-    /// # Errors
-    ///
-    /// `NoMemory` as in [`SharedVector::of`].
+    /// The marks as a record holds them. Takes no memory.
     #[inline(always)]
-    pub fn to_marks(&self, alloc: Global) -> Result<Marks, NoMemory>
-        ensures marks { IfOk result (λ m. m ≡ self.now) }
-        ensures few { IfOk result (λ m. length m ≤ 256) }
+    pub fn into_marks(self) -> Marks
+        ensures marks { result ≡ self }
+        ensures few { length result ≤ 256 }
     {
-        self.marks.copy(alloc)
+        self.marks
     }
 
     /// An equal vector to go on from.

@@ -146,7 +146,7 @@ post_form d = do
   unit ← byte_at (codes "unit") d
   number ← word_at (codes "number") d
   text ← text_at (codes "text") d
-  if has_keys 5 d then Some (Post tenant unit number text) else None
+  if has_keys 5 d then Some (Post unit number tenant text) else None
 
 -- a letter
 unfoldable pub deliver_form : Data → Option Step

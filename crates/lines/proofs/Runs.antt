@@ -102,7 +102,7 @@ module _ (input mid input' out omid out' : Option (List ℕ)) (old bmid new : Le
 memory_reply_is : {A : Type 0} (step : Step) (reply : Reply) → IsRemembered reply → reply ≡ memory_reply step → A
 memory_reply_is (Open tenant kinds quota optimism) reply kept is = absurd (kept.0 is)
 memory_reply_is (Join tenant kind) reply kept is = absurd (kept.0 is)
-memory_reply_is (Post tenant unit number text) reply kept is = absurd (kept.0 is)
+memory_reply_is (Post unit number tenant text) reply kept is = absurd (kept.0 is)
 memory_reply_is (Deliver tenant letter) reply kept is = absurd (kept.0 is)
 memory_reply_is (Flush tenant unit) reply kept is = absurd (kept.1 is)
 memory_reply_is (Checkpoint tenant unit) reply kept is = absurd (kept.0 is)

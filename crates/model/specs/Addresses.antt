@@ -9,7 +9,7 @@ use Rattle.model.specs.declared.steps.TenantStep.TheVariants.{Open, Join, Post, 
 abbrev pub addressed : Step → List ℕ × TenantStep
 addressed (Open tenant kinds quota optimism) = (tenant, Open kinds quota optimism)
 addressed (Join tenant kind) = (tenant, Join kind)
-addressed (Post tenant unit number text) = (tenant, Post unit number text)
+addressed (Post unit number tenant text) = (tenant, Post unit number text)
 addressed (Deliver tenant letter) = (tenant, Deliver letter)
 addressed (Flush tenant unit) = (tenant, Flush unit)
 addressed (Checkpoint tenant unit) = (tenant, Checkpoint unit)

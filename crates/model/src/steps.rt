@@ -77,9 +77,10 @@ pub enum Step {
     },
     /// A unit receives this text from outside, under this session number.
     Post {
-        tenant: TenantName,
+        // The small ones first, between which the others would leave gaps.
         unit: Unit,
         number: u32,
+        tenant: TenantName,
         text: Text,
     },
     /// The letter's receiver receives it.

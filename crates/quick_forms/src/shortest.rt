@@ -15,6 +15,9 @@ use std::alloc::Global;
 /// How long a line may be that is compared byte by byte. The tokens of a longer one are found faster.
 const MOST_BYTES: usize = 512;
 
+/// Where the first byte of the verb stands.
+const VERB: usize = 7;
+
 /// The step, where the line is one of the quick ones in its shortest form.
 pub(crate) fn shortest(alloc: Global, line: &str) -> Result<Option<Step>, NoMemory>
     ensures { IfOk result (λ o. IfSome o (λ s. step_of_tokens (tokens line.now) ≡ Some s)) }
@@ -22,41 +25,59 @@ pub(crate) fn shortest(alloc: Global, line: &str) -> Result<Option<Step>, NoMemo
     if line.len() > MOST_BYTES {
         return Ok(None);
     }
-    if let Some(rest) = behind_deliver(line) {
-        let Some((letter, tenant)) = deliver_parts(rest) else {
-            return Ok(None);
-        };
-        return Ok(delivery(letter, tenant));
+    match line.as_bytes().get(VERB) {
+        Some(b'd') => Ok(delivery_line(line)),
+        Some(b'p') => post_line(alloc, line),
+        _ => Ok(place_line(line)),
     }
-    if let Some(rest) = behind_post(line) {
-        let Some((number, tenant, text, unit)) = post_parts(rest) else {
-            return Ok(None);
-        };
-        return Ok(posted(alloc, number, tenant, text, unit)?);
-    }
-    let Some((verb, rest)) = head(line) else {
-        return Ok(None);
-    };
-    let Some((tenant, unit)) = place_parts(rest) else {
-        return Ok(None);
-    };
-    Ok(place(verb, tenant, unit))
 }
 
-/// What stands behind the verb of a delivery.
+/// The step, where the line is a delivery in its shortest form.
+fn delivery_line(line: &str) -> Option<Step>
+    ensures { IfSome result (λ s. step_of_tokens (tokens line.now) ≡ Some s) }
+{
+    let (letter, tenant) = deliver_parts(behind_deliver(line)?)?;
+    delivery(letter, tenant)
+}
+
+/// The step, where the line is a post in its shortest form.
+fn post_line(alloc: Global, line: &str) -> Result<Option<Step>, NoMemory>
+    ensures { IfOk result (λ o. IfSome o (λ s. step_of_tokens (tokens line.now) ≡ Some s)) }
+{
+    let Some(rest) = behind_post(line) else {
+        return Ok(None);
+    };
+    let Some((number, tenant, text, unit)) = post_parts(rest) else {
+        return Ok(None);
+    };
+    Ok(posted(alloc, number, tenant, text, unit)?)
+}
+
+/// The step, where the line is the shortest form of one that names a tenant and a unit alone.
+fn place_line(line: &str) -> Option<Step>
+    ensures { IfSome result (λ s. step_of_tokens (tokens line.now) ≡ Some s) }
+{
+    let (verb, rest) = head(line)?;
+    let (tenant, unit) = place_parts(rest)?;
+    place(verb, tenant, unit)
+}
+
+/// What stands behind the verb of a delivery and the key of its letter.
 #[tactic(auto, unfolding(json::specs::Print::escape_byte))]
 fn behind_deliver(line: &str) -> Option<&str>
-    ensures { IfSome result (λ rest. line.now ≡ codes "{\"do\":" ++ (quoted_text (codes "deliver") ++ rest.now)) }
+    ensures { IfSome result (λ rest.
+        line.now ≡ codes "{\"do\":" ++ (quoted_text (codes "deliver") ++ (codes ",\"letter\":" ++ rest.now))) }
 {
-    after(line, "{\"do\":\"deliver\"")
+    after(line, "{\"do\":\"deliver\",\"letter\":")
 }
 
-/// What stands behind the verb of a post.
+/// What stands behind the verb of a post and the key of its number.
 #[tactic(auto, unfolding(json::specs::Print::escape_byte))]
 fn behind_post(line: &str) -> Option<&str>
-    ensures { IfSome result (λ rest. line.now ≡ codes "{\"do\":" ++ (quoted_text (codes "post") ++ rest.now)) }
+    ensures { IfSome result (λ rest.
+        line.now ≡ codes "{\"do\":" ++ (quoted_text (codes "post") ++ (codes ",\"number\":" ++ rest.now))) }
 {
-    after(line, "{\"do\":\"post\"")
+    after(line, "{\"do\":\"post\",\"number\":")
 }
 
 /// The verb, and what stands behind it.
@@ -66,11 +87,11 @@ fn head(line: &str) -> Option<(&str, &str)>
     plain_before(after(line, "{\"do\":\"")?, "\"")
 }
 
-/// What a post says behind its verb: its number, tenant, text and unit.
+/// What a post says behind the key of its number: that number, tenant, text and unit.
 fn post_parts(rest: &str) -> Option<(u64, &str, &str, u64)>
-    ensures { IfSome result (λ p. rest.now ≡ post_tail p.0 p.1.now p.2.now p.3) }
+    ensures { IfSome result (λ p. codes ",\"number\":" ++ rest.now ≡ post_tail p.0 p.1.now p.2.now p.3) }
 {
-    let (number, rest) = number_behind(rest, ",\"number\":")?;
+    let (number, rest) = whole(rest)?;
     let (tenant, rest) = plain_before(after(rest, ",\"tenant\":\"")?, "\",\"text\":\"")?;
     let (text, rest) = plain_before(rest, "\",\"unit\":")?;
     let (unit, rest) = whole(rest)?;
@@ -81,11 +102,11 @@ fn post_parts(rest: &str) -> Option<(u64, &str, &str, u64)>
     }
 }
 
-/// What a delivery says behind its verb: its letter and tenant.
+/// What a delivery says behind the key of its letter: that letter and tenant.
 fn deliver_parts(rest: &str) -> Option<(u64, &str)>
-    ensures { IfSome result (λ p. rest.now ≡ deliver_tail p.0 p.1.now) }
+    ensures { IfSome result (λ p. codes ",\"letter\":" ++ rest.now ≡ deliver_tail p.0 p.1.now) }
 {
-    let (letter, rest) = number_behind(rest, ",\"letter\":")?;
+    let (letter, rest) = whole(rest)?;
     let (tenant, rest) = plain_before(after(rest, ",\"tenant\":\"")?, "\"}")?;
     if rest.is_empty() {
         Some((letter, tenant))
@@ -107,13 +128,6 @@ fn place_parts(rest: &str) -> Option<(&str, u64)>
     }
 }
 
-/// The number behind these words, and what stands behind it, where the text begins so.
-fn number_behind<'a>(text: &'a str, words: &str) -> Option<(u64, &'a str)>
-    ensures { IfSome result (λ p. text.now ≡ words.now ++ (decimal p.0 ++ p.1.now)) }
-{
-    whole(after(text, words)?)
-}
-
 /// What stands behind these words, where the text begins with them.
 fn after<'a>(text: &'a str, words: &str) -> Option<&'a str>
     ensures { IfSome result (λ rest. text.now ≡ words.now ++ rest.now) }
@@ -133,7 +147,7 @@ fn plain_before<'a>(text: &'a str, words: &str) -> Option<(&'a str, &'a str)>
 }
 
 /// How many bytes stand there that a string can have without an escape.
-fn plain_len(bytes: &[u8]) -> usize
+pub(crate) fn plain_len(bytes: &[u8]) -> usize
     ensures within { result ≤ length bytes.now }
     ensures plain { escape (take result bytes.now) ≡ take result bytes.now }
 {

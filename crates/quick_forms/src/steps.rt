@@ -1,6 +1,6 @@
 //! The step of a line, token by token.
 
-ghost use Rattle.std.specs.Prelude.{◌≡◌, ◌<◌, ℕ, ◌∷◌, codes, length, Some, None, Err, IfOk, IfSome, IsTrue, MatchBool, OnOk, slice_index, ◌==◌};
+ghost use Rattle.std.specs.Prelude.{◌≡◌, ◌<◌, ℕ, ◌∷◌, codes, length, Some, None, Err, IfOk, IfSome, IsTrue, IsUtf8, MatchBool, MatchOption, OnOk, slice_index, ◌==◌};
 ghost use Rattle.json.specs.Json as grammar;
 ghost use Rattle.json.specs.Lex.{tokens};
 ghost use Rattle.json.specs.Token.Token.{begin_object};
@@ -17,6 +17,9 @@ use forms::LineFault;
 use json::{Invalid, Reader, Scratch, Token};
 use model::{Letter, MAX_INDEX, NoMemory, Step, TenantName, Text, Unit};
 use std::alloc::Global;
+
+/// From how many bytes on many are looked at together. Of fewer the standard library tells as fast, with less around it.
+const FEW_BYTES: usize = 64;
 
 /// The last value of each key so far.
 #[derive(Clone, Copy, Drop)]
@@ -37,7 +40,7 @@ struct Seen<'a> {
 pub fn read_step(alloc: Global, scratch: &mut Scratch, line: &[u8]) -> Result<Step, LineFault>
     ensures { Gives (λ s. s) result (step_of_line line.now) }
 {
-    let Ok(text) = simdutf8::compat::from_utf8(line) else {
+    let Some(text) = text_of(line) else {
         return Err(LineFault::Bad);
     };
     if begins_no_object(text) {
@@ -51,6 +54,17 @@ pub fn read_step(alloc: Global, scratch: &mut Scratch, line: &[u8]) -> Result<St
         Ok(Some(step)) => Ok(step),
         Ok(None) => forms::read_step(alloc, line),
         Err(fault) => Err(fault),
+    }
+}
+
+/// The line as text, if it is one.
+fn text_of(line: &[u8]) -> Option<&str>
+    ensures { MatchOption result (¬ (IsUtf8 line.now)) (λ text. (text.now ≡ line.now) × IsUtf8 line.now) }
+{
+    if line.len() < FEW_BYTES {
+        str::from_utf8(line).ok()
+    } else {
+        simdutf8::compat::from_utf8(line).ok()
     }
 }
 

@@ -295,7 +295,7 @@ impl Blocks {
 /// forgotten. Records lie in blocks of 16 places, each with room for a record: those blocks that keep
 /// one, and the one that was put into last. So there is at most one block for each record that is not
 /// forgotten, and one more, however many were forgotten. Records of one tenant that came in one after
-/// the other share its name, which goes with the last of them.
+/// the other share its name. It goes with the last of them, once one of another tenant came in.
 #[derive(Debug, Drop)]
 pub struct Records {
     // How many came in.

@@ -2,7 +2,7 @@
 
 ghost use Rattle.std.specs.Prelude.{◌≡◌, IfOk, IsSome, Some, None, true, false};
 ghost use Rattle.std.specs.Arc.{arc_value};
-ghost use Rattle.shared_log.specs.Slots.{held_record, record_with};
+ghost use Rattle.shared_log.specs.Slots.{slot_record, record_with};
 
 use model::{Letter, Mark, Marks, NoMemory, Record, Source, TenantName, Text, Unit};
 use std::alloc::Global;
@@ -18,7 +18,7 @@ struct Route {
 
 /// What else a record has, but for its letter. Records of one tenant can share its name.
 #[derive(Debug, Drop)]
-struct Content {
+struct Body {
     mark: Mark,
     number: u64,
     tenant: Arc<TenantName>,
@@ -26,7 +26,7 @@ struct Content {
     vector: Marks,
 }
 
-impl Content {
+impl Body {
     #[inline(always)]
     fn record(
         &self,
@@ -53,21 +53,21 @@ impl Content {
 
 /// What a slot has. The small parts stand beside the tag, where they take no bytes of their own.
 #[derive(Debug, Drop)]
-enum Held {
-    Nothing,
+enum Occupancy {
+    Vacant,
     // A record that received no letter.
-    Letterless(Route, Content),
-    Lettered(Route, Letter, Content),
+    Letterless(Route, Body),
+    Lettered(Route, Letter, Body),
 }
 
-impl Held {
+impl Occupancy {
     #[inline(always)]
-    fn of(route: Route, letter: Option<Letter>, content: Content) -> Held
-        ensures { held_record result ≡ Some (record_with route letter content) }
+    fn of(route: Route, letter: Option<Letter>, body: Body) -> Occupancy
+        ensures { slot_record result ≡ Some (record_with route letter body) }
     {
         match letter {
-            None => Held::Letterless(route, content),
-            Some(letter) => Held::Lettered(route, letter, content),
+            None => Occupancy::Letterless(route, body),
+            Some(letter) => Occupancy::Lettered(route, letter, body),
         }
     }
 }
@@ -75,17 +75,17 @@ impl Held {
 /// A record, or none. It takes fewer bytes than a `Record`.
 #[derive(Debug, Drop)]
 pub(crate) struct Slot {
-    held: Held,
+    occupancy: Occupancy,
 }
 
 impl Model for Slot {
     ghost use Rattle.std.specs.Prelude.{Option};
     ghost use Rattle.model.specs.declared.records.Record.{Record};
-    ghost use Rattle.shared_log.specs.Slots.{held_record};
+    ghost use Rattle.shared_log.specs.Slots.{slot_record};
 
     ghost Value = { Option Record };
 
-    ghost view = { λ s. held_record s.held };
+    ghost view = { λ s. slot_record s.occupancy };
 }
 
 impl Slot {
@@ -93,7 +93,7 @@ impl Slot {
         ensures { result ≡ None }
     {
         Slot {
-            held: Held::Nothing,
+            occupancy: Occupancy::Vacant,
         }
     }
 
@@ -108,7 +108,7 @@ impl Slot {
             source: logged.source,
             unit: logged.unit,
         };
-        let content = Content {
+        let body = Body {
             mark: logged.mark,
             number: logged.number,
             tenant: name,
@@ -116,7 +116,7 @@ impl Slot {
             vector: logged.vector,
         };
         Slot {
-            held: Held::of(route, letter, content),
+            occupancy: Occupancy::of(route, letter, body),
         }
     }
 
@@ -124,9 +124,9 @@ impl Slot {
         ensures empty { result ≡ true → self.now ≡ None }
         ensures full { result ≡ false → IsSome self.now }
     {
-        match &self.held {
-            Held::Nothing => true,
-            Held::Letterless(..) | Held::Lettered(..) => false,
+        match &self.occupancy {
+            Occupancy::Vacant => true,
+            Occupancy::Letterless(..) | Occupancy::Lettered(..) => false,
         }
     }
 
@@ -134,10 +134,10 @@ impl Slot {
     pub(crate) fn copy(&self, alloc: Global) -> Result<Record, NoMemory>
         ensures { IfOk result (λ r. self.now ≡ Some r) }
     {
-        match &self.held {
-            Held::Nothing => Err(NoMemory),
-            Held::Letterless(route, content) => content.record(alloc, *route, None),
-            Held::Lettered(route, letter, content) => content.record(alloc, *route, Some(*letter)),
+        match &self.occupancy {
+            Occupancy::Vacant => Err(NoMemory),
+            Occupancy::Letterless(route, body) => body.record(alloc, *route, None),
+            Occupancy::Lettered(route, letter, body) => body.record(alloc, *route, Some(*letter)),
         }
     }
 }

@@ -44,7 +44,7 @@ fn stay(alloc: Global, marks: &[Mark]) -> Result<bool, NoMemory>
     requires { length marks.now ≤ 256 }
 {
     let shared = DepVector::of(alloc, marks)?.into_shared(alloc)?;
-    let recorded = shared.copy(alloc)?.to_marks(alloc)?;
+    let recorded = shared.copy(alloc)?.into_marks();
     let read = SharedVector::of(alloc, &recorded)?;
     let own = read.to_own(alloc)?;
     let are_same = recorded.as_slice() == marks && own.as_slice() == marks;

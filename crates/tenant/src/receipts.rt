@@ -120,22 +120,20 @@ impl<H: Handler> Tenant<H> {
     /// The record of a receipt, whose interval has this vector.
     fn record_upon(
         &self,
-        alloc: Global,
         name: &TenantName,
         unit: Unit,
         member: &Member<H>,
         arrival: &Arrival<'_>,
-        vector: &SharedVector,
+        vector: SharedVector,
     ) -> Result<Record, NoMemory>
         requires room { places member.now.recovering < 2 ^ 32 }
-        requires own { vector.now ≡ next_vector_of self.now unit member.now (arrived arrival.now) }
+        requires own { vector ≡ next_vector_of self.now unit member.now (arrived arrival.now) }
         ensures record { IfOk result (λ r. r ≡ next_record_of name.now self.now unit member.now (arrived arrival.now)) }
         ensures few { IfOk result (λ r. length r.vector ≤ 256) }
     {
         let mark = mark_upon(&self.table, unit, member.recovering());
         let _few = vector.as_slice();
         record_upon(
-            alloc,
             name,
             unit,
             mark,
@@ -208,7 +206,7 @@ impl<H: Handler> Tenant<H> {
     {
         let vector = self.vector_upon(alloc, unit, member, arrival)?;
         let made = self.letters_upon(alloc, unit, &vector, sessions, arrival.source, turn)?;
-        let logged = self.record_upon(alloc, name, unit, member, arrival, &vector)?;
+        let logged = self.record_upon(name, unit, member, arrival, vector)?;
         let answer = self.reply_upon(alloc, unit, member, made.len(), turn)?;
         Ok(Plan {
             logged,

@@ -65,9 +65,8 @@ pub fn vector_upon<H: Handler>(
 ///
 /// # Errors
 ///
-/// `NoMemory` where the vector finds no memory.
+/// `NoMemory` where there are 2^63 - 1 copies of the text already.
 pub fn record_upon(
-    alloc: Global,
     tenant: &TenantName,
     unit: Unit,
     mark: Mark,
@@ -75,7 +74,7 @@ pub fn record_upon(
     letter: Option<Letter>,
     number: u64,
     text: &Text,
-    vector: &SharedVector,
+    vector: SharedVector,
 ) -> Result<Record, NoMemory>
     ensures { IfOk result (λ r. r ≡ record {
       tenant = tenant.now;
@@ -85,12 +84,12 @@ pub fn record_upon(
       letter = letter;
       number = number;
       text = text.now;
-      vector = vector.now;
+      vector = vector;
     }) }
 {
     let tenant = tenant.copy();
     let text = text.copy()?;
-    let vector = vector.to_marks(alloc)?;
+    let vector = vector.into_marks();
     Ok(Record {
         tenant,
         unit,

@@ -26,7 +26,7 @@ numbered n (s ∷ ss) = (n, s) ∷ numbered (n + 1) ss
 abbrev pub IsFlush : Step → Type 0
 IsFlush (Open tenant kinds quota optimism) = ⊥
 IsFlush (Join tenant kind) = ⊥
-IsFlush (Post tenant unit number text) = ⊥
+IsFlush (Post unit number tenant text) = ⊥
 IsFlush (Deliver tenant letter) = ⊥
 IsFlush (Flush tenant unit) = Unit {0}
 IsFlush (Checkpoint tenant unit) = ⊥
