@@ -4,13 +4,16 @@ After a fault the run ends with status 1, what it wrote is a beginning of what a
 and each reply is to a line that stands in the journal. A run that goes on gives the rest.
 """
 
+import json
 import os
+import re
 import stat
 import subprocess
 
 from crashes import first_difference, plain, whole_lines
 from inputs import small_input
 
+NAMED = re.compile(rb"(?:give those from line|the journal, which has|the journal has) (\d+)")
 SEED = 77
 LINES = 24
 
@@ -34,6 +37,16 @@ class Journal:
         out, said, status = self.program.run(given, "run", "--journal", journal, "--from", str(seen))
         return out, None if status == 0 else f"going on has status {status}: {said.decode()}"
 
+    def misled(self, journal, said):
+        """What is wrong with the line that a message names to go on from: it is how many whole lines the file has."""
+        named, has = NAMED.search(said), whole_lines(journal)
+        told = self.program.run(b"", "journal", "--json", journal)[0] if os.path.exists(journal) else b""
+        if named and int(named[1]) != has:
+            return f"line {int(named[1])} is named, and the journal has {has}: {said.decode(errors='replace')}"
+        if told and json.loads(told)["lines"] != has:
+            return f"{told.decode()} is told, and the journal has {has}"
+        return None
+
     def with_fault(self, name, **faults):
         """A run of all lines, one read for each, with these faults, and one that goes on: whether the fault came, and
         what was wrong."""
@@ -48,6 +61,8 @@ class Journal:
             return True, "before the fault: " + first_difference(seen, self.wanted)
         if whole_lines(journal) < seen.count(b"\n"):
             return True, "a line was answered that isn't in the journal"
+        if wrong := self.misled(journal, said):
+            return True, wrong
         out, wrong = self.rest(journal, seen.count(b"\n"))
         if wrong is None and seen + out != self.wanted:
             wrong = "after the fault: " + first_difference(seen + out, self.wanted)
@@ -68,8 +83,8 @@ def each_in_turn(own, name, word, values):
 
 
 def syncs(own):
-    # The second is that of the folder, whose failure is told and ends nothing.
-    return each_in_turn(own, "syncs", "sync", [1, *range(3, 1000)])
+    # The third is that of the folder, whose failure is told and ends nothing.
+    return each_in_turn(own, "syncs", "sync", [1, 2, *range(4, 1000)])
 
 
 def writes(own):
@@ -99,13 +114,13 @@ def words(own):
         return 1, "a first run"
     if stat.S_IMODE(os.stat(journal).st_mode) != 0o600 or open(journal, "rb").read() != given:
         return 1, "the file and its mode"
-    tells = f"recall: the journal {journal} has {LINES} lines: give those from line {LINES} on (from 0)\n".encode()
+    tells = f'recall: the journal "{journal}" has {LINES} lines: give those from line {LINES} on (from 0)\n'.encode()
     if own.program.run(b"", *run) != (b"", tells, 0):
         return 1, "going on with nothing"
     tail = b"".join(own.wanted.splitlines(True)[20:])
     if own.program.run(b"", *run, "--from", "20") != (tail, tells, 0):
         return 1, "going on from 20"
-    past = f"recall: the journal {journal} has {LINES} lines: there is no line {LINES + 1} to go on from\n".encode()
+    past = f'recall: the journal "{journal}" has {LINES} lines: there is no line {LINES + 1} to go on from\n'.encode()
     if own.program.run(b"", *run, "--from", str(LINES + 1)) != (b"", past, 2):
         return 1, "going on from past the end"
     if own.program.run(b"", *run, "--log", own.new("log"))[2] != 2 or own.program.run(b"", "run", "--from", "1")[2] != 2:
@@ -124,7 +139,7 @@ def locked(own, journal):
     talk.ask(b"{}")
     out, said, status = own.program.run(b"", "run", "--journal", journal)
     talk.end()
-    wanted = (b"", f"recall: another run has the journal {journal}\n".encode(), 1)
+    wanted = (b"", f'recall: another run has the journal "{journal}"\n'.encode(), 1)
     return None if (out, said, status) == wanted else "a second run at once"
 
 
@@ -133,8 +148,8 @@ def torn(own):
     journal = own.new("torn")
     with open(journal, "wb") as file:
         file.write(own.lines[0] + own.lines[1][:-1])
-    said = own.program.run(b"", "run", "--journal", journal)[1]
-    if b"was not whole, and is cut off: it has 1 lines" not in said or open(journal, "rb").read() != own.lines[0]:
+    said = own.program.run(b"", "run", "--journal", journal, "--adopt")[1]
+    if b"was not whole, and is cut off: it has 1 line," not in said or open(journal, "rb").read() != own.lines[0]:
         return "a torn line"
     journal = own.new("open")
     out = own.program.run(b"".join(own.lines)[:-1], "run", "--journal", journal)[0]

@@ -1,8 +1,7 @@
 //! A handler of one's own: charges and refunds, on `recall`.
 //!
-//! The program takes step lines on standard input and gives reply lines on standard output, as
-//! `recall run` does, with units of two kinds. A `ledger` keeps the balances and decides; a `card`,
-//! which is unit 1, puts out what really moves money. An output that has left can't be taken back,
+//! The program has the words of `recall`, `--journal` among them, with units of two kinds. A `ledger`
+//! keeps the balances and decides; a `card`, which is unit 1, puts out what really moves money. An output that has left can't be taken back,
 //! so `recall` lets it go only when everything that it depends on is logged.
 //!
 //! - `billing`: the handler, thin over the others, which carries the law of the trait;
@@ -25,28 +24,25 @@ mod role;
 mod turns;
 
 use billing::Billing;
-use book::Book;
-use lines::{Counted, ServeFault, serve};
-use shared_log::MemoryStore;
-use std::io::{BufReader, BufWriter, Write};
-use std::{io, mem};
+use host_cli::{Program, Terminals, run_program};
+use std::io::IsTerminal;
+use std::process::ExitCode;
 
-fn main(rt: HostRuntime) -> Result<(), ServeFault> {
-    let alloc = rt.alloc();
-    let (Ok(reader), Ok(writer)) = (
-        BufReader::new(alloc, rt.reader()),
-        BufWriter::new(alloc, io::writer(&rt)),
-    ) else {
-        return Err(ServeFault::NoMemory);
+/// What the program tells of itself.
+const BILLING: Program<'static> = Program {
+    name: "billing",
+    about: "Charges and refunds: a ledger keeps the balances, and a card moves money",
+    version: "0.2.0",
+    handler: "billing",
+    handler_version: "1",
+    kinds: &["ledger", "card"],
+    example: r#"{"do":"open","tenant":"shop","units":["ledger","card"]}"#,
+};
+
+fn main(rt: HostRuntime) -> ExitCode {
+    let terminals = Terminals {
+        input: rt.stdin().is_terminal(),
+        errors: rt.stderr().is_terminal(),
     };
-    let mut reader = Counted::new(reader);
-    let mut writer = Counted::new(writer);
-    let mut book = Book::new(alloc, Billing, MemoryStore::new(alloc));
-    let served = serve(alloc, &mut reader, &mut writer, &mut book);
-    // After a fault too, what was answered goes out, as far as it can.
-    let _ = writer.inner.flush();
-    // The process ends with this: there is no need to let go of each text of the history.
-    mem::forget(book);
-    served?;
-    Ok(())
+    ExitCode::from(run_program(&rt, Billing, &BILLING, terminals))
 }

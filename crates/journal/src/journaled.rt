@@ -74,6 +74,13 @@ impl<R, F> Journaled<R, F> {
         })
     }
 
+    /// The file.
+    pub fn file(&self) -> &F
+        ensures { result.now ≡ self.now.file }
+    {
+        &self.file
+    }
+
     /// How many whole lines were appended and synced.
     pub fn lines(&self) -> u64
         ensures { result ≡ self.now.lines }

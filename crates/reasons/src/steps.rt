@@ -13,7 +13,8 @@ use std::alloc::Global;
 const MEMORY: &str = "there was no memory: give it again";
 
 /// Why a line was refused, and what would help, in one sentence: `post: unit 3 is down: restart it first`. The line has no
-/// line feed at its end. Of a line that is too long its first 65,537 bytes are enough.
+/// line feed at its end. Of a line that is too long its first 65,537 bytes are enough. `kinds` are those that the handler
+/// knows: of an unknown one they are told.
 ///
 /// # Errors
 ///
@@ -21,6 +22,7 @@ const MEMORY: &str = "there was no memory: give it again";
 pub fn reason<H: Handler>(
     alloc: Global,
     handler: &H,
+    kinds: &[&str],
     line: &[u8],
     refusal: &str,
 ) -> Result<String, NoMemory> {
@@ -29,7 +31,7 @@ pub fn reason<H: Handler>(
         return Ok(format!(in alloc; "bad-line: {fault}")?);
     }
     match read_step(alloc, line) {
-        Ok(step) => reason_of_step(alloc, handler, &step, refusal),
+        Ok(step) => reason_of_step(alloc, handler, kinds, &step, refusal),
         Err(LineFault::Bad) => Ok(format!(in alloc; "{refusal}")?),
         Err(LineFault::NoMemory) => Ok(MEMORY.to_string(alloc)?),
     }
@@ -51,10 +53,11 @@ pub fn wait_reason(alloc: Global, receiver: Unit, unit: Unit) -> Result<String, 
 fn reason_of_step<H: Handler>(
     alloc: Global,
     handler: &H,
+    kinds: &[&str],
     step: &Step,
     refusal: &str,
 ) -> Result<String, NoMemory> {
-    let why = why(alloc, handler, step, refusal)?;
+    let why = why(alloc, handler, kinds, step, refusal)?;
     Ok(format!(in alloc; "{}: {why}", name_of(step))?)
 }
 
@@ -93,12 +96,13 @@ fn unit_of(step: &Step) -> Option<u8> {
 fn why<H: Handler>(
     alloc: Global,
     handler: &H,
+    kinds: &[&str],
     step: &Step,
     refusal: &str,
 ) -> Result<String, NoMemory> {
     match refusal {
         "no-tenant" | "already-open" => why_of_tenant(alloc, step, refusal),
-        "bad-open" => why_bad_open(alloc, handler, step),
+        "bad-open" => why_bad_open(alloc, handler, kinds, step),
         "no-unit" | "down" | "up" | "unlogged" => why_of_unit(alloc, step, refusal),
         "repeat" | "gap" => why_of_number(alloc, step, refusal),
         "too-much" => why_too_much(alloc, step),
@@ -116,15 +120,32 @@ fn why_of_tenant(alloc: Global, step: &Step, refusal: &str) -> Result<String, No
     })
 }
 
-fn why_bad_open<H: Handler>(alloc: Global, handler: &H, step: &Step) -> Result<String, NoMemory> {
+fn why_bad_open<H: Handler>(
+    alloc: Global,
+    handler: &H,
+    kinds: &[&str],
+    step: &Step,
+) -> Result<String, NoMemory> {
     Ok(match unknown_kind(handler, step) {
-        Some(kind) => format!(in alloc; "there is no kind {:?}", kind.as_str())?,
+        Some(kind) => why_unknown(alloc, kind, kinds)?,
         None => {
             format!(in alloc;
                 "1 to {MAX_UNITS} units are wanted, quotas of 1 to {MAX_VOLATILE_QUOTA} (letters: to {MAX_LETTERS_QUOTA}), and optimism of 0 to {MAX_OPTIMISM}"
             )?
         }
     })
+}
+
+/// That there is no such kind, and which there are.
+fn why_unknown(alloc: Global, kind: &Text, kinds: &[&str]) -> Result<String, NoMemory> {
+    let mut why = format!(in alloc; "there is no kind {:?}: take one of", kind.as_str())?;
+    let mut before = " ";
+    for known in kinds {
+        why.push_str(before)?;
+        why.push_str(known)?;
+        before = ", ";
+    }
+    Ok(why)
 }
 
 /// The first kind that the handler doesn't know.

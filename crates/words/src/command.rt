@@ -1,68 +1,28 @@
-//! The words of the command line.
+//! The words, read with `clap`.
 
-use crate::complaints::Talk;
+use crate::asked::{Asked, DrawWords, FeedsWords, JournalWords, RunWords};
+use crate::pages::Pages;
+use crate::talk::Talk;
 use clap::error::ErrorKind;
 use clap::{Arg, ArgAction, ArgMatches, Command, Error, value_parser};
 use diagram::Window;
 use model::MAX_FEEDS;
 use std::alloc::Global;
 
-/// What the words ask for.
-pub(crate) enum Asked<'a> {
-    /// `recall run`.
-    Run(RunWords<'a>),
-    /// `recall feeds`.
-    Feeds(FeedsWords<'a>),
-    /// `recall draw`.
-    Draw(DrawWords<'a>),
-    /// Help was printed, or the words were bad: the status to end with.
-    Ended(u8),
-}
-
-/// What `recall run` is to do beside answering lines.
-#[derive(Clone, Copy, Debug)]
-pub(crate) struct RunWords<'a> {
-    /// Audit the tenants after the last line.
-    pub audit: bool,
-    /// Tell why each line was refused.
-    pub explain: bool,
-    /// The file that the log is written to.
-    pub log: Option<&'a str>,
-    /// The file that the lines are kept in.
-    pub journal: Option<&'a str>,
-    /// The line of the journal from which on replies are written.
-    pub from: Option<u64>,
-    /// How much is told.
-    pub talk: Talk,
-}
-
-/// What `recall feeds` is to do.
-#[derive(Debug, Drop)]
-pub(crate) struct FeedsWords<'a> {
-    /// Audit the tenants after the last reply.
-    pub audit: bool,
-    /// The files of the feeds, in order.
-    pub files: Vec<&'a str>,
-    /// How much is told.
-    pub talk: Talk,
-}
-
-/// What `recall draw` is to draw, and where to.
-#[derive(Clone, Copy, Debug)]
-pub(crate) struct DrawWords<'a> {
-    /// The tenant, or else the first one opened.
-    pub tenant: Option<&'a str>,
-    /// The file, or else the output.
-    pub to: Option<&'a str>,
-    /// The columns.
-    pub window: Window,
-}
-
 /// The flag that asks for audit lines.
 const AUDIT: &str = "audit";
 
 /// The flag that asks for reasons.
 const EXPLAIN: &str = "explain";
+
+/// The flag that asks for another status where a line was refused.
+const STRICT: &str = "strict";
+
+/// The flag that takes over a journal.
+const ADOPT: &str = "adopt";
+
+/// The flag that asks for JSON.
+const JSON: &str = "json";
 
 /// The option that names the log's file.
 const LOG: &str = "log";
@@ -76,7 +36,7 @@ const QUIET: &str = "quiet";
 /// The flag that asks for what was done.
 const VERBOSE: &str = "verbose";
 
-/// The files of the feeds.
+/// The files of the feeds, or the journal.
 const FILE: &str = "FILE";
 
 /// The option that names the tenant that is drawn.
@@ -91,19 +51,14 @@ const FROM: &str = "from";
 /// The option that has how many last columns.
 const LAST: &str = "last";
 
-/// The version of the program.
-const VERSION: &str = "0.1.0";
-
-const EXAMPLE: &str =
-    "Example:\n  printf '%s\\n' '{\"do\":\"open\",\"tenant\":\"a\",\"units\":[\"echo\"]}' | recall run";
-
 /// Reads the words, and prints help or what is wrong with them. Help that can't be written is an output
 /// fault, of status 1.
-pub(crate) fn read_words<'a, R: Print + Eprint + AllocGlobal>(
+pub fn read_words<'a, R: Print + Eprint + AllocGlobal>(
     rt: &R,
+    pages: &'a Pages,
     words: &'a [String],
 ) -> Asked<'a> {
-    match read_command(rt, words) {
+    match read_command(rt, pages, words) {
         Ok(asked) => asked,
         Err(error) => {
             let status = status_of(&error);
@@ -164,43 +119,68 @@ fn talk_of(words: &ArgMatches<'_>) -> Talk {
     }
 }
 
+/// The options of `run` that speak of files.
+fn with_files<'a>(alloc: Global, run: Command<'a>) -> Result<Command<'a>, Error> {
+    let log = Arg::new(alloc, LOG).long(LOG).value_name("FILE").help(
+        "Makes FILE anew, for its owner alone, and writes a line to it for each record that is logged",
+    );
+    let journal = Arg::new(alloc, JOURNAL)
+        .long(JOURNAL)
+        .value_name("FILE")
+        .conflicts_with(LOG)?
+        .help(
+            "Keeps each line in FILE before it is stepped, and begins with the lines that FILE has, without their replies",
+        );
+    let from = Arg::new(alloc, FROM)
+        .long(FROM)
+        .value_name("N")
+        .value_parser(value_parser!(u64))
+        .requires_arg(JOURNAL)?
+        .help("Writes the replies to the lines of the journal from N on (from 0)");
+    let adopt = Arg::new(alloc, ADOPT)
+        .long(ADOPT)
+        .action(ArgAction::SetTrue)
+        .requires_arg(JOURNAL)?
+        .help("Takes over a FILE that isn't known to be a journal of this program and its handler");
+    Ok(run.arg(log)?.arg(journal)?.arg(from)?.arg(adopt)?)
+}
+
 /// The command `run`.
-fn run_command<'a>(alloc: Global) -> Result<Command<'a>, Error> {
+fn run_command<'a>(alloc: Global, pages: &'a Pages) -> Result<Command<'a>, Error> {
+    let explain = Arg::new(alloc, EXPLAIN)
+        .long(EXPLAIN)
+        .action(ArgAction::SetTrue)
+        .help(
+            "Writes to standard error why each line was refused, and what would help; always, where that is a terminal",
+        );
+    let strict = Arg::new(alloc, STRICT)
+        .long(STRICT)
+        .action(ArgAction::SetTrue)
+        .help("Ends with status 3 where a line was refused; each line is answered all the same");
     let run = Command::new(alloc, "run")
         .about("Reads step lines from standard input and writes a reply line for each")
-        .after_help(EXAMPLE)
-        .arg(
-            Arg::new(alloc, LOG).long(LOG).value_name("FILE").help(
-                "Makes FILE anew, and writes a line to it for each record that is logged",
-            ),
-        )?
-        .arg(
-            Arg::new(alloc, EXPLAIN)
-                .long(EXPLAIN)
-                .action(ArgAction::SetTrue)
-                .help("Writes to standard error why each line was refused, and what would help"),
-        )?
-        .arg(
-            Arg::new(alloc, JOURNAL)
-                .long(JOURNAL)
-                .value_name("FILE")
-                .conflicts_with(LOG)?
-                .help(
-                    "Keeps each line in FILE before it is stepped, and begins with the lines that FILE has, without their replies",
-                ),
-        )?
-        .arg(
-            Arg::new(alloc, FROM)
-                .long(FROM)
-                .value_name("N")
-                .value_parser(value_parser!(u64))
-                .requires_arg(JOURNAL)?
-                .help("Writes the replies to the lines of the journal from N on (from 0)"),
-        )?
+        .after_help(pages.run.as_str());
+    let run = with_files(alloc, run)?
+        .arg(explain)?
+        .arg(strict)?
         .arg(audit_flag(alloc))?
         .arg(quiet_flag(alloc))?
         .arg(verbose_flag(alloc)?)?;
     Ok(run)
+}
+
+/// The command `journal`.
+fn journal_command<'a>(alloc: Global) -> Result<Command<'a>, Error> {
+    let file = Arg::new(alloc, FILE).required(true).help("The journal");
+    let json = Arg::new(alloc, JSON)
+        .long(JSON)
+        .action(ArgAction::SetTrue)
+        .help("Writes one JSON object");
+    let journal = Command::new(alloc, "journal")
+        .about("Tells how many lines and bytes a journal has, also while a run has it")
+        .arg(file)?
+        .arg(json)?;
+    Ok(journal)
 }
 
 /// The command `feeds`.
@@ -280,31 +260,48 @@ fn files_of<'a>(alloc: Global, feeds: &ArgMatches<'a>) -> Result<Vec<&'a str>, E
     Ok(files)
 }
 
-/// What the words ask for.
-fn read_command<'a, R: AllocGlobal>(rt: &R, words: &'a [String]) -> Result<Asked<'a>, Error> {
-    let alloc = rt.alloc();
-    // The words' first is the name of the file that runs, which need not be `recall`.
-    let words = words.get(1..).unwrap_or(&[]);
-    let recall = Command::new(alloc, "recall")
+/// What `run` is to do.
+fn run_words<'a>(run: &ArgMatches<'a>) -> RunWords<'a> {
+    RunWords {
+        audit: run.get_flag(AUDIT),
+        explain: run.get_flag(EXPLAIN),
+        strict: run.get_flag(STRICT),
+        log: run.get_str(LOG),
+        journal: run.get_str(JOURNAL),
+        from: run.get_one::<u64>(FROM),
+        adopt: run.get_flag(ADOPT),
+        talk: talk_of(run),
+    }
+}
+
+/// All commands of a program.
+fn command_of<'a>(alloc: Global, pages: &'a Pages) -> Result<Command<'a>, Error> {
+    let command = Command::new(alloc, pages.name.as_str())
         .no_binary_name(true)
-        .bin_name("recall")?
-        .about("A multi-tenant optimistic recovery runtime")
-        .version(VERSION)
-        .after_help(EXAMPLE)
+        .bin_name(pages.name.as_str())?
+        .about(pages.about.as_str())
+        .version(pages.version.as_str())
+        .after_help(pages.whole.as_str())
         .subcommand_required(true)
-        .subcommand(run_command(alloc)?)?
+        .subcommand(run_command(alloc, pages)?)?
         .subcommand(feeds_command(alloc)?)?
-        .subcommand(draw_command(alloc)?)?;
-    let matches = recall.try_get_matches_from(words)?;
+        .subcommand(draw_command(alloc)?)?
+        .subcommand(journal_command(alloc)?)?;
+    Ok(command)
+}
+
+/// What the words ask for.
+fn read_command<'a, R: AllocGlobal>(
+    rt: &R,
+    pages: &'a Pages,
+    words: &'a [String],
+) -> Result<Asked<'a>, Error> {
+    let alloc = rt.alloc();
+    // The words' first is the name of the file that runs, which need not be the program's.
+    let words = words.get(1..).unwrap_or(&[]);
+    let matches = command_of(alloc, pages)?.try_get_matches_from(words)?;
     if let Some(run) = matches.subcommand_matches("run") {
-        return Ok(Asked::Run(RunWords {
-            audit: run.get_flag(AUDIT),
-            explain: run.get_flag(EXPLAIN),
-            log: run.get_str(LOG),
-            journal: run.get_str(JOURNAL),
-            from: run.get_one::<u64>(FROM),
-            talk: talk_of(run),
-        }));
+        return Ok(Asked::Run(run_words(run)));
     }
     if let Some(feeds) = matches.subcommand_matches("feeds") {
         return Ok(Asked::Feeds(FeedsWords {
@@ -315,6 +312,12 @@ fn read_command<'a, R: AllocGlobal>(rt: &R, words: &'a [String]) -> Result<Asked
     }
     if let Some(draw) = matches.subcommand_matches("draw") {
         return Ok(Asked::Draw(draw_words(draw)));
+    }
+    if let Some(journal) = matches.subcommand_matches("journal") {
+        return Ok(Asked::Journal(JournalWords {
+            file: journal.get_str(FILE).unwrap_or(""),
+            json: journal.get_flag(JSON),
+        }));
     }
     Ok(Asked::Ended(2))
 }

@@ -1,20 +1,21 @@
 //! What a run keeps of the past, which `--verbose` tells.
 
-use crate::complaints::Talk;
 use book::Book;
-use handler::Sample;
+use handler::Handler;
 use log::{Log, info};
 use model::{Kept, MAX_UNITS, NoMemory, TenantName, Unit};
-use stable_log::Store;
+use shared_log::Store;
+use terminal::Plural;
+use words::Talk;
 
 /// Tells the sums over all units of all tenants, where so much is told.
-pub(crate) fn tell_kept<L: Log, S: Store>(told: &L, book: &Book<Sample, S>, talk: Talk) {
+pub fn tell_kept<L: Log, H: Handler, S: Store>(told: &L, book: &Book<H, S>, talk: Talk) {
     if talk != Talk::Verbose {
         return;
     }
     match kept_of_all(book) {
         Ok(kept) => {
-            info!(told; "kept of the past: {} live records, {} checkpoints, the texts of {} letters", kept.records, kept.shelved, kept.letters);
+            info!(told; "kept of the past: {}, {}, the texts of {}", Plural(kept.records, "live record"), Plural(kept.shelved, "checkpoint"), Plural(kept.letters, "letter"));
         }
         Err(NoMemory) => {
             info!(told; "there is no memory for the names of the tenants: what is kept of the past isn't told");
@@ -23,7 +24,7 @@ pub(crate) fn tell_kept<L: Log, S: Store>(told: &L, book: &Book<Sample, S>, talk
 }
 
 /// The sums over all units of all tenants.
-fn kept_of_all<S: Store>(book: &Book<Sample, S>) -> Result<Kept, NoMemory> {
+fn kept_of_all<H: Handler, S: Store>(book: &Book<H, S>) -> Result<Kept, NoMemory> {
     let mut all = Kept {
         records: 0,
         shelved: 0,
@@ -40,11 +41,11 @@ fn kept_of_all<S: Store>(book: &Book<Sample, S>) -> Result<Kept, NoMemory> {
     Ok(all)
 }
 
-fn names_of<S: Store>(book: &Book<Sample, S>) -> Result<Vec<TenantName>, NoMemory> {
+fn names_of<H: Handler, S: Store>(book: &Book<H, S>) -> Result<Vec<TenantName>, NoMemory> {
     book.tenants()
 }
 
-fn kept_of<S: Store>(book: &Book<Sample, S>, name: &TenantName, unit: Unit) -> Option<Kept> {
+fn kept_of<H: Handler, S: Store>(book: &Book<H, S>, name: &TenantName, unit: Unit) -> Option<Kept> {
     book.kept(name, unit)
 }
 

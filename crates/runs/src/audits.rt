@@ -1,22 +1,23 @@
-//! `recall run --audit`: after the replies, one audit line for each open tenant.
+//! Audits: after the replies, one audit line for each open tenant.
 
 use audit::audit_line;
 use auditor::audit_tenant;
 use book::Book;
-use handler::Sample;
+use handler::Handler;
 use log::{Log, error};
 use model::{NoMemory, TenantName};
-use stable_log::Store;
+use shared_log::Store;
 use std::alloc::Global;
 use std::io::Write;
 
 /// Audits each open tenant, in the order of their names, and writes a line for each. Tells the
 /// status to end with: 0 where all audits say yes, and else 1.
-pub(crate) fn audit_all<L: Log, W: Write, S: Store>(
+pub fn audit_all<L: Log, W: Write, H: Handler, S: Store>(
     rt: &L,
     alloc: Global,
+    handler: &H,
     writer: &mut W,
-    book: &Book<Sample, S>,
+    book: &Book<H, S>,
 ) -> u8 {
     let Ok(names) = sorted_names(alloc, book) else {
         error!(rt; "there is no memory for the names of the tenants: none is audited");
@@ -24,7 +25,7 @@ pub(crate) fn audit_all<L: Log, W: Write, S: Store>(
     };
     let mut status = 0;
     for name in names {
-        match audit_one(rt, alloc, writer, book, name) {
+        match audit_one(rt, alloc, handler, writer, book, name) {
             Some(true) => {}
             Some(false) => status = 1,
             None => return 1,
@@ -38,7 +39,10 @@ pub(crate) fn audit_all<L: Log, W: Write, S: Store>(
 }
 
 /// The names of the open tenants, sorted by their bytes.
-fn sorted_names<S: Store>(alloc: Global, book: &Book<Sample, S>) -> Result<Vec<String>, NoMemory> {
+fn sorted_names<H: Handler, S: Store>(
+    alloc: Global,
+    book: &Book<H, S>,
+) -> Result<Vec<String>, NoMemory> {
     let mut names = Vec::new(alloc);
     for name in book.tenants()? {
         names.push(String::from_str(alloc, name.as_str())?)?;
@@ -49,18 +53,19 @@ fn sorted_names<S: Store>(alloc: Global, book: &Book<Sample, S>) -> Result<Vec<S
 
 /// Writes the audit line of a tenant, and tells whether it says yes; none where it isn't out, and none
 /// can follow.
-fn audit_one<L: Log, W: Write, S: Store>(
+fn audit_one<L: Log, W: Write, H: Handler, S: Store>(
     rt: &L,
     alloc: Global,
+    handler: &H,
     writer: &mut W,
-    book: &Book<Sample, S>,
+    book: &Book<H, S>,
     name: String,
 ) -> Option<bool> {
     let Some(tenant) = TenantName::new(name.as_str()) else {
         error!(rt; "a tenant has no name: it is not audited");
         return Some(false);
     };
-    let outcome = audit_tenant(alloc, &Sample, book, &tenant);
+    let outcome = audit_tenant(alloc, handler, book, &tenant);
     let Ok(mut line) = audit_line(alloc, &tenant, &outcome) else {
         error!(rt; "there is no memory for an audit line: the audit ends");
         return None;

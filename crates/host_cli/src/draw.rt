@@ -1,27 +1,28 @@
-//! `recall draw`: the step lines of the input are run, and a tenant's diagram is drawn.
+//! `draw`: the step lines of the input are run, and a tenant's diagram is drawn.
 
-use crate::run::BLOCK;
 use book::Book;
 use diagram::{Window, draw, find_tenant};
-use handler::Sample;
+use handler::Handler;
 use lines::{Counted, ServeFault, read_feed};
 use log::{Log, error};
 use model::{Entry, NoMemory, TenantName};
-use stable_log::MemoryStore;
+use runs::BLOCK;
+use shared_log::MemoryStore;
 use std::alloc::Global;
 use std::io::{BufReader, Read};
 
 /// The diagram of the tenant that is named, or of the first one opened, after all step lines of the
 /// input, over a store in memory. A line that is no step changes nothing. None where it can't be
 /// drawn, which is told.
-pub(crate) fn diagram_of<L: Log, R: Read + Drop>(
+pub(crate) fn diagram_of<L: Log, H: Handler + Copy, R: Read + Drop>(
     told: &L,
     alloc: Global,
+    handler: H,
     input: R,
     name: Option<&str>,
     window: Window,
 ) -> Option<String> {
-    let book = match book_of(alloc, input) {
+    let book = match book_of(alloc, handler, input) {
         Ok(book) => book,
         Err(fault) => {
             tell(told, fault);
@@ -30,10 +31,10 @@ pub(crate) fn diagram_of<L: Log, R: Read + Drop>(
     };
     let tenant = find_tenant(book.history(), name);
     if let (None, Some(name)) = (tenant, name) {
-        error!(told; "the tenant {name} is not open");
+        error!(told; "the tenant {name:?} is not open");
         return None;
     }
-    match draw(alloc, &Sample, book.history(), tenant, window) {
+    match draw(alloc, &handler, book.history(), tenant, window) {
         Ok(diagram) => Some(diagram),
         Err(NoMemory) => {
             tell(told, ServeFault::NoMemory);
@@ -43,14 +44,15 @@ pub(crate) fn diagram_of<L: Log, R: Read + Drop>(
 }
 
 /// The book after all steps of the input.
-fn book_of<R: Read + Drop>(
+fn book_of<H: Handler, R: Read + Drop>(
     alloc: Global,
+    handler: H,
     input: R,
-) -> Result<Book<Sample, MemoryStore>, ServeFault> {
+) -> Result<Book<H, MemoryStore>, ServeFault> {
     let Ok(reader) = BufReader::with_capacity(alloc, BLOCK, input) else {
         return Err(ServeFault::NoMemory);
     };
-    let mut book = Book::new(alloc, Sample, MemoryStore::new(alloc));
+    let mut book = Book::new(alloc, handler, MemoryStore::new(alloc));
     for line in read_feed(alloc, &mut Counted::new(reader))? {
         if let Ok(step) = line {
             book.step(step);

@@ -1,4 +1,4 @@
-//! How far a run is: a bar on standard error, where that is a terminal and the end is known.
+//! How far a run is: a bar on standard error, where that is a terminal and the end is known, and a reader that tells it.
 
 use std::fmt::{Display, Formatter};
 use std::fs::Files;
@@ -6,7 +6,6 @@ use std::io::Read;
 use std::sync::atomic::{AtomicU64, Ordering};
 use std::time::{Clock, Instant};
 use std::{fmt, fs, io};
-use workers::Gate;
 
 /// How many milliseconds a bar stands before it is drawn anew.
 const PAUSE: u64 = 100;
@@ -18,7 +17,7 @@ const CELLS: u64 = 24;
 const CLEAR: &str = "\r\u{1b}[K";
 
 /// How many bytes standard input has, where it is a file.
-pub(crate) fn input_size<R: Files>(rt: &R) -> Option<u64> {
+pub fn input_size<R: Files>(rt: &R) -> Option<u64> {
     let found = fs::metadata(rt, "/dev/stdin").ok()?;
     if found.is_file() {
         Some(found.len())
@@ -29,7 +28,7 @@ pub(crate) fn input_size<R: Files>(rt: &R) -> Option<u64> {
 
 /// How far a run is. Nothing is drawn where the work isn't known, as where none is wanted.
 #[derive(Drop)]
-pub(crate) struct Bar<'a, R> {
+pub struct Bar<'a, R> {
     rt: &'a R,
     /// The work, in bytes or in steps.
     work: Option<u64>,
@@ -42,7 +41,7 @@ pub(crate) struct Bar<'a, R> {
 
 impl<'a, R: Eprint + Clock> Bar<'a, R> {
     /// A bar for so much work.
-    pub(crate) fn new(rt: &'a R, work: Option<u64>) -> Bar<'a, R> {
+    pub fn new(rt: &'a R, work: Option<u64>) -> Bar<'a, R> {
         Bar {
             rt,
             work,
@@ -59,7 +58,7 @@ impl<'a, R: Eprint + Clock> Bar<'a, R> {
     }
 
     /// So much more is done, and so many lines with it.
-    pub(crate) fn go_on(&self, done: u64, lines: u64) {
+    pub fn go_on(&self, done: u64, lines: u64) {
         let Some(work) = self.work else {
             return;
         };
@@ -79,7 +78,7 @@ impl<'a, R: Eprint + Clock> Bar<'a, R> {
     }
 
     /// Takes the bar away.
-    pub(crate) fn clear(&self) {
+    pub fn clear(&self) {
         if self.drawn.load(Ordering::SeqCst) > 0 {
             let _ = eprint!(self.rt; "{CLEAR}");
         }
@@ -164,13 +163,13 @@ impl Display for Reached {
 
 /// A reader that tells a bar of its bytes.
 #[derive(Drop)]
-pub(crate) struct Watched<'a, R, I> {
+pub struct Watched<'a, R, I> {
     bar: &'a Bar<'a, R>,
     inner: I,
 }
 
 impl<'a, R, I> Watched<'a, R, I> {
-    pub(crate) fn new(bar: &'a Bar<'a, R>, inner: I) -> Watched<'a, R, I> {
+    pub fn new(bar: &'a Bar<'a, R>, inner: I) -> Watched<'a, R, I> {
         Watched { bar, inner }
     }
 }
@@ -182,17 +181,5 @@ impl<'a, R: Eprint + Clock, I: Read> Read for Watched<'a, R, I> {
             self.bar.go_on(count as u64, line_feeds(&buf[..count]));
         }
         Ok(count)
-    }
-}
-
-/// A gate that tells a bar of each step of a feed.
-#[derive(Drop)]
-pub(crate) struct Counting<'a, R>(pub &'a Bar<'a, R>);
-
-impl<'a, R: Eprint + Clock> Gate for Counting<'a, R> {
-    fn before(&self, _feed: u32, _at: u32) {}
-
-    fn after(&self, _feed: u32, _at: u32) {
-        self.0.go_on(1, 1);
     }
 }

@@ -1,13 +1,14 @@
-//! `recall run --explain`: lines are answered one by one, and each refusal is told with its reason.
+//! `run --explain`: lines are answered one by one, and each refusal is told with its reason.
 
+use crate::host::Host;
 use book::Book;
 use diagram::{Untold, why_waits};
-use handler::Sample;
+use handler::Handler;
 use lines::{Counted, ServeFault, read_step, serve};
 use log::{Log, warn};
 use model::{Entry, Letter, MAX_LINE_BYTES, NoMemory, Row, Step, TenantName};
 use reasons::{reason, refusal_in, wait_reason};
-use stable_log::Store;
+use shared_log::Store;
 use std::alloc::Global;
 use std::io::{BufRead, ErrorKind, Read, Write};
 use std::{io, str};
@@ -18,12 +19,13 @@ const WHOLE_LINE: u64 = MAX_LINE_BYTES as u64 + 1;
 /// Answers each line as `serve` answers it, and tells for each that was refused its number, why, and what would help.
 /// Each reply is out before its reason, and before the next line is read. `before` lines came before the first. Tells how
 /// many lines there were.
-pub(crate) fn serve_explained<L: Log, R: BufRead, W: Write, S: Store>(
+pub(crate) fn serve_explained<L: Log, R: BufRead, W: Write, H: Handler, S: Store>(
     told: &L,
     alloc: Global,
+    host: &Host<'_, H>,
     reader: &mut R,
     writer: &mut W,
-    book: &mut Book<Sample, S>,
+    book: &mut Book<H, S>,
     before: u64,
 ) -> Result<u64, ServeFault> {
     let mut line = Vec::new(alloc);
@@ -35,7 +37,15 @@ pub(crate) fn serve_explained<L: Log, R: BufRead, W: Write, S: Store>(
         let reply = reply_to(alloc, line.as_slice(), book)?;
         put(writer, reply.as_slice())?;
         let number = before.saturating_add(count);
-        explain(told, alloc, book, number, line.as_slice(), reply.as_slice());
+        explain(
+            told,
+            alloc,
+            host,
+            book,
+            number,
+            line.as_slice(),
+            reply.as_slice(),
+        );
     }
     Ok(u64::MAX - 1)
 }
@@ -86,10 +96,10 @@ fn skip_rest<R: BufRead>(alloc: Global, reader: &mut R) -> Result<(), ServeFault
 }
 
 /// The reply line to a line.
-fn reply_to<S: Store>(
+fn reply_to<H: Handler, S: Store>(
     alloc: Global,
     line: &[u8],
-    book: &mut Book<Sample, S>,
+    book: &mut Book<H, S>,
 ) -> Result<Vec<u8>, ServeFault> {
     let mut reader = Counted::new(line);
     let mut writer = Counted::new(Vec::new(alloc));
@@ -108,10 +118,11 @@ fn put<W: Write>(writer: &mut W, reply: &[u8]) -> Result<(), ServeFault> {
 }
 
 /// Tells why a line was refused, if it was.
-fn explain<L: Log, S: Store>(
+fn explain<L: Log, H: Handler, S: Store>(
     told: &L,
     alloc: Global,
-    book: &Book<Sample, S>,
+    host: &Host<'_, H>,
+    book: &Book<H, S>,
     number: u64,
     line: &[u8],
     reply: &[u8],
@@ -123,31 +134,33 @@ fn explain<L: Log, S: Store>(
         return;
     };
     let line = line.strip_suffix(b"\n").unwrap_or(line);
-    match reason_of(alloc, book, line, refusal) {
+    match reason_of(alloc, host, book, line, refusal) {
         Ok(reason) => warn!(told; "line {number}: {reason}"),
         Err(_) => warn!(told; "line {number}: {refusal}"),
     }
 }
 
 /// Why a line was refused. Of a letter that has to wait the history tells for what.
-fn reason_of<S: Store>(
+fn reason_of<H: Handler, S: Store>(
     alloc: Global,
-    book: &Book<Sample, S>,
+    host: &Host<'_, H>,
+    book: &Book<H, S>,
     line: &[u8],
     refusal: &str,
 ) -> Result<String, NoMemory> {
     if refusal == "wait" {
-        if let Some(untold) = waits_for(alloc, book, line)? {
+        if let Some(untold) = waits_for(alloc, host, book, line)? {
             return wait_reason(alloc, untold.receiver, untold.unit);
         }
     }
-    reason(alloc, &Sample, line, refusal)
+    reason(alloc, &host.handler, host.kinds, line, refusal)
 }
 
 /// What the letter that a line delivers has to wait for.
-fn waits_for<S: Store>(
+fn waits_for<H: Handler, S: Store>(
     alloc: Global,
-    book: &Book<Sample, S>,
+    host: &Host<'_, H>,
+    book: &Book<H, S>,
     line: &[u8],
 ) -> Result<Option<Untold>, NoMemory> {
     let Some((tenant, letter)) = delivered(alloc, line) else {
@@ -156,7 +169,14 @@ fn waits_for<S: Store>(
     let Some(rows) = rows_of(book, &tenant) else {
         return Ok(None);
     };
-    why_waits(alloc, &Sample, history_of(book), rows, &tenant, letter)
+    why_waits(
+        alloc,
+        &host.handler,
+        history_of(book),
+        rows,
+        &tenant,
+        letter,
+    )
 }
 
 /// The letter that a line delivers.
@@ -174,10 +194,13 @@ fn letter_of(step: &Step) -> Option<(TenantName, Letter)> {
     }
 }
 
-fn rows_of<'a, S: Store>(book: &'a Book<Sample, S>, tenant: &TenantName) -> Option<&'a [Row]> {
+fn rows_of<'a, H: Handler, S: Store>(
+    book: &'a Book<H, S>,
+    tenant: &TenantName,
+) -> Option<&'a [Row]> {
     book.rollbacks(tenant)
 }
 
-fn history_of<S: Store>(book: &Book<Sample, S>) -> &[Entry] {
+fn history_of<H: Handler, S: Store>(book: &Book<H, S>) -> &[Entry] {
     book.history()
 }

@@ -1,0 +1,31 @@
+//! The files of a program that hosts a handler.
+//!
+//! - `fill_descriptors`: the descriptors of the standard streams are taken before any file is opened;
+//! - `open_journal` (`opening`): the file of `run --journal`, found fit, locked, cut to whole lines and synced;
+//! - `LastingFile` (`lasting`): that file as lines are appended to it, which is cut back where that fails;
+//! - `About`: the page beside a journal, which tells whose it is;
+//! - `Told` (`telling`): how many lines and bytes a journal has;
+//! - `make_log` (`log_file`): the file of `run --log`, and `LogFile`, which tells that it fails;
+//! - `Fitness` (`fitness`): why a file must not be written to.
+//!
+//! No clause says what a file holds: these are read, and tested against faults that are planted (`tests/journal`,
+//! `tests/power`). What a reader that journals promises of a file that keeps its word is proved in `journal`.
+#![tactic(auto)]
+
+mod about;
+mod descriptors;
+mod fitness;
+mod lasting;
+mod log_file;
+mod opening;
+mod place;
+mod tail;
+mod telling;
+
+pub use about::{About, Owner};
+pub use descriptors::fill_descriptors;
+pub use fitness::{Unfit, why_unfit};
+pub use lasting::{LastingFile, Standing};
+pub use log_file::{LogFile, make_log};
+pub use opening::{JournalFile, open_journal};
+pub use telling::{Told, tell_journal};

@@ -1,0 +1,244 @@
+//! The file of `run --journal`: found fit, locked, known to be a journal of this program, and cut to whole lines that last.
+
+use crate::about::{About, Owner, write_about};
+use crate::fitness::{Unfit, why_unfit};
+use crate::lasting::LastingFile;
+use crate::place::Place;
+use crate::tail::{BLOCK, make_last, trusted_length};
+use journal::{Extent, measure};
+use log::{Log, error, warn};
+use std::alloc::Global;
+use std::fs::{File, Files, Metadata, OpenOptions, TryLockError};
+use std::io::{BufReader, ErrorKind, Read, Seek, SeekFrom};
+use std::os::unix::fs::OpenOptionsExt;
+use std::path::Path;
+use std::time::Clock;
+use std::{fs, io};
+use terminal::Plural;
+
+/// A journal that this run has for itself, whose bytes are whole lines, synced. The next read of the file gives its first
+/// byte.
+#[derive(Drop)]
+pub struct JournalFile<'a, R> {
+    pub file: LastingFile<'a, R>,
+    pub extent: Extent,
+}
+
+/// Opens the journal, or makes it, with mode 0600, and its page beside it. A last line that isn't whole is cut off, and
+/// what a crash of the machine left of it. How many lines there are is told, where there are some or one was cut off.
+///
+/// Where that fails it is told, and the status to end with is given: 2 where `from` is past the last line, and then nothing
+/// is changed; 1 where another run has the journal, where the file is unfit or not known to be a journal of this program
+/// and its handler, and isn't to be `adopt`ed, or where it can't be opened, read, cut or synced.
+pub fn open_journal<'a, R: Files<File = File> + Clock, L: Log>(
+    rt: &'a R,
+    told: &L,
+    alloc: Global,
+    path: &'a str,
+    owner: &Owner<'_>,
+    from: Option<u64>,
+    adopt: bool,
+) -> Result<JournalFile<'a, R>, u8> {
+    let file = open_fit(rt, told, path)?;
+    lock(rt, told, path, &file)?;
+    let length = length_of(told, path, &file)?;
+    let is_known = is_known(rt, told, alloc, path, owner, length, adopt)?;
+    let extent = measured(told, alloc, path, &file, length, from)?;
+    if let Err(error) = make_whole(alloc, &file, length, &extent) {
+        error!(told; "can't cut, write or sync the journal {path:?}: {error}");
+        return Err(1);
+    }
+    if !is_known {
+        if let Err(error) = write_about(rt, alloc, path, owner) {
+            error!(told; "can't write the page beside the journal {path:?}: {error}");
+            return Err(1);
+        }
+    }
+    if sync_folder(rt, path).is_err() {
+        warn!(told; "the folder of the journal {path:?} can't be synced: a crash of the machine may lose a new journal");
+    }
+    tell_extent(told, path, &extent, length);
+    match LastingFile::new(rt, path, file, extent.whole) {
+        Ok(file) => Ok(JournalFile { file, extent }),
+        Err(error) => {
+            error!(told; "can't read the journal {path:?}: {error}");
+            Err(1)
+        }
+    }
+}
+
+/// Opens the file to read it and to write to it, or makes it, where it is fit.
+fn open_fit<R: Files<File = File>, L: Log>(rt: &R, told: &L, path: &str) -> Result<File, u8> {
+    match fs::metadata(rt, path) {
+        // A pipe or a device is not even opened.
+        Ok(found) => refuse_unfit(rt, told, path, &found)?,
+        Err(error) if error.kind() == ErrorKind::NotFound => {}
+        Err(error) => return Err(cannot_open(told, path, &error)),
+    }
+    let mut options = OpenOptions::new();
+    options.read(true).write(true).create(true).mode(0o600);
+    let file = match options.open(rt, path) {
+        Ok(file) => file,
+        Err(error) => return Err(cannot_open(told, path, &error)),
+    };
+    match file.metadata() {
+        Ok(found) => refuse_unfit(rt, told, path, &found)?,
+        Err(error) => return Err(cannot_open(told, path, &error)),
+    }
+    Ok(file)
+}
+
+fn cannot_open<L: Log>(told: &L, path: &str, error: &io::Error) -> u8 {
+    error!(told; "can't open the journal {path:?}: {error}");
+    1
+}
+
+fn refuse_unfit<R: Files, L: Log>(
+    rt: &R,
+    told: &L,
+    path: &str,
+    found: &Metadata,
+) -> Result<(), u8> {
+    match why_unfit(rt, found) {
+        Some(why) => {
+            error!(told; "{path:?} can't be the journal: {why}");
+            Err(1)
+        }
+        None => Ok(()),
+    }
+}
+
+/// Locks the file, which its path must name still.
+fn lock<R: Files, L: Log>(rt: &R, told: &L, path: &str, file: &File) -> Result<(), u8> {
+    match file.try_lock() {
+        Ok(()) => {}
+        Err(TryLockError::WouldBlock) => {
+            error!(told; "another run has the journal {path:?}");
+            return Err(1);
+        }
+        Err(TryLockError::Error(error)) => {
+            error!(told; "can't lock the journal {path:?}: {error}");
+            return Err(1);
+        }
+    }
+    if is_named(rt, path, file) {
+        return Ok(());
+    }
+    error!(told; "the journal {path:?} was replaced while it was opened");
+    Err(1)
+}
+
+/// Whether the path names this file.
+fn is_named<R: Files>(rt: &R, path: &str, file: &File) -> bool {
+    match (fs::metadata(rt, path), file.metadata()) {
+        (Ok(named), Ok(own)) => Place::of(&named) == Place::of(&own),
+        _ => false,
+    }
+}
+
+/// How many bytes the file has.
+fn length_of<L: Log>(told: &L, path: &str, file: &File) -> Result<u64, u8> {
+    match file.metadata() {
+        Ok(found) => Ok(found.len()),
+        Err(error) => Err(cannot_read(told, path, &error)),
+    }
+}
+
+fn cannot_read<L: Log>(told: &L, path: &str, error: &io::Error) -> u8 {
+    error!(told; "can't read the journal {path:?}: {error}");
+    1
+}
+
+/// Whether the page beside the journal says that it is of this program and its handler. Where it doesn't, a journal that
+/// has bytes is refused, but for one that is to be adopted.
+fn is_known<R: Files<File = File>, L: Log>(
+    rt: &R,
+    told: &L,
+    alloc: Global,
+    path: &str,
+    owner: &Owner<'_>,
+    length: u64,
+    adopt: bool,
+) -> Result<bool, u8> {
+    if length == 0 || adopt {
+        return Ok(false);
+    }
+    match About::read(rt, alloc, path) {
+        Ok(Some(about)) if about.is_of(owner) => Ok(true),
+        Ok(Some(about)) => {
+            let own = owner.handler;
+            let version = owner.handler_version;
+            error!(told; "the journal {path:?} is of {about}, and this program has handler {own:?}, version {version:?}: its replies may differ; --adopt takes it over");
+            Err(1)
+        }
+        Ok(None) => {
+            error!(told; "{path:?} is not known to be a journal: it has {}, and no page {path:?}.about beside it; --adopt takes it over", Plural(length, "byte"));
+            Err(1)
+        }
+        Err(error) => {
+            error!(told; "can't read the page beside the journal {path:?}: {error}; --adopt takes it over");
+            Err(1)
+        }
+    }
+}
+
+/// What the file has, of which the bytes that can be trusted count.
+fn measured<L: Log>(
+    told: &L,
+    alloc: Global,
+    path: &str,
+    file: &File,
+    length: u64,
+    from: Option<u64>,
+) -> Result<Extent, u8> {
+    let extent = match measure_file(alloc, file, length, from.unwrap_or(u64::MAX)) {
+        Ok(extent) => extent,
+        Err(error) => return Err(cannot_read(told, path, &error)),
+    };
+    if let Some(from) = from {
+        if from > extent.lines {
+            error!(told; "the journal {path:?} has {}: there is no line {from} to go on from", Plural(extent.lines, "line"));
+            return Err(2);
+        }
+    }
+    Ok(extent)
+}
+
+/// Measures the file from its beginning, and goes back there.
+fn measure_file(alloc: Global, file: &File, length: u64, from: u64) -> io::Result<Extent> {
+    let trusted = trusted_length(alloc, file, length)?;
+    let mut bytes = file;
+    let mut reader = BufReader::with_capacity(alloc, BLOCK, bytes.take(trusted))?;
+    let extent = measure(&mut reader, from)?;
+    bytes.seek(SeekFrom::Start(0))?;
+    Ok(extent)
+}
+
+/// Cuts off what stands behind the last whole line, and makes all lines last.
+fn make_whole(alloc: Global, file: &File, length: u64, extent: &Extent) -> io::Result<()> {
+    if extent.whole < length {
+        file.set_len(extent.whole)?;
+    }
+    make_last(alloc, file, extent.whole)
+}
+
+/// Syncs the folder that has the file.
+fn sync_folder<R: Files<File = File>>(rt: &R, path: &str) -> io::Result<()> {
+    let folder = match Path::new(path).parent() {
+        Some(folder) => folder.as_str(),
+        None => "",
+    };
+    let folder = if folder.is_empty() { "." } else { folder };
+    File::open(rt, folder)?.sync_all()
+}
+
+/// Tells how many lines there are, so that whoever gives the lines knows from where.
+fn tell_extent<L: Log>(told: &L, path: &str, extent: &Extent, length: u64) {
+    let lines = extent.lines;
+    let has = Plural(lines, "line");
+    if extent.whole < length {
+        warn!(told; "the last line of the journal {path:?} was not whole, and is cut off: it has {has}, so give those from line {lines} on (from 0)");
+    } else if lines > 0 {
+        warn!(told; "the journal {path:?} has {has}: give those from line {lines} on (from 0)");
+    }
+}

@@ -1,0 +1,28 @@
+//! The whole command line of a program that hosts a handler: a `main` of a few lines over it is one.
+//!
+//! - `run_program` (`program_run`): reads the words and does what they ask for;
+//! - `feeds`: `feeds`, thin over `workers::run_feeds`, which carries its own theorem;
+//! - `draw`: `draw`, thin over `diagram::draw`; `journals`: `journal`, thin over `files`;
+//! - `budget`: how many bytes feeds may have.
+//!
+//! `run` itself stands in `runs`. A caller, whole:
+//!
+//! ```
+//! fn main(rt: HostRuntime) -> ExitCode {
+//!     let terminals = Terminals {
+//!         input: rt.stdin().is_terminal(),
+//!         errors: rt.stderr().is_terminal(),
+//!     };
+//!     ExitCode::from(run_program(&rt, Sample, &RECALL, terminals))
+//! }
+//! ```
+#![tactic(auto)]
+
+mod budget;
+mod draw;
+mod feeds;
+mod journals;
+mod program_run;
+
+pub use program_run::{Terminals, run_program};
+pub use words::Program;

@@ -1,0 +1,230 @@
+//! What the words ask for, done.
+
+use crate::draw::diagram_of;
+use crate::feeds::feeds_on;
+use crate::journals::journal_as_asked;
+use files::{LogFile, Owner, Unfit, fill_descriptors, make_log, open_journal, why_unfit};
+use handler::Handler;
+use log::{LevelFilter, Log, Logged, error, warn};
+use runs::{Host, run_journaled, run_on};
+use shared_log::MemoryStore;
+use stable_log::WriterStore;
+use std::env::Env;
+use std::fs::{File, Files, OpenOptions};
+use std::io::{self, ErrorKind, Input, Write};
+use std::sync::Wait;
+use std::thread::Threads;
+use std::time::Clock;
+use terminal::{Bar, Complaints, Patient, Watched, input_size};
+use words::{Asked, DrawWords, FeedsWords, Pages, Program, RunWords, Talk, read_words};
+
+/// Which standard streams are terminals.
+#[derive(Clone, Copy, Debug)]
+pub struct Terminals {
+    pub input: bool,
+    pub errors: bool,
+}
+
+/// Reads the words of the command line, does what they ask for, and tells the status to end with: 0 where it is done, 1
+/// after a fault of a file, the input, the output, memory or threads, or an audit that isn't ok, 2 where the words are bad,
+/// and 3 where a line was refused, if that is asked for.
+pub fn run_program<
+    R: Threads
+        + Wait
+        + Sync
+        + Files<File = File>
+        + Env
+        + Clock
+        + Print
+        + Eprint
+        + Input
+        + AllocGlobal,
+    H: Handler + Copy + Send + Sync,
+>(rt: &R, handler: H, program: &Program<'_>, terminals: Terminals) -> u8 {
+    let complaints = Complaints {
+        rt,
+        name: program.name,
+        bar: None,
+    };
+    let told = Logged::new(rt, LevelFilter::Warn, complaints);
+    if let Err(error) = fill_descriptors(rt) {
+        error!(&told; "a standard stream is closed, and nothing can stand in its place: {error}");
+        return 1;
+    }
+    let words = match words_of(rt) {
+        Ok(words) => words,
+        Err(error) => return bad_words(&told, program, &error),
+    };
+    let Ok(pages) = Pages::new(rt.alloc(), program) else {
+        error!(&told; "there is no memory for the words: free some, and run again");
+        return 1;
+    };
+    match read_words(rt, &pages, words.as_slice()) {
+        Asked::Run(run) => run_as_asked(rt, handler, program, terminals, &run),
+        Asked::Feeds(feeds) => feeds_as_asked(rt, handler, program, terminals, &feeds),
+        Asked::Draw(draw) => draw_as_asked(rt, &told, handler, &draw),
+        Asked::Journal(journal) => journal_as_asked(rt, &told, rt.alloc(), &journal),
+        Asked::Ended(status) => status,
+    }
+}
+
+/// The words of the command line, the program's name among them.
+fn words_of<R: Env + AllocGlobal>(rt: &R) -> io::Result<Vec<String>> {
+    Ok(std::env::args(rt)?.collect(rt.alloc())?)
+}
+
+/// Says why the words can't be read, and tells the status to end with: 1 where there is no memory, 2 where one is bad.
+fn bad_words<L: Log>(told: &L, program: &Program<'_>, error: &io::Error) -> u8 {
+    let name = program.name;
+    if error.kind() == ErrorKind::InvalidData {
+        error!(told; "a word is not UTF-8: see `{name} --help`");
+        2
+    } else {
+        error!(told; "there is no memory for the words: free some, and run again");
+        1
+    }
+}
+
+/// Whether a bar may be drawn.
+fn shows_bar(terminals: Terminals, talk: Talk) -> bool {
+    talk != Talk::Quiet && terminals.errors
+}
+
+/// `run`: with a log that is written, where a file is named for it, or with one in memory. Reasons are told to a terminal
+/// unasked.
+fn run_as_asked<
+    R: Files<File = File> + Clock + Print + Eprint + Input + AllocGlobal,
+    H: Handler + Copy,
+>(rt: &R, handler: H, program: &Program<'_>, terminals: Terminals, asked: &RunWords<'_>) -> u8 {
+    let shows = shows_bar(terminals, asked.talk);
+    let run = RunWords {
+        explain: asked.explain || shows,
+        ..*asked
+    };
+    let work = if shows { input_size(rt) } else { None };
+    let bar = Bar::new(rt, work);
+    let complaints = Complaints {
+        rt,
+        name: program.name,
+        bar: Some(&bar),
+    };
+    let told = Logged::new(rt, run.talk.level(), complaints);
+    if terminals.input {
+        let name = program.name;
+        warn!(&told; "waiting for step lines from the terminal, up to Ctrl-D: `{name} run --help` lists them");
+    }
+    let host = Host {
+        handler,
+        kinds: program.kinds,
+    };
+    let status = run_watched(rt, &told, host, program, &run, &bar);
+    bar.clear();
+    status
+}
+
+/// `run`, beside a bar.
+fn run_watched<
+    R: Files<File = File> + Clock + Print + Eprint + Input + AllocGlobal,
+    L: Log,
+    H: Handler + Copy,
+>(
+    rt: &R,
+    told: &L,
+    host: Host<'_, H>,
+    program: &Program<'_>,
+    run: &RunWords<'_>,
+    bar: &Bar<'_, R>,
+) -> u8 {
+    let alloc = rt.alloc();
+    let input = Watched::new(bar, Patient::new(rt, rt.reader()));
+    let output = Patient::new(rt, io::writer(rt));
+    if let Some(path) = run.journal {
+        let owner = owner_of(program);
+        return match open_journal(rt, told, alloc, path, &owner, run.from, run.adopt) {
+            Ok(journal) => run_journaled(told, alloc, host, input, output, journal, run),
+            Err(status) => status,
+        };
+    }
+    let Some(path) = run.log else {
+        let store = MemoryStore::new(alloc);
+        return run_on(told, alloc, host, input, output, store, run);
+    };
+    match make_log(rt, told, path) {
+        Some(file) => {
+            let store = WriterStore::new(alloc, LogFile::new(told, file));
+            run_on(told, alloc, host, input, output, store, run)
+        }
+        None => 1,
+    }
+}
+
+/// Whose a journal of the program is.
+fn owner_of<'a>(program: &Program<'a>) -> Owner<'a> {
+    Owner {
+        version: program.version,
+        handler: program.handler,
+        handler_version: program.handler_version,
+    }
+}
+
+/// `feeds`, beside a bar where one may be drawn.
+fn feeds_as_asked<
+    R: Threads + Wait + Sync + Files<File = File> + Print + Eprint + Clock + AllocGlobal,
+    H: Handler + Copy + Send + Sync,
+>(rt: &R, handler: H, program: &Program<'_>, terminals: Terminals, feeds: &FeedsWords<'_>) -> u8 {
+    let complaints = Complaints {
+        rt,
+        name: program.name,
+        bar: None,
+    };
+    let told = Logged::new(rt, feeds.talk.level(), complaints);
+    feeds_on(rt, &told, handler, feeds, shows_bar(terminals, feeds.talk))
+}
+
+/// `draw`: draws to the file that is named, or to standard output.
+fn draw_as_asked<
+    R: Files<File = File> + Clock + Print + Input + AllocGlobal,
+    L: Log,
+    H: Handler + Copy,
+>(rt: &R, told: &L, handler: H, draw: &DrawWords<'_>) -> u8 {
+    let input = Patient::new(rt, rt.reader());
+    let found = diagram_of(told, rt.alloc(), handler, input, draw.tenant, draw.window);
+    let Some(diagram) = found else {
+        return 1;
+    };
+    let Some(path) = draw.to else {
+        let mut output = Patient::new(rt, io::writer(rt));
+        return put_diagram(told, &mut output, diagram.as_str());
+    };
+    match make_picture(rt, path) {
+        Ok(mut file) => put_diagram(told, &mut file, diagram.as_str()),
+        Err(error) => {
+            error!(told; "can't make {path:?}: {error}");
+            1
+        }
+    }
+}
+
+/// Makes the picture's file anew, which must not be the input.
+fn make_picture<R: Files<File = File>>(rt: &R, path: &str) -> io::Result<File> {
+    let mut options = OpenOptions::new();
+    options.write(true).create(true);
+    let file = options.open(rt, path)?;
+    let found = file.metadata()?;
+    if why_unfit(rt, &found) == Some(Unfit::Input) {
+        return Err(io::Error::new(ErrorKind::InvalidInput, "it is the input of this run"));
+    }
+    if found.is_file() {
+        file.set_len(0)?;
+    }
+    Ok(file)
+}
+
+/// Writes a diagram, and tells the status to end with.
+fn put_diagram<L: Log, W: Write>(told: &L, writer: &mut W, diagram: &str) -> u8 {
+    if writer.write_all(diagram.as_bytes()).is_err() || writer.flush().is_err() {
+        error!(told; "the diagram can't be written");
+        return 1;
+    }
+    0
+}

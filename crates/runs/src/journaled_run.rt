@@ -1,0 +1,223 @@
+//! `run --journal`: the lines of the journal are stepped again, and then those of the input, each of which stands in the
+//! journal before it is stepped.
+
+use crate::host::Host;
+use crate::judged::Judged;
+use crate::no_zeros::NoZeros;
+use crate::run::{BLOCK, answer_all, end_well};
+use book::Book;
+use files::{JournalFile, LastingFile, Standing};
+use handler::Handler;
+use journal::{Extent, Journaled, Promised};
+use lines::{Counted, ServeFault, serve};
+use log::{Log, error, info};
+use shared_log::MemoryStore;
+use std::alloc::Global;
+use std::fs::{File, Files};
+use std::io::{BufReader, BufWriter, Read, Write};
+use std::{io, mem};
+use terminal::Plural;
+use words::RunWords;
+
+/// Where a run ended early.
+#[derive(Clone, Copy, Debug)]
+enum Place {
+    // A line of the journal was read or stepped again.
+    Again,
+    // A line of the input was read or stepped.
+    Input,
+    // The input could not be made to last: what became of the journal.
+    Journal(Standing),
+}
+
+/// What ended a run early, with so many lines in the journal.
+#[derive(Clone, Copy, Debug)]
+struct Stop {
+    place: Place,
+    fault: ServeFault,
+    lines: u64,
+}
+
+/// The reader of a run's input, each block of which stands in the journal first.
+type Input<'a, F, R> = Counted<BufReader<Journaled<NoZeros<R>, LastingFile<'a, F>>>>;
+
+/// Steps the lines of the journal, answers those that were asked for, and then answers each line of the input. Tells the
+/// status to end with, as `run_on` does; 1 too where the journal fails, or where a step finds no memory: its line stands
+/// unanswered in the journal.
+pub fn run_journaled<
+    L: Log,
+    F: Files<File = File>,
+    R: Read + Drop,
+    W: Write + Drop,
+    H: Handler + Copy,
+>(
+    told: &L,
+    alloc: Global,
+    host: Host<'_, H>,
+    input: R,
+    output: W,
+    journal: JournalFile<'_, F>,
+    asked: &RunWords<'_>,
+) -> u8 {
+    let Ok(writer) = BufWriter::with_capacity(alloc, BLOCK, output) else {
+        error!(told; "there is no memory for the buffers: free some, and run again");
+        return 1;
+    };
+    let mut writer = Counted::new(Promised::new(Judged::new(writer)));
+    let mut book = Book::new(alloc, host.handler, MemoryStore::new(alloc));
+    let gone_on = go_on(
+        told,
+        alloc,
+        &host,
+        input,
+        journal,
+        &mut writer,
+        &mut book,
+        asked,
+    );
+    let status = match gone_on {
+        Ok(()) => end_well(told, alloc, &host, &mut writer.inner.inner, &book, asked),
+        Err(stop) => {
+            // What was answered goes out, as far as it can.
+            let _ = writer.inner.inner.flush();
+            tell(told, stop, writer.inner.is_refused);
+            1
+        }
+    };
+    // The process ends with this: to let go of each text of the history would take a fifth of its time.
+    mem::forget(book);
+    status
+}
+
+/// Steps the lines of the journal, and then those of the input.
+fn go_on<L: Log, F: Files<File = File>, R: Read + Drop, W: Write, H: Handler>(
+    told: &L,
+    alloc: Global,
+    host: &Host<'_, H>,
+    input: R,
+    journal: JournalFile<'_, F>,
+    writer: &mut Counted<Promised<W>>,
+    book: &mut Book<H, MemoryStore>,
+    asked: &RunWords<'_>,
+) -> Result<(), Stop> {
+    let JournalFile { file, extent } = journal;
+    let lines = extent.lines;
+    if let Err(fault) = step_again(alloc, file.file(), &extent, writer, book) {
+        return Err(stop_at(Place::Again, fault, lines));
+    }
+    let Some(mut reader) = journaling(alloc, input, file) else {
+        return Err(stop_at(Place::Input, ServeFault::NoMemory, lines));
+    };
+    let explained = asked.explain.then_some(lines);
+    match answer_all(told, alloc, host, &mut reader, writer, book, explained) {
+        Ok(count) => {
+            info!(told; "answered {}, behind {} of the journal", Plural(count, "line"), Plural(lines, "line"));
+            Ok(())
+        }
+        Err(fault) => Err(stop_at_input(reader.inner.get_ref(), fault, lines)),
+    }
+}
+
+fn stop_at(place: Place, fault: ServeFault, lines: u64) -> Stop {
+    Stop {
+        place,
+        fault,
+        lines,
+    }
+}
+
+/// What ended the run at the input, where so many lines came before it.
+fn stop_at_input<F: Files<File = File>, R>(
+    journaled: &Journaled<R, LastingFile<'_, F>>,
+    fault: ServeFault,
+    before: u64,
+) -> Stop {
+    let place = if journaled.is_broken() {
+        Place::Journal(journaled.file().standing())
+    } else {
+        Place::Input
+    };
+    stop_at(place, fault, before.saturating_add(journaled.lines()))
+}
+
+/// Steps each line of the journal as `serve` does: the replies to those before the one that is asked for
+/// go nowhere, and the others to the writer.
+fn step_again<W: Write, H: Handler>(
+    alloc: Global,
+    file: &File,
+    extent: &Extent,
+    writer: &mut Counted<Promised<W>>,
+    book: &mut Book<H, MemoryStore>,
+) -> Result<(), ServeFault> {
+    let Ok(mut reader) = BufReader::with_capacity(alloc, BLOCK, file) else {
+        return Err(ServeFault::NoMemory);
+    };
+    let mut nowhere = Counted::new(Promised::new(io::sink()));
+    let before = reader.by_ref().take(extent.before);
+    let seen = serve(alloc, &mut Counted::new(before), &mut nowhere, book);
+    if seen.is_err() {
+        writer.inner.is_refused = nowhere.inner.is_refused;
+    }
+    seen?;
+    let behind = reader.take(extent.whole.saturating_sub(extent.before));
+    serve(alloc, &mut Counted::new(behind), writer, book)?;
+    Ok(())
+}
+
+/// A reader of the input that journals.
+fn journaling<'a, F: Files<File = File>, R: Read + Drop>(
+    alloc: Global,
+    input: R,
+    file: LastingFile<'a, F>,
+) -> Option<Input<'a, F, R>> {
+    let Ok(journaled) = Journaled::new(alloc, BLOCK, NoZeros::new(input), file) else {
+        return None;
+    };
+    match BufReader::with_capacity(alloc, BLOCK, journaled) {
+        Ok(reader) => Some(Counted::new(reader)),
+        Err(_) => None,
+    }
+}
+
+/// Says what failed, and what to do.
+fn tell<L: Log>(told: &L, stop: Stop, is_refused: bool) {
+    let lines = stop.lines;
+    let has = Plural(lines, "line");
+    match (stop.place, stop.fault) {
+        (_, ServeFault::Write) if is_refused => {
+            error!(told; "there is no memory for a step: its line is not answered, and stands in the journal, which has {has}: free some, and go on");
+        }
+        (Place::Again, ServeFault::Read) => {
+            error!(told; "the journal can't be read: nothing of the input is read");
+        }
+        (Place::Input, ServeFault::Read) => {
+            error!(told; "the input can't be read: the journal has {has}: give those from line {lines} on to a new run");
+        }
+        (Place::Journal(standing), ServeFault::Read) => tell_journal(told, standing, lines),
+        (_, ServeFault::Write) => {
+            error!(told; "the output can't be written: the journal has {has}: go on from the first whose reply is not out");
+        }
+        (_, ServeFault::NoMemory) => {
+            error!(told; "there is no memory for a reply: the journal has {has}: free some, and go on");
+        }
+    }
+}
+
+/// Says what became of a journal that can't be written, which has so many lines that last.
+fn tell_journal<L: Log>(told: &L, standing: Standing, lines: u64) {
+    let has = Plural(lines, "line");
+    match standing {
+        Standing::Whole | Standing::CutBack => {
+            error!(told; "the journal can't be written: it has {has}, and none behind them is stepped: give those from line {lines} on to a new run");
+        }
+        Standing::Unknown => {
+            error!(told; "the journal can't be written, nor cut back to the {has} that last: how many it has isn't known, and a new run tells; none behind the {has} is stepped");
+        }
+        Standing::Replaced => {
+            error!(told; "the journal was removed or replaced by somebody else: {has} stood in it, and none behind them is stepped");
+        }
+        Standing::Changed => {
+            error!(told; "somebody else wrote to the journal, or cut it: {has} stood in it, and none behind them is stepped");
+        }
+    }
+}

@@ -1,0 +1,23 @@
+//! What a program tells people, and how it waits for its streams.
+//!
+//! - `Complaints`: what is logged goes to standard error, line by line;
+//! - `Bar` and `Watched` (`bar`): how far a run is, where standard error is a terminal;
+//! - `Patient`: a stream that is non-blocking is waited for;
+//! - `Plural`: a number with its noun.
+//!
+//! For `host_cli` and the crates below it that tell of files and runs. A caller:
+//!
+//! ```
+//! warn!(told; "the journal {path:?} has {}", Plural(extent.lines, "line"));
+//! ```
+#![tactic(auto)]
+
+mod bar;
+mod complaints;
+mod patient;
+mod plural;
+
+pub use bar::{Bar, Watched, input_size};
+pub use complaints::Complaints;
+pub use patient::Patient;
+pub use plural::Plural;

@@ -1,0 +1,70 @@
+//! What the words ask for.
+
+use crate::talk::Talk;
+use diagram::Window;
+
+/// What the words ask for.
+pub enum Asked<'a> {
+    /// `run`.
+    Run(RunWords<'a>),
+    /// `feeds`.
+    Feeds(FeedsWords<'a>),
+    /// `draw`.
+    Draw(DrawWords<'a>),
+    /// `journal`.
+    Journal(JournalWords<'a>),
+    /// Help was printed, or the words were bad: the status to end with.
+    Ended(u8),
+}
+
+/// What `run` is to do beside answering lines.
+#[derive(Clone, Copy, Debug)]
+pub struct RunWords<'a> {
+    /// Audit the tenants after the last line.
+    pub audit: bool,
+    /// Tell why each line was refused.
+    pub explain: bool,
+    /// End with status 3 where a line was refused.
+    pub strict: bool,
+    /// The file that the log is written to.
+    pub log: Option<&'a str>,
+    /// The file that the lines are kept in.
+    pub journal: Option<&'a str>,
+    /// The line of the journal from which on replies are written.
+    pub from: Option<u64>,
+    /// Take over a journal that isn't known to be of this program and its handler.
+    pub adopt: bool,
+    /// How much is told.
+    pub talk: Talk,
+}
+
+/// What `feeds` is to do.
+#[derive(Debug, Drop)]
+pub struct FeedsWords<'a> {
+    /// Audit the tenants after the last reply.
+    pub audit: bool,
+    /// The files of the feeds, in order.
+    pub files: Vec<&'a str>,
+    /// How much is told.
+    pub talk: Talk,
+}
+
+/// What `draw` is to draw, and where to.
+#[derive(Clone, Copy, Debug)]
+pub struct DrawWords<'a> {
+    /// The tenant, or else the first one opened.
+    pub tenant: Option<&'a str>,
+    /// The file, or else the output.
+    pub to: Option<&'a str>,
+    /// The columns.
+    pub window: Window,
+}
+
+/// What `journal` is to tell.
+#[derive(Clone, Copy, Debug)]
+pub struct JournalWords<'a> {
+    /// The journal.
+    pub file: &'a str,
+    /// Tell it as JSON.
+    pub json: bool,
+}

@@ -1,0 +1,25 @@
+//! How much is told on standard error.
+
+use log::LevelFilter;
+
+/// How much is told.
+#[derive(Clone, Copy, Debug, PartialEq, Eq)]
+pub enum Talk {
+    /// Faults alone.
+    Quiet,
+    /// What goes wrong, and what is to be known; a bar, where standard error is a terminal.
+    Usual,
+    /// Also what was done.
+    Verbose,
+}
+
+impl Talk {
+    /// The level of `log` that is told.
+    pub fn level(self) -> LevelFilter {
+        match self {
+            Talk::Quiet => LevelFilter::Error,
+            Talk::Usual => LevelFilter::Warn,
+            Talk::Verbose => LevelFilter::Info,
+        }
+    }
+}
