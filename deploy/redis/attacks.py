@@ -4,6 +4,7 @@ where it is tried; it raises `Wrong` where the recipe gives way, and else gives 
 import contextlib
 import json
 import os
+import signal
 import socket
 import subprocess
 import threading
@@ -17,7 +18,8 @@ from trying import Held, Wrong, plain_run, until
 LEASE = 1000  # (milliseconds: short, so that what takes longer than a lease takes little)
 RATE = 8_000_000  # (bytes a second of a slow program, and of a slow link: a reply of 25 MB takes three leases)
 TEXTS, LONG = 1024, "\x01" * 4096  # (held outputs of a unit at most; a text of the most bytes, each of which takes six in JSON)
-ANSWERS = 30  # (seconds in which a step must be answered)
+CLIENTS = 128 << 20  # (bytes that a server lets its clients have in hand, where many long replies are made at once)
+ANSWERS = 15  # (seconds in which a script must end, and the next worker must have the lease of one that hangs)
 
 
 class Place:
@@ -30,11 +32,14 @@ class Place:
         self.partitions = put.partitions_of(server.client, "recall", 1)
         self.steps, self.replies = (self.partitions[0].key(stream, 0) for stream in ("steps", "replies"))
 
+    def held(self, program, url):
+        """A worker's process."""
+        return Held([os.path.join(self.scripts, "worker.py"), program, "0", "--redis", url, "--lease", str(LEASE)], 0)
+
     @contextlib.contextmanager
     def worker(self, program=None, url=None):
         """A worker of the partition, which must not have ended by itself when it is told to stop."""
-        command = [os.path.join(self.scripts, "worker.py"), program or self.program, "0"]
-        held = Held([*command, "--redis", url or self.server.url, "--lease", str(LEASE)], 0)
+        held = self.held(program or self.program, url or self.server.url)
 
         def watch():
             if held.process.poll() is not None:
@@ -142,7 +147,31 @@ def one_long_reply(tenant):
     return [line("open", tenant, units=["echo"]), *posts, line("flush", tenant, unit=0), line("release", tenant, unit=0)]
 
 
+def hang(place):
+    """A program that takes steps and answers none doesn't keep the lease: the next worker has it."""
+    path = os.path.join(place.room, "hangs")
+    with open(path, "w") as file:
+        file.write(f"#!/bin/sh\nexec sleep {2 * ANSWERS}\n")
+    os.chmod(path, 0o700)
+    place.give("hang", [line("status")])
+    hung = place.held(path, place.server.url)
+    try:
+        until("the lease of the worker whose program hangs", hung.has_lease)
+        begun = time.monotonic()
+        with place.worker():
+            place.answered(1)
+        if (seconds := time.monotonic() - begun) > ANSWERS:
+            raise Wrong(f"a program that hangs kept its partition for {seconds:.0f} s")
+    finally:
+        with contextlib.suppress(ProcessLookupError):
+            os.kill(hung.begun()[1], signal.SIGKILL)
+        hung.end()
+    place.client.flushall()
+    place.partitions = put.partitions_of(place.client, "recall", 1)
+
+
 def slow_replies(place):
+    hang(place)
     lines, link = one_long_reply("a"), Link(place.server.port)
     place.give("slow", lines)
     seconds = []
@@ -179,7 +208,35 @@ def many_long_replies(tenant):
         yield line("flush", tenant, unit=unit)
 
 
+@contextlib.contextmanager
+def limit(place, name, value):
+    """The server has this limit meanwhile."""
+    was = place.client.config_get(name)[name]
+    place.client.config_set(name, value)
+    try:
+        yield
+    finally:
+        place.client.config_set(name, was)
+
+
+def refuse_limits(place):
+    """A server that takes no long words is a fault before any step is read."""
+    for name in ("proto-max-bulk-len", "client-query-buffer-limit"):
+        with limit(place, name, 1 << 20):
+            command = [os.path.join(place.scripts, "worker.py"), place.program, "0", "--redis", place.server.url]
+            done = subprocess.run(command, capture_output=True, timeout=ANSWERS)
+            if done.returncode != 1 or name.encode() not in done.stderr:
+                raise Wrong(f"a server with a small {name}: {done}")
+
+
 def long_replies(place):
+    with limit(place, "maxmemory-clients", CLIENTS):
+        said = answer_long_replies(place)
+    refuse_limits(place)
+    return said
+
+
+def answer_long_replies(place):
     names = [f"large-{number}" for number in range(place.tenants)]
     lines = [each for name in names for each in many_long_replies(name)]
     lines += [line("release", name, unit=unit) for name in names for unit in range(16)]
@@ -235,7 +292,7 @@ def other_lines(place):
 # Numbers that are no numbers.
 
 
-NUMBERS = ["", " ", "0x0", "0.0", "0e0", "00", "-0", "+0", " 0", "0 ", "0\n", "\0", "-1", "nan", "inf", "1" * 16, "9" * 400, "zero", "٠"]
+NUMBERS = ["0x0", "0.0", "", " ", "0e0", "00", "-0", "+0", " 0", "0 ", "0\n", "\0", "-1", "nan", "inf", "1" * 16, "9" * 400, "zero", "٠"]
 
 
 def no_numbers(place):
