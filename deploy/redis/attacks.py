@@ -312,6 +312,7 @@ def no_numbers(place):
             if found := [key for key in place.client.keys() if key != b"recall:partitions"]:
                 raise Wrong(f"{what} of the number {number!r} wrote {found}")
     append_no_numbers(place, lease)
+    partition_no_numbers(place)
     with place.worker():
         lines = [line("open", units=["echo"])]
         replies = put.put(put.Producer(place.client, place.partitions, "good"), put.Replies(place.client, place.partitions), lines)
@@ -330,11 +331,21 @@ def append_no_numbers(place, keys):
     words += [(60_000, 0, *first, id, "bad", 1, "reply") for id in (steps[0], "1-1", "x", "*", "9" * 30, "")]
     for each in words:
         try:
-            raise Wrong(f"an append of {each} was answered {place.client.fcall('recall_append', 3, keys[0], place.steps, place.replies, held, *each)}")
+            told = place.client.fcall("recall_append", 3, keys[0], place.steps, place.replies, held, *each)
+            raise Wrong(f"an append of {each} was answered {told}")
         except redis.ResponseError as refused:
             if place.client.xlen(place.replies):
                 raise Wrong(f"an append of {each} was refused ({refused}), and wrote all the same")
     place.client.delete(place.steps, *keys)
+
+
+def partition_no_numbers(place):
+    """A count of partitions that can't be isn't fixed for those who come later."""
+    for count in ("0", "-1", "16385", "0x1", "1.0"):
+        words = [f"--redis={place.server.url}", "--name=none", "--producer=one", "--", count]
+        done = subprocess.run([os.path.join(place.scripts, "put.py"), *words], input=b"{}", capture_output=True, timeout=ANSWERS)
+        if done.returncode not in (1, 2) or done.stdout or place.client.exists("none:partitions"):
+            raise Wrong(f"{count} partitions: {done}")
 
 
 ATTACKS = {"slow-replies": slow_replies, "long-replies": long_replies, "other-lines": other_lines, "no-numbers": no_numbers}

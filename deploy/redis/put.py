@@ -44,7 +44,10 @@ def partition_of(line, partitions):
 
 
 def partitions_of(server, name, count):
-    """The partitions of this name. Their count is fixed by who comes first, since tenants would lie elsewhere by another."""
+    """The partitions of this name. Their count is fixed by who comes first, since tenants would lie elsewhere by another. It
+    is one of 1 to 16,384; `ValueError` where it isn't, or where another one is fixed."""
+    if not 0 < count <= 16_384:
+        raise ValueError(f"{count} partitions can't be: there are 1 to 16,384")
     fixed = int(server.set(f"{name}:partitions", count, nx=True, get=True) or count)
     if fixed != count:
         raise ValueError(f"{name} has {fixed} partitions, not {count}")
