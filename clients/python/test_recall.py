@@ -1,11 +1,13 @@
 """Tests of the client with a built program: python3 test_recall.py PROGRAM. The last line is `N passed, M failed`."""
 
 import contextlib
+import fcntl
 import os
 import shlex
 import signal
 import sys
 import tempfile
+import termios
 import time
 import unittest
 
@@ -20,24 +22,62 @@ class Hangs(Exception):
     """A call that took longer than the limit."""
 
 
+def hang(*_):
+    raise Hangs
+
+
 @contextlib.contextmanager
-def within(seconds, error=Hangs):
-    """Raises the error in the midst of what is done here where it takes longer. A second such time later it hangs."""
-
-    def fall_due(*_):
-        signal.signal(signal.SIGALRM, hang)
-        raise error
-
-    def hang(*_):
-        raise Hangs
-
-    before = signal.signal(signal.SIGALRM, fall_due)
-    signal.setitimer(signal.ITIMER_REAL, seconds, LIMIT)
+def alarms(handler, seconds, again=0.0):
+    """Calls the handler after so many seconds, and again and again after so many more, in the midst of what is done here."""
+    before = signal.signal(signal.SIGALRM, handler)
+    signal.setitimer(signal.ITIMER_REAL, seconds, again)
     try:
         yield
     finally:
         signal.setitimer(signal.ITIMER_REAL, 0)
         signal.signal(signal.SIGALRM, before)
+
+
+def interrupt(*_):
+    """Interrupts what is done, once: what doesn't end upon it hangs."""
+    signal.signal(signal.SIGALRM, hang)
+    signal.setitimer(signal.ITIMER_REAL, LIMIT)
+    raise KeyboardInterrupt
+
+
+def within(seconds):
+    """Raises `Hangs` where what is done here takes longer."""
+    return alarms(hang, seconds)
+
+
+def is_stopped(process):
+    with open(f"/proc/{process}/stat") as words:
+        return words.read().rsplit(") ", 1)[1].startswith("T")
+
+
+@contextlib.contextmanager
+def stopped(host):
+    """The host's program is stopped: what is written to it stays in the pipe."""
+    process = host._process.pid
+    os.kill(process, signal.SIGSTOP)
+    try:
+        while not is_stopped(process):
+            time.sleep(0.001)
+        yield
+    finally:
+        os.kill(process, signal.SIGCONT)
+
+
+def has_written(host):
+    """Whether something is in the pipe to the host's program."""
+    return fcntl.ioctl(host._process.stdin, termios.FIONREAD, bytes(4)) != bytes(4)
+
+
+@contextlib.contextmanager
+def interrupted(host):
+    """Interrupts what is done here once it has written to the host's program, which is stopped: it waits for a reply."""
+    with stopped(host), alarms(lambda *_: has_written(host) and interrupt(), 0.02, 0.02):
+        yield
 
 
 @contextlib.contextmanager
@@ -315,12 +355,8 @@ class Interrupts(unittest.TestCase):
     def test_each_call_that_waits_for_its_reply(self):
         for name, call in CALLS.items():
             host, a, b = self.host()
-            os.kill(host._process.pid, signal.SIGSTOP)
-            try:
-                with within(0.02, KeyboardInterrupt), self.assertRaises(KeyboardInterrupt):
-                    call(host, a)
-            finally:
-                os.kill(host._process.pid, signal.SIGCONT)
+            with self.assertRaises(KeyboardInterrupt), interrupted(host):
+                call(host, a)
             with within(LIMIT):
                 self.assertTrue(self.look(host, a, b), name)
                 self.assertEqual(host.close(), 0)
@@ -329,12 +365,8 @@ class Interrupts(unittest.TestCase):
     def test_steps_that_are_sent_ahead_by_the_megabyte(self):
         host, a, b = self.host()
         posts = [a.step("post", unit=1, number=n // 2, text="x" * 4000) for n in range(1000)]
-        os.kill(host._process.pid, signal.SIGSTOP)
-        try:
-            with within(0.1, KeyboardInterrupt), self.assertRaises(KeyboardInterrupt):
-                host.ask_all(posts)
-        finally:
-            os.kill(host._process.pid, signal.SIGCONT)
+        with self.assertRaises(KeyboardInterrupt), interrupted(host):
+            host.ask_all(posts)
         with within(LIMIT):
             self.assertTrue(self.look(host, a, b))
             self.assertEqual(host.close(), 0)
@@ -344,7 +376,7 @@ class Interrupts(unittest.TestCase):
             a = host.open("a", ["echo"])
             a.post(0, "x")
             steps = [a.step(do, unit=0) for do in ("flush", "release", "status", "kill", "restart")]
-            with within(1, KeyboardInterrupt), self.assertRaises(KeyboardInterrupt):
+            with self.assertRaises(KeyboardInterrupt), alarms(interrupt, 1.5):
                 host.ask_all(steps)
             with self.assertRaises(recall.Broken) as broken:
                 a.status(0)
@@ -358,28 +390,18 @@ class Interrupts(unittest.TestCase):
         told = []
 
         def call_within(*_):
-            try:
-                b.release(0)
-            except recall.Broken as broken:
-                told.append(broken)
+            if has_written(host) and not told:
+                try:
+                    told.append(b.release(0))
+                except recall.Broken as broken:
+                    told.append(str(broken))
+                os.kill(host._process.pid, signal.SIGCONT)
 
-        before = signal.signal(signal.SIGALRM, call_within)
-        os.kill(host._process.pid, signal.SIGSTOP)
-        try:
-            signal.setitimer(signal.ITIMER_REAL, 0.02)
-            waker = os.fork() or self.wake(host._process.pid)
+        with stopped(host), alarms(call_within, 0.02, 0.02):
             self.assertEqual(a.release(2), ["a's output"])
-        finally:
-            signal.signal(signal.SIGALRM, before)
-            os.waitpid(waker, 0)
         self.assertEqual(len(told), 1)
+        self.assertIn("the host is broken", told[0])
         self.assertFalse(self.look(host, a, b))
-
-    def wake(self, process):
-        """Wakes a process a little later, and ends this one."""
-        time.sleep(0.2)
-        os.kill(process, signal.SIGCONT)
-        os._exit(0)
 
 
 class Ends(unittest.TestCase):
