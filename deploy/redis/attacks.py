@@ -314,6 +314,9 @@ def no_numbers(place):
     append_no_numbers(place, lease)
     partition_no_numbers(place)
     with place.worker():
+        for number in NUMBERS:
+            place.client.xadd(place.steps, {"from": "bad", "number": number, "line": "", "more": "words"})
+        place.client.xadd(place.steps, {"word": "alone"})
         lines = [line("open", units=["echo"])]
         replies = put.put(put.Producer(place.client, place.partitions, "good"), put.Replies(place.client, place.partitions), lines)
         if list(replies) != plain_run(place.program, lines):

@@ -20,6 +20,7 @@ import argparse
 import collections
 import os
 import queue
+import re
 import secrets
 import signal
 import subprocess
@@ -65,6 +66,12 @@ def look_at_limits(server):
             raise Fault(1, f"the server's {limit} is {most}, and a reply may need {WORD}")
 
 
+def number_of(step):
+    """The number that a producer gave the step, or nothing: what came into the stream otherwise may have any word there."""
+    number = step.get(b"number", b"")
+    return number if re.fullmatch(rb"0|[1-9][0-9]{0,14}", number) else b""
+
+
 class Lease:
     """The right to write to a partition, as long as it is renewed. The server's clock alone counts."""
 
@@ -98,8 +105,7 @@ class Lease:
 
     def append(self, streams, count, replies):
         """Appends these replies behind the first `count`, all at once. Each is a step's entry and its reply."""
-        number = lambda step: digits if (digits := step.get(b"number", b"")).isdigit() else b""
-        words = [(at, step.get(b"from", b""), number(step), reply) for (at, step), reply in replies]
+        words = [(at, step.get(b"from", b""), number_of(step), reply) for (at, step), reply in replies]
         self.partition.call("append", [self.key, *streams], self.held, self.length, count, *sum(words, ()))
 
     def give_back(self):
