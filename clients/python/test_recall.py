@@ -5,6 +5,7 @@ import fcntl
 import os
 import shlex
 import signal
+import subprocess
 import sys
 import tempfile
 import termios
@@ -384,6 +385,24 @@ class Interrupts(unittest.TestCase):
         self.assertEqual((told.count, told.total), (3, 6))
         self.assertEqual([reply["ok"] for reply in told.replies], ["flush", "released", "status"])
         self.assertEqual(told.replies[1]["outputs"], ["x"])
+
+    def test_what_an_interrupted_call_missed_is_in_the_journal(self):
+        with tempfile.TemporaryDirectory() as room:
+            journal = os.path.join(room, "journal")
+            with recall.Host(PROGRAM, ["--journal", journal]) as host:
+                a = host.open("a", ["echo"])
+                a.post(0, "x", number=0)
+                a.flush(0)
+                with self.assertRaises(KeyboardInterrupt), interrupted(host):
+                    a.release(0)
+                with self.assertRaises(recall.Broken) as broken:
+                    a.release(0)
+            words = [PROGRAM, "run", "--journal", journal, "--from", str(broken.exception.total)]
+            missed = subprocess.run(words, stdin=subprocess.DEVNULL, capture_output=True, check=True).stdout
+            self.assertEqual(missed, b'{"ok":"released","outputs":["x"]}\n')
+            with recall.Host(PROGRAM, ["--journal", journal]) as host:
+                self.assertEqual(host.tenant("a").release(0), [])
+                self.assertEqual(host.tenant("a").post(0, "y")["at"], [0, 2])
 
     def test_a_call_within_a_call_is_none(self):
         host, a, b = self.host()
