@@ -66,9 +66,12 @@ class Broken(Exception):
         self.why, self.replies, self.count, self.total = why, list(replies), len(replies), total
 
 
+_encode = json.JSONEncoder(sort_keys=True, separators=(",", ":"), allow_nan=False).encode
+
+
 def _line_of(step):
     """The line of a step, or the error of one that isn't JSON. NaN and the infinities are none."""
-    return json.dumps(step, sort_keys=True, separators=(",", ":"), allow_nan=False).encode() + b"\n"
+    return _encode(step).encode() + b"\n"
 
 
 class Host:
