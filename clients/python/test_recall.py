@@ -317,6 +317,7 @@ class Interrupts(unittest.TestCase):
                 raise KeyboardInterrupt
             return trace
 
+        sys._getframe().f_trace_opcodes = by == "opcode"  # (Python 3.12 looks at it before it begins to trace)
         sys.settrace(trace)
         try:
             call()
