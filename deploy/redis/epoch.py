@@ -23,11 +23,12 @@ class Copy:
 
     def __init__(self, program, lease):
         self.run, self.lease = worker.Run(program), lease
+        lease.keep(self.run.is_stuck)
         self.units, self.letters, self.count = {}, {}, 0
 
     def replay(self, steps):
         """Replays these entries of the stream of steps."""
-        self.lease.renew()
+        self.lease.check()
         self.run.give(steps)
         for _, step in steps:
             self.count += 1
@@ -42,7 +43,7 @@ class Copy:
                 self.letters[tenant] = letter + 1
 
     def ask(self, do, tenant, **keys):
-        self.lease.renew()
+        self.lease.check()
         line = json.dumps({"do": do, "tenant": tenant, **keys}, sort_keys=True, separators=(",", ":")).encode()
         self.run.give([(None, {b"line": line})])
         return json.loads(self.run.reply())

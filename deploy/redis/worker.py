@@ -7,12 +7,20 @@ It waits for the partition's lease, starts PROGRAM, and gives it the steps of th
 as the stream of replies has are dropped; those behind them are appended. Each write carries the lease with its fencing
 number, and the server refuses it where that is over (recall.lua). Whatever goes wrong ends the worker: start it anew.
 
+The lease is renewed each third of its time by a thread of its own, however long a reply is written or appended; but not while
+the program has steps in its hands and wrote nothing for the lease's time: then the lease runs out, and another worker goes on.
+Replies are appended up to 8 MB at a time, unless one alone has more: the longest has 25 MB (1,024 outputs of 4,096 bytes,
+each of which takes six in JSON). A server that takes no words of 32 MB is a fault, before any step is read.
+
 Status 0: ended by SIGTERM, and the lease given back. 1: a fault. 2: bad words. 3: fenced: a write was refused. 4: the server
 can't be reached. 5: the program ended.
 """
 
 import argparse
+import collections
+import os
 import queue
+import re
 import secrets
 import signal
 import subprocess
@@ -23,6 +31,7 @@ import time
 import redis
 
 BATCH, AHEAD, PAUSE = 100, 4, 0.1  # (steps read at once, such batches that may wait for their replies, seconds)
+PIECE, MOST, WORD = 1 << 16, 8 << 20, 32 << 20  # (bytes: read at once; appended at once; of a word that a server must take)
 
 
 class Fault(Exception):
@@ -45,30 +54,63 @@ class Partition:
         return self.server.fcall("recall_" + function, len(keys), *keys, *words)
 
 
+def look_at_limits(server):
+    """Raises a fault where the server says that it takes no word as long as the longest reply: it would end the connection
+    once there is one, and each worker after this one would end there too. A server that doesn't say is taken at its best."""
+    for limit in ("proto-max-bulk-len", "client-query-buffer-limit"):
+        try:
+            most = int(server.config_get(limit).get(limit, WORD))
+        except redis.ResponseError:
+            return
+        if most < WORD:
+            raise Fault(1, f"the server's {limit} is {most}, and a reply may need {WORD}")
+
+
+def number_of(step):
+    """The number that a producer gave the step, or nothing: what came into the stream otherwise may have any word there."""
+    number = step.get(b"number", b"")
+    return number if re.fullmatch(rb"0|[1-9][0-9]{0,14}", number) else b""
+
+
 class Lease:
     """The right to write to a partition, as long as it is renewed. The server's clock alone counts."""
 
     def __init__(self, partition, length):
-        self.partition, self.key, self.length, self.due = partition, partition.key("lease"), length, 0.0
+        self.partition, self.key, self.length = partition, partition.key("lease"), length
+        self.is_over, self.fault = threading.Event(), None
 
     def take(self):
         """Takes it, if nobody has it."""
         self.held = self.partition.call("take", [self.key, self.partition.key("fence")], secrets.token_hex(8), self.length)
         return self.held is not None
 
-    def renew(self):
-        """Renews it, where a third of its time has gone by."""
-        if time.monotonic() > self.due:
-            self.due = time.monotonic() + self.length / 3000
-            self.partition.call("renew", [self.key], self.held, self.length)
+    def keep(self, is_stuck):
+        """Renews it each third of its time from now on, on a connection of its own, whatever the caller waits for; but not
+        while `is_stuck` of as many seconds as it lasts."""
+
+        def renew():
+            try:
+                while not self.is_over.wait(self.length / 3000):
+                    if not is_stuck(self.length / 1000):
+                        self.partition.call("renew", [self.key], self.held, self.length)
+            except redis.RedisError as fault:
+                self.fault = fault
+
+        threading.Thread(target=renew, daemon=True).start()
+
+    def check(self):
+        """Raises what stopped its renewal, if anything did."""
+        if self.fault:
+            raise self.fault
 
     def append(self, streams, count, replies):
         """Appends these replies behind the first `count`, all at once. Each is a step's entry and its reply."""
-        words = [(at, step.get(b"from", b""), step.get(b"number", b""), reply) for (at, step), reply in replies]
+        words = [(at, step.get(b"from", b""), number_of(step), reply) for (at, step), reply in replies]
         self.partition.call("append", [self.key, *streams], self.held, self.length, count, *sum(words, ()))
 
     def give_back(self):
         """Gives it back, if it is still there to be given."""
+        self.is_over.set()
         self.partition.call("give_back", [self.key], self.held)
 
 
@@ -77,6 +119,7 @@ class Run:
 
     def __init__(self, program):
         self.process = subprocess.Popen([program, "run"], stdin=subprocess.PIPE, stdout=subprocess.PIPE)
+        self.pieces, self.lines, self.waits_since = [], collections.deque(), None
 
     def give(self, steps):
         """Gives it these lines. One with a line feed in it would be answered twice: it is given as a blank one."""
@@ -84,25 +127,43 @@ class Run:
         self.process.stdin.write(b"".join((b"" if b"\n" in line else line) + b"\n" for line in lines))
         self.process.stdin.flush()
 
+    def is_stuck(self, seconds):
+        """Whether a reply is waited for, and nothing of it came for so long."""
+        since = self.waits_since
+        return since is not None and time.monotonic() - since > seconds
+
+    def read(self):
+        """Waits for the next bytes of replies."""
+        self.waits_since = time.monotonic()
+        piece = os.read(self.process.stdout.fileno(), PIECE)
+        self.waits_since = None
+        if not piece:
+            raise Fault(5, f"the program ended with status {self.process.wait()}")
+        self.pieces.append(piece)
+        if b"\n" in piece:
+            *lines, rest = b"".join(self.pieces).split(b"\n")
+            self.lines += lines
+            self.pieces = [rest]
+
     def reply(self):
         """The next reply. One that tells of this run's machine, and not of the steps, is none to record."""
-        line = self.process.stdout.readline()
-        if not line.endswith(b"\n"):
-            raise Fault(5, f"the program ended with status {self.process.wait()}")
-        if line.endswith((b'"no":"memory"}\n', b'"no":"store"}\n')):
-            raise Fault(1, f"the program answered {line.decode()[:-1]}")
-        return line[:-1]
+        while not self.lines:
+            self.read()
+        line = self.lines.popleft()
+        if line.endswith((b'"no":"memory"}', b'"no":"store"}')):
+            raise Fault(1, f"the program answered {line.decode()}")
+        return line
 
 
 class Worker:
     """What a worker has while it holds its lease: the streams, the run, and how many replies are recorded."""
 
-    def __init__(self, partition, lease, program):
-        self.server, self.lease = partition.server, lease
+    def __init__(self, partition, lease, run):
+        self.server, self.lease, self.run = partition.server, lease, run
         self.streams = [partition.key(stream, partition.epoch()) for stream in ("steps", "replies")]
         self.drop = self.count = self.server.xlen(self.streams[1])
         self.last = self.server.xrevrange(self.streams[1], count=1)
-        self.batches, self.run = queue.Queue(AHEAD), Run(program)
+        self.batches = queue.Queue(AHEAD)
 
     def feed(self):
         """Gives the run the steps from the first one on, batch by batch, for ever. A fault is passed on as a batch."""
@@ -118,29 +179,42 @@ class Worker:
         except Exception as fault:
             self.batches.put(fault)
 
-    def new(self, replies):
-        """The replies without those that are recorded. The last of these must be the recorded one, to the byte."""
-        dropped = min(self.drop, len(replies))
-        self.drop -= dropped
-        if dropped and not self.drop:
-            (at, _), reply = replies[dropped - 1]
+    def is_recorded(self, at, reply):
+        """Whether the reply to this step is recorded. The last that is must be the recorded one, to the byte."""
+        if not self.drop:
+            return False
+        self.drop -= 1
+        if self.drop == 0:
             [(was_at, was)] = self.last
             if (at, reply) != (was_at, was[b"reply"]):
-                raise Fault(1, f"the reply to step {at} is {reply}, and recorded is {was_at} {was}")
-        return replies[dropped:]
+                raise Fault(1, f"the reply to step {at} is {reply[:1000]}, and recorded is {was_at} {was[b'reply'][:1000]}")
+        return True
 
-    def record(self, steps):
-        """Takes the replies to these steps, and appends those that are new."""
-        replies = self.new([(step, self.run.reply()) for step in steps])
+    def append(self, replies):
+        """Appends these replies, if there are any."""
         if replies:
             self.lease.append(self.streams, self.count, replies)
             self.count += len(replies)
+
+    def record(self, steps):
+        """Takes the replies to these steps, and appends those that are new: no more at once than a server takes well."""
+        replies, size = [], 0
+        for at, step in steps:
+            reply = self.run.reply()
+            if self.is_recorded(at, reply):
+                continue
+            if size + len(reply) > MOST:
+                self.append(replies)
+                replies, size = [], 0
+            replies.append(((at, step), reply))
+            size += len(reply)
+        self.append(replies)
 
     def work(self, stopping):
         """Records replies until it is told to stop."""
         threading.Thread(target=self.feed, daemon=True).start()
         while not stopping.is_set():
-            self.lease.renew()
+            self.lease.check()
             try:
                 batch = self.batches.get(timeout=PAUSE)
             except queue.Empty:
@@ -167,15 +241,18 @@ def serve(words, stopping, say):
     """Waits for the lease, works until it is told to stop or something fails, and gives the lease back."""
     partition = Partition(redis.Redis.from_url(words.redis), words.name, words.partition)
     lease = Lease(partition, words.lease)
+    look_at_limits(partition.server)
     while not lease.take():
         if stopping.wait(PAUSE):
             return
-    worker = Worker(partition, lease, words.program)
+    run = Run(words.program)
+    lease.keep(run.is_stuck)
     try:
-        say(f"lease {lease.held.decode()}, {worker.streams[1]} has {worker.count}, program {worker.run.process.pid}")
+        worker = Worker(partition, lease, run)
+        say(f"lease {lease.held.decode()}, {worker.streams[1]} has {worker.count}, program {run.process.pid}")
         worker.work(stopping)
     finally:
-        worker.run.process.kill()
+        run.process.kill()
         lease.give_back()
 
 
