@@ -81,5 +81,7 @@ def main(program, seed):
 
 
 if __name__ == "__main__":
+    if len(sys.argv) not in (2, 3) or not all(word.isdecimal() for word in sys.argv[2:]):
+        sys.exit(__doc__)
     count = main(sys.argv[1], int(sys.argv[2]) if len(sys.argv) > 2 else 0)
     print(f"each of {count} texts came out of each stage once, in order, over 20 crashes")
