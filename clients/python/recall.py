@@ -85,7 +85,8 @@ class Host:
         self._process = subprocess.Popen([program, "run", *words], stdin=pipe, stdout=pipe, stderr=pipe)
         os.set_blocking(self._process.stdin.fileno(), False)  # (else a long write would wait for a reply to be read)
         self._free, self._why = threading.Lock(), INTERRUPTED
-        self._pieces, self._replies, self._total = [], [], 0
+        self._pieces = []
+        self._told = 0, []  # (how many replies earlier calls have read, and those of this one: set at once, or not at all)
         self._numbers = {}  # (by tenant and unit: the number of the next post, where it is known)
         self._complaint = []
         self._listener = threading.Thread(target=self._listen, daemon=True)
@@ -119,29 +120,35 @@ class Host:
         return process.returncode
 
     def _ended(self, replies):
-        return Ended(self.close(), "".join(self._complaint), replies, self._total)
+        before, _ = self._told
+        return Ended(self.close(), "".join(self._complaint), replies, before + len(replies))
+
+    def _broken(self):
+        before, replies = self._told
+        return Broken(self._why, replies, before + len(replies))
 
     def _exchange(self, steps):
         """The replies to these steps. While the first byte may be written and the last reply isn't read the host is not free.
         An interrupt leaves it so: nothing here sets it free but the last reply, or the program's end."""
         lines = [_line_of(step) for step in steps]
         if not self._free.acquire(blocking=False):
-            raise Broken(self._why, self._replies, self._total)
+            raise self._broken()
         self._forget_numbers(steps)
         try:
             if self._process.stdin.closed:
                 raise self._ended([])
             replies = self._talk(lines)
-        except Ended:
+        except Ended as ended:
+            self._told = ended.total, []
             self._free.release()
             raise
-        self._replies = []  # (they are this call's alone)
+        self._told = self._told[0] + len(replies), []
         self._free.release()
         return replies
 
     def _talk(self, lines):
         """Writes the lines, and reads as many replies meanwhile: the program reads no further while nobody reads from it."""
-        unsent, replies = memoryview(b"".join(lines)), self._replies
+        unsent, (_, replies) = memoryview(b"".join(lines)), self._told
         while len(replies) < len(lines):
             unsent = self._write(unsent)
             if self._can_read(unsent):
@@ -179,7 +186,6 @@ class Host:
             self._pieces = [rest]
             for line in whole:
                 replies.append(self._reply_of(line))
-                self._total += 1
 
     def _reply_of(self, line):
         try:
@@ -192,7 +198,7 @@ class Host:
 
     def _fail(self, why):
         self._why = why
-        raise Broken(why, self._replies, self._total)
+        raise self._broken()
 
     def _forget_numbers(self, steps):
         """Lets go of the numbers that these steps may change, before any of them is written: so a step that is interrupted or
