@@ -5,7 +5,9 @@
 //! - `draw`: `draw`, thin over `diagram::draw`; `journals`: `journal`, thin over `files`;
 //! - `budget`: how many bytes feeds may have.
 //!
-//! `run` itself stands in `runs`. A caller, whole:
+//! `run` itself stands in `runs`.
+//!
+//! For whoever has a handler and wants a program. A caller:
 //!
 //! ```
 //! fn main(rt: HostRuntime) -> ExitCode {
