@@ -42,21 +42,56 @@ impl Bench {
 pub(crate) fn obey(alloc: Global, bench: &mut Bench, line: &str) -> anyhow::Result<String> {
     let words: Vec<&str> = line.split_whitespace().collect(alloc)?;
     match words.as_slice() {
-        ["begin"] => *bench = Bench::begin(alloc)?,
-        ["take", count] => return take_all(alloc, &mut bench.unit, number(count)?),
-        ["stable", count] => mark_stable(&mut bench.unit, number(count)? as usize),
-        ["checkpoint"] => checkpoint(alloc, &mut bench.unit)?,
-        ["forget", index] => forget(&mut bench.unit, number(index)?),
-        ["kill"] => return Ok(format!(in alloc; "lost {}", bench.unit.kill())?),
+        [call] => obey_word(alloc, bench, call),
+        [call, count] => obey_number(alloc, bench, call, number(count)?),
         ["restore", index, count] => {
-            return restore(alloc, &mut bench.unit, number(index)?, number(count)?);
+            restore(alloc, &mut bench.unit, number(index)?, number(count)?)
         }
-        ["row", start] => return append(alloc, bench, number(start)?),
-        ["widen", count] => bench.unit.widen(number(count)? as usize)?,
-        ["fit", count] => fit(&mut bench.unit, number(count)? as usize)?,
         _ => bail!("no such call"),
     }
+}
+
+/// Makes a call without numbers.
+fn obey_word(alloc: Global, bench: &mut Bench, call: &str) -> anyhow::Result<String> {
+    match call {
+        "begin" => *bench = Bench::begin(alloc)?,
+        "checkpoint" => checkpoint(alloc, &mut bench.unit)?,
+        "kill" => return kill(alloc, &mut bench.unit),
+        _ => bail!("no such call"),
+    }
+    done(alloc)
+}
+
+/// Makes a call with one number.
+fn obey_number(alloc: Global, bench: &mut Bench, call: &str, count: u32) -> anyhow::Result<String> {
+    match call {
+        "take" => take_all(alloc, &mut bench.unit, count),
+        "row" => append(alloc, bench, count),
+        _ => {
+            change(&mut bench.unit, call, count)?;
+            done(alloc)
+        }
+    }
+}
+
+/// Makes a call with one number that tells nothing.
+fn change(unit: &mut RecoveryUnit<Sample>, call: &str, count: u32) -> anyhow::Result<()> {
+    match call {
+        "stable" => mark_stable(unit, count as usize),
+        "forget" => forget(unit, count),
+        "widen" => unit.widen(count as usize)?,
+        "fit" => fit(unit, count as usize)?,
+        _ => bail!("no such call"),
+    }
+    Ok(())
+}
+
+fn done(alloc: Global) -> anyhow::Result<String> {
     Ok("done".to_string(alloc)?)
+}
+
+fn kill(alloc: Global, unit: &mut RecoveryUnit<Sample>) -> anyhow::Result<String> {
+    Ok(format!(in alloc; "lost {}", unit.kill())?)
 }
 
 /// What the unit is now.

@@ -8,7 +8,7 @@ ghost use Rattle.std.specs.Prelude.{◌<◌, ◌^◌, IfOk, vec_len};
 
 use crate::calls::{replies, run};
 use crate::gates::Overtaking;
-use crate::steps::{both, deliver, open, post};
+use crate::steps::{both, deliver, open, post, push, push_posts};
 use handler::Sample;
 use model::{Mark, NoMemory, Reply, Step};
 use stable_log::MemoryStore;
@@ -16,6 +16,7 @@ use std::alloc::Global;
 use std::sync::Wait;
 use std::sync::atomic::{AtomicBool, AtomicU32, Ordering};
 use std::thread::Threads;
+use workers::Closed;
 
 /// How many letters are made.
 const LETTERS: u32 = 3;
@@ -23,12 +24,10 @@ const LETTERS: u32 = 3;
 /// The feed that opens the tenant, and delivers so many letters.
 fn first_feed(alloc: Global, deliveries: u32) -> Result<Vec<Step>, NoMemory> {
     let mut steps = Vec::new(alloc);
-    steps.push(open(alloc, "a", &["tee", "count"])?)?;
-    for number in 0..LETTERS {
-        steps.push(post(alloc, "a", 0, number, "x")?)?;
-    }
+    push(&mut steps, open(alloc, "a", &["tee", "count"]))?;
+    push_posts(alloc, &mut steps, "a", LETTERS, "x")?;
     for letter in 0..deliveries {
-        steps.push(deliver(alloc, "a", letter)?)?;
+        push(&mut steps, deliver(alloc, "a", letter))?;
     }
     Ok(steps)
 }
@@ -36,9 +35,9 @@ fn first_feed(alloc: Global, deliveries: u32) -> Result<Vec<Step>, NoMemory> {
 /// The feed that is overtaken. What it does for a tenant of its own is a place to wait at.
 fn second_feed(alloc: Global) -> Result<Vec<Step>, NoMemory> {
     let mut steps = Vec::new(alloc);
-    steps.push(open(alloc, "b", &["echo"])?)?;
-    steps.push(post(alloc, "b", 0, 0, "y")?)?;
-    steps.push(post(alloc, "a", 1, 0, "y")?)?;
+    push(&mut steps, open(alloc, "b", &["echo"]))?;
+    push(&mut steps, post(alloc, "b", 0, 0, "y"))?;
+    push(&mut steps, post(alloc, "a", 1, 0, "y"))?;
     Ok(steps)
 }
 
@@ -78,12 +77,18 @@ fn asked_when_overtaken<R: Threads + Wait + Sync>(
     };
     let store = MemoryStore::new(alloc);
     let closed = run(rt, alloc, Sample, store, steps(alloc, times)?, &gate)?;
-    let told = replies(&closed, 1)?;
-    if ends_accepted_at(told.as_slice(), times.saturating_add(1)) {
-        Ok(Some(asked.load(Ordering::SeqCst)))
+    let is_accepted = is_behind(&closed, times.saturating_add(1))?;
+    Ok(if is_accepted {
+        Some(asked.load(Ordering::SeqCst))
     } else {
-        Ok(None)
-    }
+        None
+    })
+}
+
+/// Whether the second feed's post was accepted at this index.
+fn is_behind(closed: &Closed<Sample, MemoryStore>, index: u32) -> anyhow::Result<bool> {
+    let told = replies(closed, 1)?;
+    Ok(ends_accepted_at(told.as_slice(), index))
 }
 
 /// Whether a turn that was made stale once is asked for once more.

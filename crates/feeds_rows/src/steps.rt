@@ -62,15 +62,38 @@ pub(crate) fn feed(
     text: &str,
 ) -> Result<Vec<Step>, NoMemory> {
     let mut steps = Vec::new(alloc);
-    steps.push(open(alloc, tenant, &["echo"])?)?;
-    for number in 0..posts {
-        steps.push(post(alloc, tenant, 0, number, text)?)?;
-    }
-    steps.push(Step::Status {
+    push(&mut steps, open(alloc, tenant, &["echo"]))?;
+    push_posts(alloc, &mut steps, tenant, posts, text)?;
+    push(&mut steps, status(tenant))?;
+    Ok(steps)
+}
+
+/// The status of unit 0.
+fn status(tenant: &str) -> Result<Step, NoMemory> {
+    Ok(Step::Status {
         tenant: name(tenant)?,
         unit: Unit::new(0),
-    })?;
-    Ok(steps)
+    })
+}
+
+/// One more step, where it found memory.
+pub(crate) fn push(steps: &mut Vec<Step>, step: Result<Step, NoMemory>) -> Result<(), NoMemory> {
+    steps.push(step?)?;
+    Ok(())
+}
+
+/// So many posts of this text to unit 0.
+pub(crate) fn push_posts(
+    alloc: Global,
+    steps: &mut Vec<Step>,
+    tenant: &str,
+    posts: u32,
+    text: &str,
+) -> Result<(), NoMemory> {
+    for number in 0..posts {
+        push(steps, post(alloc, tenant, 0, number, text))?;
+    }
+    Ok(())
 }
 
 /// These two feeds.

@@ -9,6 +9,9 @@ use stable_log::MemoryStore;
 use std::alloc::Global;
 use std::sync::Wait;
 use std::thread::Threads;
+use workers::Closed;
+
+type Whole = Closed<Sample, MemoryStore>;
 
 /// How many posts a feed has between its opening and its status.
 const POSTS: u32 = 98;
@@ -52,11 +55,27 @@ pub(crate) fn are_entered_whole<R: Threads + Wait + Sync>(
     let store = MemoryStore::new(alloc);
     let steps = feeds(alloc, POSTS, ["x", "y"])?;
     let closed = run(rt, alloc, Sample, store, steps, &Idle)?;
-    let first = replies(&closed, 0)?;
-    let second = replies(&closed, 1)?;
-    let third = replies(&closed, 2)?;
-    let are_accepted = are_all_accepted(first.as_slice()) && are_all_accepted(second.as_slice());
-    Ok(are_accepted && third.is_empty() && count_by_feeds(history(&closed)) == 200)
+    are_whole(&closed)
+}
+
+/// Whether each of two feeds had all accepted, a third has no replies, and the history has the steps of both.
+fn are_whole(closed: &Whole) -> anyhow::Result<bool> {
+    Ok(
+        is_accepted(closed, 0)?
+            && is_accepted(closed, 1)?
+            && has_no_replies(closed, 2)?
+            && count_by_feeds(history(closed)) == 200,
+    )
+}
+
+fn is_accepted(closed: &Whole, feed: u32) -> anyhow::Result<bool> {
+    let told = replies(closed, feed)?;
+    Ok(are_all_accepted(told.as_slice()))
+}
+
+fn has_no_replies(closed: &Whole, feed: u32) -> anyhow::Result<bool> {
+    let told = replies(closed, feed)?;
+    Ok(told.is_empty())
 }
 
 /// Whether no feeds leave an empty history.

@@ -32,22 +32,33 @@ impl Case {
     }
 }
 
-/// The outcomes that these lines ask for.
-pub(crate) fn audited(alloc: Global, lines: &str) -> anyhow::Result<String> {
+/// Adds the outcomes that these lines ask for.
+pub(crate) fn audit(alloc: Global, lines: &str, text: &mut String) -> anyhow::Result<()> {
     let name = name_of("a")?;
     let mut case = Case::new(alloc);
-    let mut text = String::new(alloc);
     for line in lines.lines() {
-        if line == "audit" {
-            outcome(alloc, &name, &case, &mut text)?;
-            case = Case::new(alloc);
-        } else if line == "memory" {
-            add_memory(alloc, &name, &mut text)?;
-        } else {
-            add(alloc, &mut case, line)?;
-        }
+        take(alloc, &name, &mut case, line, text)?;
     }
-    Ok(text)
+    Ok(())
+}
+
+/// Does what a line says.
+fn take(
+    alloc: Global,
+    name: &TenantName,
+    case: &mut Case,
+    line: &str,
+    text: &mut String,
+) -> anyhow::Result<()> {
+    if line == "memory" {
+        return add_memory(alloc, name, text);
+    }
+    if line != "audit" {
+        return add(alloc, case, line);
+    }
+    outcome(alloc, name, case, text)?;
+    *case = Case::new(alloc);
+    Ok(())
 }
 
 fn outcome(alloc: Global, name: &TenantName, case: &Case, text: &mut String) -> anyhow::Result<()> {

@@ -8,15 +8,23 @@ use crate::calls::{self, Books, audit_of_lists, name_of, new_book, outcome_line}
 use model::{MAX_UNITS, Move, Seat, TenantName, Text, Texts};
 use std::alloc::Global;
 
-/// What a new book shows of tenant `a` before and after these lines.
-pub(crate) fn certified(alloc: Global, lines: &str) -> anyhow::Result<String> {
+/// Adds what a new book shows of tenant `a` before and after these lines.
+pub(crate) fn certify(alloc: Global, lines: &str, text: &mut String) -> anyhow::Result<()> {
     let name = name_of("a")?;
-    let mut text = String::new(alloc);
     let mut book = new_book(alloc);
-    add_lists(alloc, &book, &name, &mut text)?;
-    answer_all(alloc, &mut book, lines)?;
-    add_lists(alloc, &book, &name, &mut text)?;
-    Ok(text)
+    add_before_and_after(alloc, &mut book, &name, lines, text)
+}
+
+fn add_before_and_after(
+    alloc: Global,
+    book: &mut Books,
+    name: &TenantName,
+    lines: &str,
+    text: &mut String,
+) -> anyhow::Result<()> {
+    add_lists(alloc, book, name, text)?;
+    answer_all(alloc, book, lines)?;
+    add_lists(alloc, book, name, text)
 }
 
 /// Answers these lines.

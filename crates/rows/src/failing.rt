@@ -67,8 +67,7 @@ pub(crate) fn failed(alloc: Global, lines: &str, way: Way) -> anyhow::Result<Str
     }
     let appends = numbers_in(alloc, lines, "append ")?;
     let fetches = numbers_in(alloc, lines, "fetch ")?;
-    let book: Books = Book::new(alloc, Sample, FuseStore::new(alloc, appends, fetches));
-    told_by(alloc, book, lines, way)
+    told_by(alloc, failing_book(alloc, appends, fetches), lines, way)
 }
 
 /// What a new book tells of the steps of a row.
@@ -80,8 +79,18 @@ fn told_by<S: Store>(
 ) -> anyhow::Result<String> {
     match way {
         Way::OneByOne => one_by_one(alloc, &mut book, lines),
-        Way::AtOnce => at_once(alloc, &mut book, steps_of(alloc, lines)?.as_slice()),
+        Way::AtOnce => all_at_once(alloc, &mut book, lines),
     }
+}
+
+/// What the book tells of the steps of a row, done by one call.
+fn all_at_once<S: Store>(
+    alloc: Global,
+    book: &mut Book<Sample, S>,
+    lines: &str,
+) -> anyhow::Result<String> {
+    let steps = steps_of(alloc, lines)?;
+    at_once(alloc, book, steps.as_slice())
 }
 
 /// The replies of the book to the steps of a row, one by one.
@@ -114,13 +123,22 @@ impl Again {
             return push_kept(alloc, &mut self.replies, book, unit);
         }
         let first = answer(alloc, book, line)?;
-        let reply = match logged_before(&first) {
-            Some(count) => {
-                self.refused = true;
-                with_more(answer(alloc, book, line)?, count)
-            }
-            None => first,
-        };
+        match logged_before(&first) {
+            Some(count) => self.add_again(alloc, book, line, count),
+            None => push_reply(alloc, &mut self.replies, &first),
+        }
+    }
+
+    /// Gives a step again that had logged so many records when it was refused.
+    fn add_again(
+        &mut self,
+        alloc: Global,
+        book: &mut Books,
+        line: &str,
+        count: u64,
+    ) -> anyhow::Result<()> {
+        self.refused = true;
+        let reply = with_more(answer(alloc, book, line)?, count);
         push_reply(alloc, &mut self.replies, &reply)
     }
 }
@@ -156,15 +174,36 @@ fn given_again(
     appends: Vec<u64>,
     fetches: Vec<u64>,
 ) -> anyhow::Result<Again> {
-    let mut book: Books = Book::new(alloc, Sample, FuseStore::new(alloc, appends, fetches));
     let mut all = Again {
         replies: String::new(alloc),
         refused: false,
     };
-    for line in lines.lines() {
-        all.add(alloc, &mut book, line)?;
-    }
+    give(alloc, lines, appends, fetches, &mut all)?;
     Ok(all)
+}
+
+/// Gives the steps to a new book over such a store.
+fn give(
+    alloc: Global,
+    lines: &str,
+    appends: Vec<u64>,
+    fetches: Vec<u64>,
+    all: &mut Again,
+) -> anyhow::Result<()> {
+    let mut book = failing_book(alloc, appends, fetches);
+    give_to(alloc, &mut book, lines, all)
+}
+
+fn give_to(alloc: Global, book: &mut Books, lines: &str, all: &mut Again) -> anyhow::Result<()> {
+    for line in lines.lines() {
+        all.add(alloc, book, line)?;
+    }
+    Ok(())
+}
+
+/// A new book over a store that fails the appends and the fetches of these numbers.
+fn failing_book(alloc: Global, appends: Vec<u64>, fetches: Vec<u64>) -> Books {
+    Book::new(alloc, Sample, FuseStore::new(alloc, appends, fetches))
 }
 
 /// What the steps come to over a store that never fails.

@@ -29,17 +29,17 @@ mod told;
 mod turned;
 
 use at_once::with_own;
-use audited::audited;
+use audited::audit;
 use beside::{every, with_noise};
 use calls::{new_book, serve_all};
-use certified::certified;
-use failing::{Way, failed, once, steps_of, survives_each};
+use certified::certify;
+use failing::{Again, Way, failed, once, steps_of, survives_each};
 use lines::Counted;
 use reading::answers_up_to_each;
 use std::alloc::Global;
 use std::fs;
-use told::told;
-use turned::turned;
+use told::tell;
+use turned::turn;
 
 fn main(rt: HostRuntime) -> anyhow::Result<()> {
     for name in rt.lines(rt.alloc()) {
@@ -53,9 +53,15 @@ fn main(rt: HostRuntime) -> anyhow::Result<()> {
 /// How a row came out.
 fn verdict(rt: &HostRuntime, name: &str) -> anyhow::Result<&'static str> {
     let row = name.strip_prefix("once ").unwrap_or(name);
-    let steps = fs::read_to_string(rt, format!(in rt.alloc(); "{row}.steps")?)?;
-    let replies = fs::read_to_string(rt, format!(in rt.alloc(); "{row}.replies")?)?;
+    let steps = text_of(rt, row, "steps")?;
+    let replies = text_of(rt, row, "replies")?;
     row_verdict(rt.alloc(), name, steps.as_str(), replies.as_str())
+}
+
+/// The text of a row's file.
+fn text_of(rt: &HostRuntime, row: &str, ending: &str) -> anyhow::Result<String> {
+    let file = format!(in rt.alloc(); "{row}.{ending}")?;
+    Ok(fs::read_to_string(rt, file)?)
 }
 
 /// How the row of this name with these lines came out.
@@ -86,13 +92,17 @@ fn row_verdict(
 
 fn once_verdict(alloc: Global, steps: &str, replies: &str) -> anyhow::Result<&'static str> {
     let all = once(alloc, steps)?;
-    Ok(if all.replies.as_str() != replies {
+    Ok(once_words(&all, replies))
+}
+
+fn once_words(all: &Again, replies: &str) -> &'static str {
+    if all.replies.as_str() != replies {
         "what is kept differs"
     } else if all.refused {
         "what is kept is as it must be, and a step found no memory"
     } else {
         "what is kept is as it must be, and each step found memory"
-    })
+    }
 }
 
 fn kept_verdict(alloc: Global, steps: &str, replies: &str) -> anyhow::Result<&'static str> {
@@ -104,7 +114,9 @@ fn kept_verdict(alloc: Global, steps: &str, replies: &str) -> anyhow::Result<&'s
 }
 
 fn turned_verdict(alloc: Global, steps: &str, replies: &str) -> anyhow::Result<&'static str> {
-    Ok(if turned(alloc, steps)?.as_str() == replies {
+    let mut text = String::new(alloc);
+    turn(alloc, steps, &mut text)?;
+    Ok(if text.as_str() == replies {
         "the replies are as they must be, by turns that were worked beside the book"
     } else {
         "the replies by turns that were worked beside the book differ"
@@ -115,15 +127,28 @@ fn failed_verdict(alloc: Global, steps: &str, replies: &str) -> anyhow::Result<&
     if failed(alloc, steps, Way::OneByOne)?.as_str() != replies {
         return Ok("the replies over a store that fails differ");
     }
-    let told = with_own(alloc, steps_of(alloc, steps)?.as_slice(), replies)?;
-    if failed(alloc, steps, Way::AtOnce)?.as_str() != told.as_str() {
+    if !is_told_at_once(alloc, steps, replies)? {
         return Ok("the replies to all steps at once over a store that fails differ");
     }
     Ok("the replies are as they must be over a store that fails, one by one and at once")
 }
 
+/// Whether by one call the replies are these, and what the book then tells of each tenant its own.
+fn is_told_at_once(alloc: Global, steps: &str, replies: &str) -> anyhow::Result<bool> {
+    let told = told_of(alloc, steps, replies)?;
+    let got = failed(alloc, steps, Way::AtOnce)?;
+    Ok(got.as_str() == told.as_str())
+}
+
+fn told_of(alloc: Global, steps: &str, replies: &str) -> anyhow::Result<String> {
+    let steps = steps_of(alloc, steps)?;
+    with_own(alloc, steps.as_slice(), replies)
+}
+
 fn certified_verdict(alloc: Global, steps: &str, replies: &str) -> anyhow::Result<&'static str> {
-    Ok(if certified(alloc, steps)?.as_str() == replies {
+    let mut text = String::new(alloc);
+    certify(alloc, steps, &mut text)?;
+    Ok(if text.as_str() == replies {
         "seats, moves and audits are as they must be"
     } else {
         "seats, moves or audits differ"
@@ -131,7 +156,9 @@ fn certified_verdict(alloc: Global, steps: &str, replies: &str) -> anyhow::Resul
 }
 
 fn told_verdict(alloc: Global, steps: &str, replies: &str) -> anyhow::Result<&'static str> {
-    Ok(if told(alloc, steps)?.as_str() == replies {
+    let mut text = String::new(alloc);
+    tell(alloc, steps, &mut text)?;
+    Ok(if text.as_str() == replies {
         "what the book tells is as it must be"
     } else {
         "what the book tells differs"
@@ -139,7 +166,9 @@ fn told_verdict(alloc: Global, steps: &str, replies: &str) -> anyhow::Result<&'s
 }
 
 fn audited_verdict(alloc: Global, steps: &str, replies: &str) -> anyhow::Result<&'static str> {
-    Ok(if audited(alloc, steps)?.as_str() == replies {
+    let mut text = String::new(alloc);
+    audit(alloc, steps, &mut text)?;
+    Ok(if text.as_str() == replies {
         "the audits are as they must be"
     } else {
         "the audits differ"
@@ -147,8 +176,7 @@ fn audited_verdict(alloc: Global, steps: &str, replies: &str) -> anyhow::Result<
 }
 
 fn worked_verdict(alloc: Global, steps: &str, replies: &str) -> anyhow::Result<&'static str> {
-    let alone = served(alloc, steps.as_bytes())?;
-    if alone.as_slice() != replies.as_bytes() {
+    if !is_answered(alloc, steps, replies)? {
         return Ok("the replies differ from those that they must be");
     }
     if !is_same_beside(alloc, steps, replies)? {
@@ -163,6 +191,12 @@ fn worked_verdict(alloc: Global, steps: &str, replies: &str) -> anyhow::Result<&
     Ok(
         "the replies are as they must be, alone, beside a busy tenant and where any append or fetch, or the input, fails",
     )
+}
+
+/// Whether the replies are those, alone.
+fn is_answered(alloc: Global, steps: &str, replies: &str) -> anyhow::Result<bool> {
+    let alone = served(alloc, steps.as_bytes())?;
+    Ok(alone.as_slice() == replies.as_bytes())
 }
 
 /// Whether the replies are the same beside a busy tenant.

@@ -8,22 +8,35 @@
 use crate::answers::push_replies;
 use crate::calls::{self, Books, name_of, new_book, outcome_line, step_of};
 use anyhow::Context;
-use model::{Entry, MAX_UNITS, TenantName, Who};
+use model::{Entry, MAX_UNITS, Step, TenantName, Who};
 use std::alloc::Global;
 
-/// What a new book tells after these lines.
-pub(crate) fn told(alloc: Global, lines: &str) -> anyhow::Result<String> {
-    let mut text = String::new(alloc);
+/// Adds what a new book tells after these lines.
+pub(crate) fn tell(alloc: Global, lines: &str, text: &mut String) -> anyhow::Result<()> {
+    add_book_after(alloc, lines, text)?;
+    add_run(alloc, lines, text)
+}
+
+fn add_book_after(alloc: Global, lines: &str, text: &mut String) -> anyhow::Result<()> {
     let book = book_after(alloc, lines)?;
-    for name in calls::tenants(&book)?.iter() {
-        add_tenant(alloc, &book, name, &mut text)?;
+    add_book(alloc, &book, text)
+}
+
+/// Adds what the book tells of its tenants, of one that is not there, and of its entries.
+fn add_book(alloc: Global, book: &Books, text: &mut String) -> anyhow::Result<()> {
+    add_tenants(alloc, book, text)?;
+    add_tenant(alloc, book, &name_of("nobody")?, text)?;
+    for entry in calls::history(book) {
+        add_entry(alloc, entry, text)?;
     }
-    add_tenant(alloc, &book, &name_of("nobody")?, &mut text)?;
-    for entry in calls::history(&book) {
-        add_entry(alloc, entry, &mut text)?;
+    Ok(())
+}
+
+fn add_tenants(alloc: Global, book: &Books, text: &mut String) -> anyhow::Result<()> {
+    for name in calls::tenants(book)?.iter() {
+        add_tenant(alloc, book, name, text)?;
     }
-    add_run(alloc, lines, &mut text)?;
-    Ok(text)
+    Ok(())
 }
 
 /// A new book that did these steps, one by one.
@@ -124,14 +137,33 @@ fn add_entry(alloc: Global, entry: &Entry, text: &mut String) -> anyhow::Result<
     Ok(())
 }
 
-/// Adds the replies of a new book that runs these steps at once.
-fn add_run(alloc: Global, lines: &str, text: &mut String) -> anyhow::Result<()> {
+/// The steps of these lines, whoever gives them.
+fn steps_of(alloc: Global, lines: &str) -> anyhow::Result<Vec<Step>> {
     let mut steps = Vec::new(alloc);
     for line in lines.lines() {
         let (_, step) = given(line)?;
         steps.push(step_of(alloc, step)?)?;
     }
+    Ok(steps)
+}
+
+/// Adds the replies of a new book that runs these steps at once.
+fn add_run(alloc: Global, lines: &str, text: &mut String) -> anyhow::Result<()> {
+    let steps = steps_of(alloc, lines)?;
+    run_in_new_book(alloc, steps.as_slice(), text)
+}
+
+fn run_in_new_book(alloc: Global, steps: &[Step], text: &mut String) -> anyhow::Result<()> {
     let mut book = new_book(alloc);
-    let replies = calls::run(&mut book, steps.as_slice())?;
+    add_replies(alloc, &mut book, steps, text)
+}
+
+fn add_replies(
+    alloc: Global,
+    book: &mut Books,
+    steps: &[Step],
+    text: &mut String,
+) -> anyhow::Result<()> {
+    let replies = calls::run(book, steps)?;
     push_replies(alloc, text, replies.as_slice())
 }

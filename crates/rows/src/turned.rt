@@ -12,24 +12,49 @@ use handler::{Ask, Done, Sample};
 use model::Step;
 use std::alloc::Global;
 
-/// The replies of a new book to these lines.
-pub(crate) fn turned(alloc: Global, lines: &str) -> anyhow::Result<String> {
+/// Adds the replies of a new book to these lines.
+pub(crate) fn turn(alloc: Global, lines: &str, text: &mut String) -> anyhow::Result<()> {
     let mut book = new_book(alloc);
+    do_all(alloc, &mut book, lines, text)
+}
+
+fn do_all(alloc: Global, book: &mut Books, lines: &str, text: &mut String) -> anyhow::Result<()> {
     let mut kept = None;
-    let mut text = String::new(alloc);
     for line in lines.lines() {
-        if let Some(step) = line.strip_prefix("work ") {
-            kept = Some(work(alloc, &book, step)?);
-        } else if let Some(step) = line.strip_prefix("with ") {
-            let Some(worked) = kept.take() else {
-                bail!("no turn is kept");
-            };
-            do_with(alloc, &mut book, step, worked, &mut text)?;
-        } else {
-            push_reply(alloc, &mut text, &answer(alloc, &mut book, line)?)?;
-        }
+        do_one(alloc, book, line, &mut kept, text)?;
     }
-    Ok(text)
+    Ok(())
+}
+
+fn do_one(
+    alloc: Global,
+    book: &mut Books,
+    line: &str,
+    kept: &mut Option<Done<Sample>>,
+    text: &mut String,
+) -> anyhow::Result<()> {
+    if let Some(step) = line.strip_prefix("work ") {
+        *kept = Some(work(alloc, book, step)?);
+        return Ok(());
+    }
+    match line.strip_prefix("with ") {
+        Some(step) => do_by_kept(alloc, book, step, kept, text),
+        None => push_reply(alloc, text, &answer(alloc, book, line)?),
+    }
+}
+
+/// Does the step by the turn that was kept.
+fn do_by_kept(
+    alloc: Global,
+    book: &mut Books,
+    line: &str,
+    kept: &mut Option<Done<Sample>>,
+    text: &mut String,
+) -> anyhow::Result<()> {
+    match kept.take() {
+        Some(worked) => do_with(alloc, book, line, worked, text),
+        None => bail!("no turn is kept"),
+    }
 }
 
 /// The turn that the step needs.
@@ -59,9 +84,13 @@ fn do_with(
     text: &mut String,
 ) -> anyhow::Result<()> {
     let step = step_of(alloc, line)?;
-    match step_with(book, step, worked) {
-        Committed::Stale(_) => text.push_str("stale\n")?,
-        Committed::Reply(reply) => push_reply(alloc, text, &reply)?,
+    push_committed(alloc, &step_with(book, step, worked), text)
+}
+
+/// Adds the reply, or that the step was given back.
+fn push_committed(alloc: Global, done: &Committed, text: &mut String) -> anyhow::Result<()> {
+    match done {
+        Committed::Stale(_) => Ok(text.push_str("stale\n")?),
+        Committed::Reply(reply) => push_reply(alloc, text, reply),
     }
-    Ok(())
 }

@@ -1,5 +1,5 @@
 use handler::{Ask, Done, Handler, Sample, Turn};
-use model::{Kind, Seat, Source, Text, Unit};
+use model::{Kind, NoMemory, Seat, Source, Text, Unit};
 use std::test::Fail;
 
 fn seat(unit: u8, kind: u8, home: u8) -> Seat {
@@ -27,13 +27,30 @@ fn outputs_of<H: Handler>(
     let mut state = handler.begin(alloc, at)?;
     let mut all = Vec::new(alloc);
     for text in texts {
-        let turn = handler.handle(alloc, at, &state, Source::Outside, text)?;
-        state = handler.copy(alloc, &turn.state)?;
-        for output in turn.outputs() {
-            all.push(output.copy()?)?;
-        }
+        state = next(rt, handler, &at, &state, text, &mut all)?;
     }
     Ok(all)
+}
+
+/// The state after this text, whose outputs are added.
+fn next<H: Handler>(
+    rt: &HostRuntime,
+    handler: &H,
+    at: &Seat,
+    state: &H::State,
+    text: &str,
+    all: &mut Vec<Text>,
+) -> Result<H::State, NoMemory> {
+    let turn = handler.handle(rt.alloc(), *at, state, Source::Outside, text)?;
+    push_all(all, turn.outputs())?;
+    handler.copy(rt.alloc(), &turn.state)
+}
+
+fn push_all(all: &mut Vec<Text>, outputs: &[Text]) -> Result<(), NoMemory> {
+    for output in outputs {
+        all.push(output.copy()?)?;
+    }
+    Ok(())
 }
 
 #[test]

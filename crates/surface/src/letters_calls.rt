@@ -10,9 +10,19 @@ fn rise_from_seven(alloc: Global, letters: &[Letter]) -> Result<bool, NoMemory>
     requires { length letters.now ≤ 8 }
 {
     let made = Letters::from_first(alloc, 7, letters.len())?;
+    Ok(made.as_slice() == letters && copy_is(alloc, &made, letters)? && are_own(alloc, letters)?)
+}
+
+/// Whether the copy of letters is these.
+fn copy_is(alloc: Global, made: &Letters, letters: &[Letter]) -> Result<bool, NoMemory> {
     let copied = made.copy(alloc)?;
+    Ok(copied.as_slice() == letters)
+}
+
+/// Whether a list of these letters has them.
+fn are_own(alloc: Global, letters: &[Letter]) -> Result<bool, NoMemory> {
     let own = Letters::of(alloc, letters)?;
-    Ok(made.as_slice() == letters && copied.as_slice() == letters && own.as_slice() == letters)
+    Ok(own.as_slice() == letters)
 }
 
 fn at(number: u32) -> Letter {

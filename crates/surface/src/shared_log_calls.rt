@@ -78,20 +78,52 @@ fn has(log: &SharedLog<MemoryStore>, tenant: &TenantName, unit: u8, places: &[u6
     log.of(tenant, Unit::new(unit)) == places
 }
 
+fn cut(log: &mut SharedLog<MemoryStore>, tenant: &TenantName, unit: u8, keep: usize) {
+    log.cut(tenant, Unit::new(unit), keep);
+}
+
+fn forget(log: &mut SharedLog<MemoryStore>, tenant: &TenantName, unit: u8, count: usize) {
+    log.forget(tenant, Unit::new(unit), count);
+}
+
+/// Whether a list is there, and another is empty.
+fn are_listed(log: &SharedLog<MemoryStore>, a: &TenantName, b: &TenantName) -> bool {
+    has(log, a, 1, &[0, 3, 4]) && has(log, b, 2, &[])
+}
+
+/// Whether a cut takes the records behind the first of its own unit alone.
+fn is_cut(log: &mut SharedLog<MemoryStore>, a: &TenantName) -> bool {
+    cut(log, a, 1, 1);
+    has(log, a, 1, &[0]) && has(log, a, 2, &[1])
+}
+
+/// Whether the first record of the unit is forgotten.
+fn is_forgotten(log: &mut SharedLog<MemoryStore>, b: &TenantName) -> bool {
+    forget(log, b, 1, 1);
+    has(log, b, 1, &[5])
+}
+
+/// Whether the log goes on behind what was cut, and gives what was not forgotten.
+fn goes_on(
+    alloc: Global,
+    log: &mut SharedLog<MemoryStore>,
+    a: &TenantName,
+    b: &TenantName,
+) -> Result<bool, StoreFault> {
+    put(alloc, log, "a", 1, 13)?;
+    Ok(has(log, a, 1, &[0, 6]) && number_at(log, b, 1, 0)? == 12)
+}
+
+fn serves_two(alloc: Global, log: &mut SharedLog<MemoryStore>) -> Result<bool, StoreFault> {
+    let (a, b) = (name(alloc, "a")?, name(alloc, "b")?);
+    let is_changed = are_listed(log, &a, &b) && is_cut(log, &a) && is_forgotten(log, &b);
+    Ok(is_changed && goes_on(alloc, log, &a, &b)?)
+}
+
 #[test]
 fn a_log_lists_cuts_forgets_and_fetches(rt: HostRuntime) -> Result<(), Fail> {
     let alloc = rt.alloc();
-    let (a, b) = (name(alloc, "a")?, name(alloc, "b")?);
     let mut log = two_tenants(alloc)?;
-    assert!(rt; has(&log, &a, 1, &[0, 3, 4]));
-    assert!(rt; has(&log, &b, 2, &[]));
-    log.cut(&a, Unit::new(1), 1);
-    assert!(rt; has(&log, &a, 1, &[0]));
-    assert!(rt; has(&log, &a, 2, &[1]));
-    log.forget(&b, Unit::new(1), 1);
-    assert!(rt; has(&log, &b, 1, &[5]));
-    put(alloc, &mut log, "a", 1, 13)?;
-    assert!(rt; has(&log, &a, 1, &[0, 6]));
-    assert_eq!(rt; number_at(&mut log, &b, 1, 0)?, 12);
+    assert!(rt; serves_two(alloc, &mut log)?);
     Ok(())
 }

@@ -4,12 +4,9 @@ use stable_log::{FuseStore, SharedLog, Store, StoreFault, WriterStore};
 use std::alloc::Global;
 use std::test::Fail;
 
-const FROM_UNIT_0: &str =
+const FROM_UNIT_0_AND_FROM_OUTSIDE: &str =
     r#"{"from":0,"letter":0,"mark":[0,1],"number":0,"tenant":"a","text":"x","unit":1,"vector":[[0,1],[0,1]]}
-"#;
-
-const FROM_OUTSIDE: &str =
-    r#"{"from":"outside","letter":null,"mark":[0,1],"number":0,"tenant":"a","text":"x","unit":0,"vector":[[0,1],[0,0]]}
+{"from":"outside","letter":null,"mark":[0,1],"number":0,"tenant":"a","text":"x","unit":0,"vector":[[0,1],[0,0]]}
 "#;
 
 /// The first interval of a unit.
@@ -34,21 +31,48 @@ fn from_outside(alloc: Global) -> Result<Record, NoMemory> {
     receipt(alloc, "a", 0, Source::Outside, None, 0, &[first(), begin])
 }
 
+/// A store that writes its lines into a list of bytes.
+type Lines = WriterStore<Vec<u8>>;
+
+fn write(store: &mut Lines, logged: &Record) -> Result<(), StoreFault> {
+    store.append(logged)
+}
+
+fn write_both(alloc: Global, store: &mut Lines) -> Result<(), StoreFault> {
+    write(store, &from_unit_0(alloc)?)?;
+    write(store, &from_outside(alloc)?)
+}
+
+/// Whether the store is open, and wrote this.
+fn has_written(store: &Lines, text: &str) -> bool {
+    store.writer().as_slice() == text.as_bytes() && !store.is_closed()
+}
+
 #[test]
 fn each_record_is_a_line(rt: HostRuntime) -> Result<(), Fail> {
     let alloc = rt.alloc();
     let mut store = WriterStore::new(alloc, Vec::new(alloc));
-    store.append(&from_unit_0(alloc)?)?;
-    store.append(&from_outside(alloc)?)?;
-    let mut want = String::from_str(alloc, FROM_UNIT_0)?;
-    want.push_str(FROM_OUTSIDE)?;
-    assert!(rt; store.writer().as_slice() == want.as_bytes());
-    assert!(rt; !store.is_closed());
+    write_both(alloc, &mut store)?;
+    assert!(rt; has_written(&store, FROM_UNIT_0_AND_FROM_OUTSIDE));
     Ok(())
 }
 
+/// A log over a store that fails what it is told to.
+type Fused = SharedLog<FuseStore>;
+
+/// A log whose store fails its second append and its first fetch.
+fn fused(alloc: Global) -> Result<Fused, NoMemory> {
+    let bad_appends = [1].to_vec(alloc)?;
+    let bad_fetches = [0].to_vec(alloc)?;
+    Ok(SharedLog::new(alloc, FuseStore::new(alloc, bad_appends, bad_fetches)))
+}
+
+fn append(log: &mut Fused, logged: &Record) -> Result<(), StoreFault> {
+    log.append(logged)
+}
+
 /// The first live record of a record's unit, fetched from the store.
-fn fetch_first<S: Store>(log: &mut SharedLog<S>, of: &Record) -> Result<Record, StoreFault> {
+fn fetch_first(log: &mut Fused, of: &Record) -> Result<Record, StoreFault> {
     let places = log.of(&of.tenant, of.unit);
     if places.is_empty() {
         return Err(StoreFault::NoMemory);
@@ -57,18 +81,29 @@ fn fetch_first<S: Store>(log: &mut SharedLog<S>, of: &Record) -> Result<Record, 
     log.fetch(place)
 }
 
+/// Whether of three appends the second fails.
+fn fails_an_append(log: &mut Fused, logged: &Record) -> bool {
+    append(log, logged) == Ok(())
+        && append(log, logged) == Err(StoreFault::Device)
+        && append(log, logged) == Ok(())
+}
+
+/// Whether of two fetches the first fails.
+fn fails_a_fetch(log: &mut Fused, logged: &Record) -> Result<bool, StoreFault> {
+    let is_failed = matches!(fetch_first(log, logged), Err(StoreFault::Device));
+    let fetched = fetch_first(log, logged)?;
+    Ok(is_failed && fetched.unit == Unit::new(0))
+}
+
+fn fails_both(alloc: Global, log: &mut Fused) -> Result<bool, StoreFault> {
+    let logged = from_outside(alloc)?;
+    Ok(fails_an_append(log, &logged) && fails_a_fetch(log, &logged)?)
+}
+
 #[test]
 fn a_fuse_store_fails_what_it_is_told_to(rt: HostRuntime) -> Result<(), Fail> {
     let alloc = rt.alloc();
-    let bad_appends = [1].to_vec(alloc)?;
-    let bad_fetches = [0].to_vec(alloc)?;
-    let mut log = SharedLog::new(alloc, FuseStore::new(alloc, bad_appends, bad_fetches));
-    let logged = from_outside(alloc)?;
-    log.append(&logged)?;
-    assert_eq!(rt; log.append(&logged), Err(StoreFault::Device));
-    assert_eq!(rt; log.append(&logged), Ok(()));
-    assert!(rt; matches!(fetch_first(&mut log, &logged), Err(StoreFault::Device)));
-    let fetched = fetch_first(&mut log, &logged)?;
-    assert_eq!(rt; fetched.unit, Unit::new(0));
+    let mut log = fused(alloc)?;
+    assert!(rt; fails_both(alloc, &mut log)?);
     Ok(())
 }
