@@ -1,0 +1,25 @@
+# Completions of recall for bash.
+_recall() {
+    local now=${COMP_WORDS[COMP_CWORD]} before=${COMP_WORDS[COMP_CWORD-1]} command=${COMP_WORDS[1]:-}
+    COMPREPLY=()
+    if [ "$COMP_CWORD" = 1 ]; then
+        COMPREPLY=($(compgen -W 'run feeds draw journal --help --version' -- "$now"))
+        return
+    fi
+    case "$command $before" in
+    'run --log') COMPREPLY=($(compgen -f -- "$now")) && return ;;
+    'run --journal') COMPREPLY=($(compgen -f -- "$now")) && return ;;
+    'run --from') return ;;
+    'draw --tenant') return ;;
+    'draw --to') COMPREPLY=($(compgen -f -- "$now")) && return ;;
+    'draw --from') return ;;
+    'draw --last') return ;;
+    esac
+    case "$command" in
+    run) COMPREPLY=($(compgen -W '--log --journal --from --adopt --explain --strict --audit -q --quiet -v --verbose -h --help' -- "$now")) ;;
+    feeds) COMPREPLY=($(compgen -W '--audit -q --quiet -v --verbose -h --help' -- "$now") $(compgen -f -- "$now")) ;;
+    draw) COMPREPLY=($(compgen -W '--tenant --to --from --last -h --help' -- "$now")) ;;
+    journal) COMPREPLY=($(compgen -W '--json -h --help' -- "$now") $(compgen -f -- "$now")) ;;
+    esac
+}
+complete -o filenames -F _recall recall
