@@ -1,38 +1,59 @@
 //! What each page has, whatever it shows.
 
-/// The colours, for light and for dark, and the heads of arrows.
+/// The colours, as plain values that whatever draws SVG takes: light ones, and dark ones on top for those that know what
+/// the reader prefers; and the heads of arrows.
 pub(crate) const STYLE: &str = r#"<style>
-svg { --paper: #ffffff; --ink: #1f2328; --faint: #6b7280; --line: #9aa3ad; --firm: #0b6fb8; --stable: #0a8a5f;
-  --volatile: #b7791f; --lost: #c8321f; --cut: #9b4d96; background: var(--paper); font: 12px sans-serif; }
-@media (prefers-color-scheme: dark) {
-  svg { --paper: #14171c; --ink: #e7eaee; --faint: #9aa4b1; --line: #66707d; --firm: #5db2f2; --stable: #3ecf9a;
-    --volatile: #f0b84a; --lost: #ff7b68; --cut: #da96d4; }
-}
-text { fill: var(--ink); paint-order: stroke; stroke: var(--paper); stroke-width: 3px; stroke-linejoin: round; }
+svg { background: #ffffff; font: 12px sans-serif; }
+text { fill: #1f2328; stroke: #ffffff; paint-order: stroke; stroke-width: 3px; stroke-linejoin: round; }
 .name { font-size: 18px; font-weight: bold; }
-.kind, .column { fill: var(--faint); }
+.kind, .column { fill: #6b7280; }
 .mark, .column, .row { font-size: 11px; text-anchor: middle; }
-.page { fill: var(--paper); }
-.lane { stroke: var(--line); stroke-width: 2; }
-.down { stroke: var(--paper); stroke-width: 4; stroke-dasharray: 5 5; }
-.tick { stroke: var(--line); stroke-width: 1; stroke-dasharray: 1 5; }
-.interval > .shape { fill: var(--paper); stroke-width: 2; }
-.interval.firm > .shape { fill: var(--firm); stroke: var(--firm); }
-.interval.stable > .shape { fill: var(--stable); stroke: var(--stable); }
-.interval.volatile > .shape { stroke: var(--volatile); stroke-dasharray: 4 2.3; }
-.interval.lost > .shape { fill: none; stroke: var(--lost); stroke-width: 3.5; }
-.interval.cut > .shape { stroke: var(--cut); }
-.held { fill: var(--paper); stroke: var(--ink); stroke-width: 1.5; }
-.released { fill: var(--ink); stroke: var(--paper); stroke-width: 1.5; }
-.letter { fill: none; stroke: var(--ink); stroke-width: 1.5; }
-.letter.gone { stroke: var(--faint); stroke-width: 1; opacity: .75; }
+.page { fill: #ffffff; }
+.lane { stroke: #9aa3ad; stroke-width: 2; }
+.down { stroke: #ffffff; stroke-width: 4; stroke-dasharray: 5 5; }
+.tick { stroke: #9aa3ad; stroke-width: 1; stroke-dasharray: 1 5; }
+.interval > .shape { fill: #ffffff; stroke-width: 2; }
+.interval.firm > .shape { fill: #0b6fb8; stroke: #0b6fb8; }
+.interval.stable > .shape { fill: #0a8a5f; stroke: #0a8a5f; }
+.interval.volatile > .shape { stroke: #b7791f; stroke-dasharray: 4 2.3; }
+.interval.lost > .shape { fill: none; stroke: #c8321f; stroke-width: 3.5; }
+.interval.cut > .shape { stroke: #9b4d96; }
+.held { fill: #ffffff; stroke: #1f2328; stroke-width: 1.5; }
+.released { fill: #1f2328; stroke: #ffffff; stroke-width: 1.5; }
+.letter { stroke: #1f2328; fill: none; stroke-width: 1.5; }
+.letter.gone { stroke: #6b7280; stroke-width: 1; opacity: .75; }
 .letter.undelivered { stroke-dasharray: 3 3; }
-.sign { fill: none; stroke: var(--ink); stroke-width: 2; stroke-linejoin: round; stroke-linecap: round; }
-.sign.kill { fill: var(--lost); stroke: none; }
-.sign.restart { fill: var(--stable); stroke: none; }
-.sign.rollback { fill: var(--cut); stroke: none; }
-.sign.notice { fill: var(--paper); stroke: var(--cut); }
-.sign.checkpoint { fill: var(--paper); }
+.sign { stroke: #1f2328; fill: none; stroke-width: 2; stroke-linejoin: round; stroke-linecap: round; }
+.sign.kill { fill: #c8321f; stroke: none; }
+.sign.restart { fill: #0a8a5f; stroke: none; }
+.sign.rollback { fill: #9b4d96; stroke: none; }
+.sign.notice { fill: #ffffff; stroke: #9b4d96; }
+.sign.checkpoint { fill: #ffffff; }
+@media (prefers-color-scheme: dark) {
+  svg { background: #14171c; }
+  text { fill: #e7eaee; stroke: #14171c; }
+  .kind, .column { fill: #9aa4b1; }
+  .page { fill: #14171c; }
+  .lane { stroke: #66707d; }
+  .down { stroke: #14171c; }
+  .tick { stroke: #66707d; }
+  .interval > .shape { fill: #14171c; }
+  .interval.firm > .shape { fill: #5db2f2; stroke: #5db2f2; }
+  .interval.stable > .shape { fill: #3ecf9a; stroke: #3ecf9a; }
+  .interval.volatile > .shape { stroke: #f0b84a; }
+  .interval.lost > .shape { fill: none; stroke: #ff7b68; }
+  .interval.cut > .shape { stroke: #da96d4; }
+  .held { fill: #14171c; stroke: #e7eaee; }
+  .released { fill: #e7eaee; stroke: #14171c; }
+  .letter { stroke: #e7eaee; }
+  .letter.gone { stroke: #9aa4b1; }
+  .sign { stroke: #e7eaee; }
+  .sign.kill { fill: #ff7b68; }
+  .sign.restart { fill: #3ecf9a; }
+  .sign.rollback { fill: #da96d4; }
+  .sign.notice { fill: #14171c; stroke: #da96d4; }
+  .sign.checkpoint { fill: #14171c; }
+}
 </style>
 <defs><marker id="head" viewBox="0 0 10 10" refX="21" refY="5" markerWidth="8" markerHeight="8" markerUnits="userSpaceOnUse" orient="auto"><path d="M0 0L10 5L0 10Z" style="fill: context-stroke"/></marker><marker id="tip" viewBox="0 0 10 10" refX="9" refY="5" markerWidth="7" markerHeight="7" markerUnits="userSpaceOnUse" orient="auto"><path d="M0 0L10 5L0 10Z" style="fill: context-stroke"/></marker></defs>
 "#;
