@@ -3,6 +3,8 @@
 //! - `audit_tenant` (`tenant_audit`): puts a tenant's seats, its certificate and what it released
 //!   before `audit::check`. It finds no flaw, whatever the tenants' steps and the store's answers
 //!   were.
+//! - `audit_part` (`tenant_audit`): the same for each of many tenants, by the parts of the history
+//!   that `parts_of` (`parts`) makes of it in one pass.
 //! - `can_check` (`checkable`): whether `audit::check` may be asked of lists from elsewhere.
 //!
 //! `check` itself, and the line that tells an outcome, stand in `audit`, so that an auditor need read
@@ -19,7 +21,9 @@
 #![tactic(auto)]
 
 mod checkable;
+mod parts;
 mod tenant_audit;
 
 pub use checkable::can_check;
-pub use tenant_audit::audit_tenant;
+pub use parts::{Parts, parts_of};
+pub use tenant_audit::{audit_part, audit_tenant};

@@ -6,3 +6,4 @@ pub mod Lasting
 pub mod Keeping
 pub mod Devices
 pub mod Wanting
+pub mod Parted

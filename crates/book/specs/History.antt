@@ -1,12 +1,12 @@
 -- What a history makes of the tenants and of the log.
 use Rattle.std.specs.Prelude.{◌≡◌, ◌≤◌, ℕ, false, List, [], ◌∷◌, ◌++◌, Option, Some, None, option_map, bytes_eq}
-use Rattle.std.specs.List.{flat_map}
+use Rattle.std.specs.List.{filter, flat_map}
 use Rattle.indexmap.specs.IndexMap.{IndexMap, get, keys}
 use Rattle.model.specs.Addresses.{addressed}
 use Rattle.model.specs.Alone.{alone, step as step_alone}
 use Rattle.model.specs.Failures.{HasRisen}
 use Rattle.model.specs.Handler.{Meaning}
-use Rattle.model.specs.History.{own, pairs, replies_to, IsLegal}
+use Rattle.model.specs.History.{names, own, pairs, replies_to, IsLegal}
 use Rattle.model.specs.Records.{IsHonest, IsQuiet}
 use Rattle.model.specs.World.{World}
 use Rattle.model.specs.declared.names.Row.{Row}
@@ -30,6 +30,10 @@ use Rattle.book.specs.Keeping.{KeepsAt, KeepsOnAt, keeping_after}
 -- the world that a tenant's own entries make, if they open it
 abbrev pub world_of : {S : Type 0} → Meaning S → List ℕ → List Entry → Option World
 world_of M tenant history = (alone M (own tenant (pairs history))).world
+
+-- the entries that name the tenant, in order
+abbrev pub entries_of : List ℕ → List Entry → List Entry
+entries_of tenant history = filter (λ e. names tenant e.step) history
 
 -- what a unit of the world has released, if both are there
 abbrev pub released_at : Option World → ℕ → Option (List (List ℕ))

@@ -8,7 +8,7 @@ ghost use Rattle.book.specs.Certificates.{CertifiesAt, IsHeadline, certificate_a
 ghost use Rattle.book.specs.Commits.{Commits, needed};
 ghost use Rattle.book.specs.Entries.{CountsDevice, IsEntered};
 ghost use Rattle.book.specs.Keeping.{kept_after};
-ghost use Rattle.book.specs.History.{IsIsolated, IsRecordedIn, IsSaidHonestly, Ran, opened, released_at, table_at, world_of};
+ghost use Rattle.book.specs.History.{IsIsolated, IsRecordedIn, IsSaidHonestly, Ran, entries_of, opened, released_at, table_at, world_of};
 
 use crate::answer::{Tenants, answer, answer_with, ask, memory_reply};
 use crate::committed::Committed;
@@ -236,30 +236,52 @@ impl<H: Handler, S: Store> Book<H, S> {
         }
     }
 
+    /// The moves of the certificate of the tenant's world, read off a history in which the tenant's
+    /// events are those of the book's, and which is legal as that is.
+    fn moves_by(&self, tenant: &TenantName, history: &[Entry]) -> Result<Vec<Move>, NoMemory>
+        requires own { own tenant.now (pairs history.now) ≡ own tenant.now (pairs self.now.history) }
+        requires legal { IsLegal H.meaning self.now.history → IsLegal H.meaning history.now }
+        ensures { IfOk result (λ moves. moves.items ≡ certificate_at (world_of H.meaning tenant.now self.now.history)) }
+    {
+        match self.tenants.get(tenant) {
+            Some(open) => open.certificate(self.alloc, &self.handler, history, tenant),
+            None => Ok(Vec::new(self.alloc)),
+        }
+    }
+
     /// The moves of the certificate of the tenant's world.
     fn certificate_moves(&self, tenant: &TenantName) -> Result<Vec<Move>, NoMemory>
         ensures { IfOk result (λ moves. moves.items ≡ certificate_at (world_of H.meaning tenant.now self.now.history)) }
     {
-        match self.tenants.get(tenant) {
-            Some(open) => open.certificate(
-                self.alloc,
-                &self.handler,
-                self.history.as_slice(),
-                tenant,
-            ),
-            None => Ok(Vec::new(self.alloc)),
-        }
+        self.moves_by(tenant, self.history())
     }
 
     /// The certificate of the tenant: the receipts of all its firm intervals and the joins, in order
     /// of creation. They are a run without failures of the seats that it was opened with, over a
     /// beginning of each unit's logged receipts, and each unit's outputs in that run begin with what
     /// the unit released. There are no moves for a tenant that is not open.
+    ///
+    /// It goes over the whole history: for more than a few tenants, part that once, and ask
+    /// `certificate_by`.
     pub fn certificate(&self, tenant: &TenantName) -> Result<Vec<Move>, NoMemory>
         ensures { IfOk result (λ moves.
             CertifiesAt H.meaning (world_of H.meaning tenant.now self.now.history) moves.items) }
     {
         self.certificate_moves(tenant)
+    }
+
+    /// The same certificate, by the tenant's own entries of the history, in time by their number.
+    /// `NoMemory` comes where `certificate` has it.
+    pub fn certificate_by(
+        &self,
+        tenant: &TenantName,
+        entries: &[Entry],
+    ) -> Result<Vec<Move>, NoMemory>
+        requires { entries.now ≡ entries_of tenant.now self.now.history }
+        ensures { IfOk result (λ moves.
+            CertifiesAt H.meaning (world_of H.meaning tenant.now self.now.history) moves.items) }
+    {
+        self.moves_by(tenant, entries)
     }
 }
 

@@ -1,7 +1,9 @@
 //! Audits: after the replies, one audit line for each open tenant.
 
+ghost use Rattle.auditor.specs.Parting.{AreParts};
+
 use audit::audit_line;
-use auditor::audit_tenant;
+use auditor::{Parts, audit_part, parts_of};
 use book::Book;
 use handler::Handler;
 use log::{Log, error};
@@ -12,6 +14,9 @@ use std::io::Write;
 
 /// Audits each open tenant, in the order of their names, and writes a line for each. Tells the
 /// status to end with: 0 where all audits say yes, and else 1.
+///
+/// The history is parted by tenants once, and each audit reads its part alone: all take time by the
+/// length of the history, but for the sorting of the names.
 pub fn audit_all<L: Log, W: Write, H: Handler, S: Store>(
     rt: &L,
     alloc: Global,
@@ -23,9 +28,13 @@ pub fn audit_all<L: Log, W: Write, H: Handler, S: Store>(
         error!(rt; "there is no memory for the names of the tenants: none is audited");
         return 1;
     };
+    let Ok(parts) = parts_of(alloc, book) else {
+        error!(rt; "there is no memory to part the history by tenants: none is audited");
+        return 1;
+    };
     let mut status = 0;
     for name in names {
-        match audit_one(rt, alloc, handler, writer, book, name) {
+        match audit_one(rt, alloc, handler, writer, book, &parts, name) {
             Some(true) => {}
             Some(false) => status = 1,
             None => return 1,
@@ -59,13 +68,16 @@ fn audit_one<L: Log, W: Write, H: Handler, S: Store>(
     handler: &H,
     writer: &mut W,
     book: &Book<H, S>,
+    parts: &Parts,
     name: String,
-) -> Option<bool> {
+) -> Option<bool>
+    requires { AreParts parts.now book.now.history }
+{
     let Some(tenant) = TenantName::new(name.as_str()) else {
         error!(rt; "a tenant has no name: it is not audited");
         return Some(false);
     };
-    let outcome = audit_tenant(alloc, handler, book, &tenant);
+    let outcome = audit_part(alloc, handler, book, parts, &tenant);
     let Ok(mut line) = audit_line(alloc, &tenant, &outcome) else {
         error!(rt; "there is no memory for an audit line: the audit ends");
         return None;

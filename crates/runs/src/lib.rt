@@ -3,7 +3,7 @@
 //! - `run_on` (`run`): thin over `lines::serve`, which carries the theorem;
 //! - `run_journaled` (`journaled_run`): thin over `lines::serve`, and over `journal`, which carries its own;
 //! - `explained`: each refusal with its reason, thin over `lines::serve` for each line, and over `reasons`;
-//! - `audit_all` (`audits`): the audit lines, thin over `auditor::audit_tenant`, which carries its own;
+//! - `audit_all` (`audits`): the audit lines, thin over `auditor::audit_part`, which carries its own;
 //! - `tell_kept` (`kept`): how much is kept of the past;
 //! - `Judged`: a writer of replies that counts those which refuse; `NoZeros`: a reader without the byte 0.
 //!
