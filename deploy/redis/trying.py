@@ -74,6 +74,12 @@ class Server:
         if self.process.wait() != -signal.SIGKILL:
             raise Wrong("the server had ended by itself")
 
+    def open_to_others(self):
+        """The server's own files, which have every text, that others than their owner may read or write."""
+        folder = os.path.join(self.room, "appendonlydir")
+        files = [folder, os.path.join(self.room, "server.log"), *(os.path.join(folder, name) for name in os.listdir(folder))]
+        return [os.path.relpath(file, self.room) for file in files if os.stat(file).st_mode & 0o077]
+
     def file(self):
         """The append-only file that is written now."""
         folder = os.path.join(self.room, "appendonlydir")

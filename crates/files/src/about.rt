@@ -139,8 +139,10 @@ pub(crate) fn write_about<R: Files<File = File> + Clock>(
     let text = page(alloc, owner, now(rt))?;
     let path = path_of(alloc, journal)?;
     let new = format!(in alloc; "{}{NEW}", path.as_str())?;
+    // A name left by an earlier run, or put there by somebody else, is no file of ours: it goes, and isn't followed.
+    let _ = fs::remove_file(rt, new.as_str());
     let mut options = OpenOptions::new();
-    options.write(true).create(true).truncate(true).mode(0o600);
+    options.write(true).create_new(true).mode(0o600);
     let mut file = options.open(rt, new.as_str())?;
     file.write_all(text.as_bytes())?;
     file.sync_all()?;
