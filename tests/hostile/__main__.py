@@ -16,9 +16,10 @@ import ends
 import footprint
 import kept
 import kills
+import messages
 from program import Program
 
-SUITES = (("memory", allocations), ("what is kept", kept), ("input and output", ends), ("kills", kills), ("lines", bad_lines), ("footprint", footprint))
+SUITES = (("memory", allocations), ("what is kept", kept), ("input and output", ends), ("kills", kills), ("lines", bad_lines), ("footprint", footprint), ("messages", messages))
 
 
 def named(word):
@@ -55,7 +56,7 @@ def main():
                 runs_of[suite] = runs_of.get(suite, 0) + runs
                 passed, failed = passed + (not wrong), failed + bool(wrong)
                 for what in wrong[:3]:
-                    print(f"hostile: {name}: {what}", flush=True)
+                    print(f"hostile: {name}: {what[:500]}", flush=True)
     said = ", ".join(f"{suite} {runs}" for suite, runs in runs_of.items())
     print(f"hostile: runs of the program: {said}; {time.time() - begun:.0f} seconds")
     print(f"{passed} passed, {failed} failed")

@@ -21,6 +21,19 @@ SECOND = b"""{"do":"open","tenant":"b","units":["echo"]}
 """
 UNMATCHED = b"the history is not that of the feeds"
 
+# Rows that end with an audit too, and how a run of one may end: audited, without memory for that, or without a word of it.
+AUDITED = ("output-waits-for-sender", "wait-then-notice", "cascade")
+AUDITS = {(b'{"audit":"ok","tenant":"a"}\n', 0), (b'{"audit":"memory","tenant":"a"}\n', 1), (b"", 1)}
+
+
+def long_feed(name, count):
+    """The lines of a feed of so many steps, of a tenant of its own: how far the logger is shows in none of their replies."""
+    post = '{"do":"post","number":%d,"tenant":"%s","text":"a text of more than sixteen bytes","unit":0}\n'
+    return ('{"do":"open","tenant":"%s","units":["echo"]}\n' % name + "".join(post % (number, name) for number in range(count - 1))).encode()
+
+
+LONG = long_feed("a", 100), long_feed("b", 100)
+
 
 def places(steps):
     """The tenants of these lines, each with how many units it has at most."""
@@ -60,9 +73,9 @@ def rest_of(want, logged):
     return want
 
 
-def refuse(program, steps, replies, asked, before, n):
+def refuse(program, steps, replies, asked, before, n, words=("run",), ends=frozenset({(b"", 0)})):
     """How a run of a row comes out whose n-th request is refused: 'memory', 'ended' or 'nothing', or what was wrong."""
-    talk = program.talk(refuse=n)
+    talk = program.talk(*words, refuse=n)
     what = "nothing"
     for at, (step, want) in enumerate(zip(steps, replies)):
         got = talk.ask(step)
@@ -82,25 +95,25 @@ def refuse(program, steps, replies, asked, before, n):
             talk.end()
             return f"line {at + 1}: {got!r} in place of {want!r}"
     rest, status = talk.end()
-    if rest or status not in ((0, 1) if what == "nothing" else (0,)):
+    if (rest, status) not in ends and (what, rest, status) != ("nothing", b"", 1):
         return f"at the end: status {status}, {rest!r}"
     return "ended" if status else what
 
 
-def row(program, name, steps, replies):
+def row(program, name, steps, replies, words=("run",), ends=frozenset({(b"", 0)})):
     """Refuses each request of a row in turn: how many runs that were, and what was wrong."""
     asked = status_lines(steps)
     before = statuses_before(program, steps, asked)
-    count = program.count(joined(steps))
+    count = program.count(joined(steps), *words)
     wrong, seen = [], set()
     for n in range(1, count + 1):
-        what = refuse(program, steps, replies, asked, before, n)
+        what = refuse(program, steps, replies, asked, before, n, words, ends)
         seen.add(what)
         if what not in ("memory", "ended", "nothing"):
             wrong.append(f"request {n}: {what}")
     if "memory" not in seen:
         wrong.append("no step was ever answered memory")
-    if refuse(program, steps, replies, asked, before, 10 * count + 1000) != "nothing":
+    if refuse(program, steps, replies, asked, before, 10 * count + 1000, words, ends) != "nothing":
         wrong.append("a request that is never made was refused")
     return count, wrong
 
@@ -112,16 +125,17 @@ def expected_of_feed(program, lines, missing):
     return replies if missing is None else replies[:missing] + [b'{"no":"memory"}'] + replies[missing:]
 
 
-def feeds(program):
+def feeds(program, contents, name):
     """Refuses each request of a run of two feeds in turn: it ends by its replies, or with status 1 and none of them."""
-    files, contents = [], (FIRST, SECOND)
+    files = []
     for at, content in enumerate(contents):
-        files.append(os.path.join(program.room, f"feed{at}"))
-        open(files[-1], "wb").write(content)
+        files.append(os.path.join(program.room, f"{name}{at}"))
+        with open(files[-1], "wb") as file:
+            file.write(content)
     whole = [expected_of_feed(program, content.splitlines(), None) for content in contents]
     wants = {joined(whole[0] + whole[1])}
     for at in (0, 1):
-        for missing in range(3):
+        for missing in range(len(contents[at].splitlines())):
             other = expected_of_feed(program, contents[at].splitlines(), missing)
             wants.add(joined(other + whole[1] if at == 0 else whole[0] + other))
     count, wrong = program.count(b"", "feeds", *files), []
@@ -130,7 +144,7 @@ def feeds(program):
         is_whole = status == 0 and out in wants
         is_ended = status == 1 and any(want.startswith(out) for want in wants)
         if not (is_whole or is_ended) or UNMATCHED in said:
-            wrong.append(f"request {n}: status {status}, {out!r}, {said!r}")
+            wrong.append(f"request {n}: status {status}, {out[:200]!r}, {said!r}")
     return count + 19, wrong
 
 
@@ -138,4 +152,8 @@ def checks():
     """Each check: its name, and what does it."""
     for name, steps, replies in rows():
         yield f"allocations of {name}", lambda program, row_of=(name, steps, replies): row(program, *row_of)
-    yield "allocations of two feeds", feeds
+    for name, steps, replies in rows():
+        if name in AUDITED:
+            yield f"allocations of {name} with an audit", lambda program, row_of=(name, steps, replies): row(program, *row_of, ("run", "--audit"), AUDITS)
+    yield "allocations of two feeds", lambda program: feeds(program, (FIRST, SECOND), "feed")
+    yield "allocations of two feeds of 100 steps", lambda program: feeds(program, LONG, "long")

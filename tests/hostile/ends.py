@@ -6,11 +6,6 @@ is short, nothing changes.
 
 from program import joined, rows
 
-# Of a long reply text not each byte is tried, but each so many.
-STRIDE = 37
-LONG = 1500
-
-
 def reader(program, name, steps, replies):
     """Fails the input before each line, and at its end."""
     given, wrong, at = joined(steps), [], 0
@@ -26,12 +21,11 @@ def reader(program, name, steps, replies):
 def writer(program, name, steps, replies):
     """Fails the output after each byte."""
     given, want, wrong = joined(steps), joined(replies), []
-    tried = range(0, len(want), STRIDE if len(want) > LONG else 1)
-    for n in tried:
+    for n in range(len(want)):
         out, _, status = program.run(given, write=n, lines=n % 2)
         if (out, status) != (want[:n], 1):
             wrong.append(f"after byte {n}: status {status}, {len(out)} bytes")
-    return len(tried), wrong
+    return len(want), wrong
 
 
 def interrupted(program, name, steps, replies):

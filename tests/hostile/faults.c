@@ -6,6 +6,9 @@
  *   RECALL_WRITE=n    after n bytes a write to its standard output fails with ENOSPC
  *   RECALL_APPEND=n  after n bytes a write to a file that it opened fails with ENOSPC
  *   RECALL_SYNC=n    its n-th sync of a file fails with EIO (from 1)
+ *   RECALL_FETCH=n   its n-th read of a file that it opened fails with EIO (from 1)
+ *   RECALL_CUT=1     no file can be cut: ftruncate fails with EIO
+ *   RECALL_THREADS=1  no thread can be started
  *   RECALL_LINES=1    a read of its standard input gives no more than one line
  *   RECALL_INTERRUPT=1  each second read and write of these is interrupted (EINTR), and a write takes seven bytes at most
  *
@@ -15,6 +18,7 @@
 #include <errno.h>
 #include <fcntl.h>
 #include <limits.h>
+#include <pthread.h>
 #include <stdatomic.h>
 #include <stdio.h>
 #include <stdlib.h>
@@ -30,8 +34,8 @@ extern void *__libc_calloc(size_t, size_t);
 
 static atomic_long own_count;
 static atomic_long *requests = &own_count;
-static long refused, to_read = -1, to_write = -1, to_append = -1, to_sync;
-static int counts, by_line, interrupts;
+static long refused, to_read = -1, to_write = -1, to_append = -1, to_sync, to_fetch;
+static int counts, by_line, interrupts, lacks_threads, keeps_lengths;
 
 static long number(const char *name, long otherwise) {
     const char *text = getenv(name);
@@ -60,9 +64,12 @@ __attribute__((constructor)) static void begin(void) {
     to_write = number("RECALL_WRITE", -1);
     to_append = number("RECALL_APPEND", -1);
     to_sync = number("RECALL_SYNC", 0);
+    to_fetch = number("RECALL_FETCH", 0);
+    keeps_lengths = number("RECALL_CUT", 0);
     by_line = number("RECALL_LINES", 0);
     interrupts = number("RECALL_INTERRUPT", 0);
     refused = number("RECALL_REFUSE", 0);
+    lacks_threads = number("RECALL_THREADS", 0);
     counts = 1;
 }
 
@@ -97,6 +104,10 @@ ssize_t read(int file, void *to, size_t size) {
     static long reads;
     static ssize_t (*real)(int, void *, size_t);
     if (!real) real = (ssize_t (*)(int, void *, size_t))dlsym(RTLD_NEXT, "read");
+    if (file > 2 && counts && to_fetch > 0 && --to_fetch == 0) {
+        errno = EIO;
+        return -1;
+    }
     if (file != 0 || !counts) return real(file, to, size);
     if (is_interrupted(&reads) || allowed(&to_read, &size, EIO)) return -1;
     ssize_t got = 0;
@@ -144,4 +155,22 @@ int fdatasync(int file) {
     static int (*real)(int);
     if (!real) real = (int (*)(int))dlsym(RTLD_NEXT, "fdatasync");
     return is_lost() ? -1 : real(file);
+}
+
+int ftruncate(int file, off_t length) {
+    static int (*real)(int, off_t);
+    if (!real) real = (int (*)(int, off_t))dlsym(RTLD_NEXT, "ftruncate");
+    if (counts && keeps_lengths) {
+        errno = EIO;
+        return -1;
+    }
+    return real(file, length);
+}
+
+int ftruncate64(int file, off_t length) { return ftruncate(file, length); }
+
+int pthread_create(pthread_t *thread, const pthread_attr_t *how, void *(*work)(void *), void *given) {
+    static int (*real)(pthread_t *, const pthread_attr_t *, void *(*)(void *), void *);
+    if (!real) real = (int (*)(pthread_t *, const pthread_attr_t *, void *(*)(void *), void *))dlsym(RTLD_NEXT, "pthread_create");
+    return counts && lacks_threads ? EAGAIN : real(thread, how, work, given);
 }

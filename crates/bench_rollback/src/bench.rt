@@ -5,6 +5,7 @@ use handler::Sample;
 use model::NoMemory;
 use rollback::RecoveryUnit;
 use std::alloc::Global;
+use std::mem;
 
 const FLUSH_EACH: u32 = 100;
 
@@ -13,18 +14,32 @@ const CHECKPOINT_EACH: u32 = 1000;
 /// How far the unit has counted after so many receipts and restarts.
 pub(crate) fn run(alloc: Global, receipts: u32, restarts: u32) -> Result<Option<u64>, NoMemory> {
     let mut unit = RecoveryUnit::begin(alloc, &Sample, seat(), 1)?;
+    let done = take_all(alloc, &mut unit, receipts, restarts);
+    let found = counted(&unit);
+    // The program ends soon, and the proof of what a unit lets go of is long.
+    mem::forget(unit);
+    done?;
+    Ok(found)
+}
+
+/// Takes so many receipts, and then restarts so many times.
+fn take_all(
+    alloc: Global,
+    unit: &mut RecoveryUnit<Sample>,
+    receipts: u32,
+    restarts: u32,
+) -> Result<(), NoMemory> {
     for taken in 0..receipts {
-        let _ = take(alloc, &mut unit)?;
+        let _ = take(alloc, unit)?;
         if taken % FLUSH_EACH == FLUSH_EACH - 1 {
-            flush(&mut unit);
+            flush(unit);
         }
         if taken % CHECKPOINT_EACH == CHECKPOINT_EACH - 1 {
-            shelve(alloc, &mut unit)?;
+            shelve(alloc, unit)?;
         }
     }
-    flush(&mut unit);
-    restart(alloc, &mut unit, restarts)?;
-    Ok(counted(&unit))
+    flush(unit);
+    restart(alloc, unit, restarts)
 }
 
 /// Fails and is restored so many times.

@@ -13,6 +13,7 @@ mod receipts;
 mod script;
 
 use script::{Bench, number, obey, state};
+use std::mem;
 
 fn main(rt: HostRuntime) -> anyhow::Result<()> {
     let words: Vec<String> = std::env::args(&rt)?.collect(rt.alloc())?;
@@ -37,10 +38,16 @@ fn timed(rt: &HostRuntime, receipts: &String, restarts: Option<&String>) -> anyh
 /// Makes the calls of standard input.
 fn scripted(rt: &HostRuntime) -> anyhow::Result<()> {
     let mut bench = Bench::begin(rt.alloc())?;
+    let done = obey_all(rt, &mut bench);
+    mem::forget(bench);
+    done
+}
+
+fn obey_all(rt: &HostRuntime, bench: &mut Bench) -> anyhow::Result<()> {
     for line in rt.lines(rt.alloc()) {
         let line = line?;
-        let said = obey(rt.alloc(), &mut bench, line.as_str())?;
-        let state = state(rt.alloc(), &bench)?;
+        let said = obey(rt.alloc(), bench, line.as_str())?;
+        let state = state(rt.alloc(), bench)?;
         println!(rt; "{line}: {said}")?;
         println!(rt; "  {state}")?;
     }

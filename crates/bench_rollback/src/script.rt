@@ -19,6 +19,7 @@ use incarnation::StartTable;
 use model::{MAX_INCARNATION, NoMemory, Row, Unit};
 use rollback::RecoveryUnit;
 use std::alloc::Global;
+use std::mem;
 
 /// A unit, and the table of its tenant.
 #[derive(Drop)]
@@ -54,7 +55,7 @@ pub(crate) fn obey(alloc: Global, bench: &mut Bench, line: &str) -> anyhow::Resu
 /// Makes a call without numbers.
 fn obey_word(alloc: Global, bench: &mut Bench, call: &str) -> anyhow::Result<String> {
     match call {
-        "begin" => *bench = Bench::begin(alloc)?,
+        "begin" => mem::forget(mem::replace(bench, Bench::begin(alloc)?)),
         "checkpoint" => checkpoint(alloc, &mut bench.unit)?,
         "kill" => return kill(alloc, &mut bench.unit),
         _ => bail!("no such call"),

@@ -1,6 +1,6 @@
 //! Feeds that work at once.
 
-use crate::calls::run;
+use crate::calls::{run, run_through};
 use crate::gates::{AtGate, Idle};
 use crate::meeting::Meeting;
 use crate::steps::feeds;
@@ -28,6 +28,6 @@ pub(crate) fn handlers_meet<R: Threads + Wait + Sync>(
     let meeting = Meeting::new();
     let store = MemoryStore::new(alloc);
     let steps = feeds(alloc, 1, ["0", "1"])?;
-    run(rt, alloc, Together(&meeting), store, steps, &Idle)?;
+    run_through(rt, alloc, Together(&meeting), store, steps, &Idle)?;
     Ok(meeting.have_met())
 }

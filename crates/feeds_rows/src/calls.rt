@@ -6,6 +6,7 @@ use handler::Handler;
 use model::{Entry, Reply, Step};
 use stable_log::Store;
 use std::alloc::Global;
+use std::mem;
 use std::sync::Wait;
 use std::thread::Threads;
 use workers::{Closed, Gate, run_feeds};
@@ -28,6 +29,28 @@ pub(crate) fn run<
     requires feeds { vec_len feeds < 2 ^ 32 }
 {
     Ok(run_feeds(rt, alloc, handler, store, feeds, gate)?)
+}
+
+/// Runs the feeds, and leaves the closed book as it is: the program ends soon, and the proof of what a book lets go of is
+/// long.
+pub(crate) fn run_through<
+    R: Threads + Wait + Sync,
+    H: Handler + Copy + Send + Sync,
+    S: Store + Send,
+    G: Gate + Sync,
+>(
+    rt: &R,
+    alloc: Global,
+    handler: H,
+    store: S,
+    feeds: Vec<Vec<Step>>,
+    gate: &G,
+) -> anyhow::Result<()>
+    requires store { S.log store ≡ [] }
+    requires feeds { vec_len feeds < 2 ^ 32 }
+{
+    mem::forget(run(rt, alloc, handler, store, feeds, gate)?);
+    Ok(())
 }
 
 /// The replies to a feed.

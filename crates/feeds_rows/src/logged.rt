@@ -2,7 +2,7 @@
 
 ghost use Rattle.std.specs.Prelude.{◌<◌, ◌^◌, IfOk, vec_len};
 
-use crate::calls::run;
+use crate::calls::{run, run_through};
 use crate::gates::UntilTold;
 use crate::steps::feed;
 use crate::telling::{Telling, TellingWriter};
@@ -38,7 +38,7 @@ pub(crate) fn logger_flushes_meanwhile<R: Threads + Wait + Sync>(
         told: &appended,
         seen: &seen,
     };
-    run(rt, alloc, Sample, store, two_posts(alloc)?, &gate)?;
+    run_through(rt, alloc, Sample, store, two_posts(alloc)?, &gate)?;
     Ok(seen.load(Ordering::SeqCst))
 }
 

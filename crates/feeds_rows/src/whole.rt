@@ -7,6 +7,7 @@ use handler::Sample;
 use model::{Entry, Mark, Reply, Who};
 use stable_log::MemoryStore;
 use std::alloc::Global;
+use std::mem;
 use std::sync::Wait;
 use std::thread::Threads;
 use workers::Closed;
@@ -55,7 +56,9 @@ pub(crate) fn are_entered_whole<R: Threads + Wait + Sync>(
     let store = MemoryStore::new(alloc);
     let steps = feeds(alloc, POSTS, ["x", "y"])?;
     let closed = run(rt, alloc, Sample, store, steps, &Idle)?;
-    are_whole(&closed)
+    let found = are_whole(&closed);
+    mem::forget(closed);
+    found
 }
 
 /// Whether each of two feeds had all accepted, a third has no replies, and the history has the steps of both.
@@ -85,5 +88,7 @@ pub(crate) fn leave_no_history<R: Threads + Wait + Sync>(
 ) -> anyhow::Result<bool> {
     let store = MemoryStore::new(alloc);
     let closed = run(rt, alloc, Sample, store, Vec::new(alloc), &Idle)?;
-    Ok(history(&closed).is_empty())
+    let is_empty = history(&closed).is_empty();
+    mem::forget(closed);
+    Ok(is_empty)
 }

@@ -6,9 +6,10 @@
 //! | `outside UNIT TEXT`, `letter TO FROM`, `join KIND` | a move |
 //! | `released TEXT..` | the list of one more unit |
 //! | `audit` | the outcome for all since the last one |
+//! | `count` | how many moves its verdict counts |
 //! | `memory` | the line of an audit that found no memory |
 
-use crate::calls::{name_of, outcome_line};
+use crate::calls::{audit_of_lists, name_of, outcome_line};
 use crate::certified::add_audit;
 use anyhow::{Context, bail};
 use model::{Flaw, Kind, Move, Seat, TenantName, Text, Texts, Unit};
@@ -50,13 +51,12 @@ fn take(
     line: &str,
     text: &mut String,
 ) -> anyhow::Result<()> {
-    if line == "memory" {
-        return add_memory(alloc, name, text);
+    match line {
+        "memory" => return add_memory(alloc, name, text),
+        "audit" => outcome(alloc, name, case, text)?,
+        "count" => count(alloc, case, text)?,
+        _ => return add(alloc, case, line),
     }
-    if line != "audit" {
-        return add(alloc, case, line);
-    }
-    outcome(alloc, name, case, text)?;
     *case = Case::new(alloc);
     Ok(())
 }
@@ -64,6 +64,18 @@ fn take(
 fn outcome(alloc: Global, name: &TenantName, case: &Case, text: &mut String) -> anyhow::Result<()> {
     let (seats, moves) = (case.seats.as_slice(), case.moves.as_slice());
     add_audit(alloc, name, seats, moves, case.released.as_slice(), text)
+}
+
+/// Adds how many moves the verdict counts, where it says yes.
+fn count(alloc: Global, case: &Case, text: &mut String) -> anyhow::Result<()> {
+    let (seats, moves) = (case.seats.as_slice(), case.moves.as_slice());
+    match audit_of_lists(alloc, seats, moves, case.released.as_slice()) {
+        Some(Ok(verdict)) => {
+            text.push_str(format!(in alloc; "a verdict of {} moves\n", verdict.moves)?.as_str())?;
+        }
+        _ => text.push_str("no verdict\n")?,
+    }
+    Ok(())
 }
 
 /// Adds the line of an audit that found no memory.

@@ -10,7 +10,7 @@ use lines::{Counted, ServeFault, read_step, serve, write_reply};
 use model::{Entry, Flaw, Kept, Move, Reply, Row, Seat, Step, TenantName, Text, Texts, Unit, Who};
 use stable_log::{MemoryStore, Store};
 use std::alloc::Global;
-use std::io::BufRead;
+use std::io::{BufRead, Write};
 
 pub(crate) type Books = Book<Sample, MemoryStore>;
 
@@ -115,10 +115,10 @@ pub(crate) fn reply_line(alloc: Global, reply: &Reply) -> anyhow::Result<String>
 }
 
 /// Answers each line of the reader.
-pub(crate) fn serve_all<R: BufRead>(
+pub(crate) fn serve_all<R: BufRead, W: Write>(
     alloc: Global,
     reader: &mut Counted<R>,
-    writer: &mut Counted<Vec<u8>>,
+    writer: &mut Counted<W>,
     book: &mut Books,
 ) -> Result<u64, ServeFault> {
     serve(alloc, reader, writer, book)

@@ -13,6 +13,7 @@ use handler::Sample;
 use model::{Refusal, Reply, Step};
 use stable_log::{FuseStore, FuseWriter, Store, WriterStore};
 use std::alloc::Global;
+use std::mem;
 
 type Books = Book<Sample, FuseStore>;
 
@@ -77,10 +78,12 @@ fn told_by<S: Store>(
     lines: &str,
     way: Way,
 ) -> anyhow::Result<String> {
-    match way {
+    let told = match way {
         Way::OneByOne => one_by_one(alloc, &mut book, lines),
         Way::AtOnce => all_at_once(alloc, &mut book, lines),
-    }
+    };
+    mem::forget(book);
+    told
 }
 
 /// What the book tells of the steps of a row, done by one call.
@@ -191,7 +194,9 @@ fn give(
     all: &mut Again,
 ) -> anyhow::Result<()> {
     let mut book = failing_book(alloc, appends, fetches);
-    give_to(alloc, &mut book, lines, all)
+    let given = give_to(alloc, &mut book, lines, all);
+    mem::forget(book);
+    given
 }
 
 fn give_to(alloc: Global, book: &mut Books, lines: &str, all: &mut Again) -> anyhow::Result<()> {

@@ -12,6 +12,8 @@
 //! entries, those of `kept-` how much of a unit's past is kept, and those of `audited-` are audits of
 //! lists from anywhere.
 //!
+//! A book that is done with is not let go of: the program ends soon, and the proof of what a book lets go of is long.
+//!
 //! `once NAME` does the steps of a row of `kept-` once, over a store that never fails, and tells
 //! whether some step found no memory.
 #![tactic(auto)]
@@ -35,7 +37,7 @@ use calls::{new_book, serve_all};
 use certified::certify;
 use failing::{Again, Way, failed, once, steps_of, survives_each};
 use lines::Counted;
-use reading::answers_up_to_each;
+use reading::{answers_up_to_each, writes_up_to_each};
 use std::alloc::Global;
 use std::fs;
 use told::tell;
@@ -188,8 +190,11 @@ fn worked_verdict(alloc: Global, steps: &str, replies: &str) -> anyhow::Result<&
     if !answers_up_to_each(alloc, steps, replies)? {
         return Ok("the replies differ where the input fails");
     }
+    if !writes_up_to_each(alloc, steps, replies) {
+        return Ok("the replies differ where the output fails");
+    }
     Ok(
-        "the replies are as they must be, alone, beside a busy tenant and where any append or fetch, or the input, fails",
+        "the replies are as they must be, alone, beside a busy tenant and where any append or fetch, the input or the output fails",
     )
 }
 

@@ -1,8 +1,10 @@
-//! Rows whose input fails.
+//! Rows whose input or output fails.
 
 use crate::calls::{new_book, serve_all};
 use lines::{Counted, FuseReader, ServeFault};
+use stable_log::FuseWriter;
 use std::alloc::Global;
+use std::mem;
 
 /// Whether input that fails before each line in turn is answered up to there, and told to have failed.
 pub(crate) fn answers_up_to_each(
@@ -29,5 +31,27 @@ fn answers_up_to(alloc: Global, steps: &str, number: u64, replies: &str) -> anyh
     let mut writer = Counted::new(Vec::new(alloc));
     let mut book = new_book(alloc);
     let ended = serve_all(alloc, &mut reader, &mut writer, &mut book);
+    mem::forget(book);
     Ok(matches!(ended, Err(ServeFault::Read)) && writer.inner.as_slice() == replies.as_bytes())
+}
+
+/// Whether output that takes each number of bytes in turn has just those, and is told to have failed.
+pub(crate) fn writes_up_to_each(alloc: Global, steps: &str, replies: &str) -> bool {
+    let replies = replies.as_bytes();
+    for room in 0..replies.len() {
+        if !writes_up_to(alloc, steps, &replies[..room]) {
+            return false;
+        }
+    }
+    true
+}
+
+/// Whether output that has room for just these bytes has them.
+fn writes_up_to(alloc: Global, steps: &str, replies: &[u8]) -> bool {
+    let mut reader = Counted::new(steps.as_bytes());
+    let mut writer = Counted::new(FuseWriter::new(alloc, replies.len()));
+    let mut book = new_book(alloc);
+    let ended = serve_all(alloc, &mut reader, &mut writer, &mut book);
+    mem::forget(book);
+    matches!(ended, Err(ServeFault::Write)) && writer.inner.bytes() == replies
 }

@@ -10,6 +10,7 @@ use crate::calls::{self, Books, name_of, new_book, outcome_line, step_of};
 use anyhow::Context;
 use model::{Entry, MAX_UNITS, Step, TenantName, Who};
 use std::alloc::Global;
+use std::mem;
 
 /// Adds what a new book tells after these lines.
 pub(crate) fn tell(alloc: Global, lines: &str, text: &mut String) -> anyhow::Result<()> {
@@ -19,7 +20,9 @@ pub(crate) fn tell(alloc: Global, lines: &str, text: &mut String) -> anyhow::Res
 
 fn add_book_after(alloc: Global, lines: &str, text: &mut String) -> anyhow::Result<()> {
     let book = book_after(alloc, lines)?;
-    add_book(alloc, &book, text)
+    let added = add_book(alloc, &book, text);
+    mem::forget(book);
+    added
 }
 
 /// Adds what the book tells of its tenants, of one that is not there, and of its entries.
@@ -155,7 +158,9 @@ fn add_run(alloc: Global, lines: &str, text: &mut String) -> anyhow::Result<()> 
 
 fn run_in_new_book(alloc: Global, steps: &[Step], text: &mut String) -> anyhow::Result<()> {
     let mut book = new_book(alloc);
-    add_replies(alloc, &mut book, steps, text)
+    let added = add_replies(alloc, &mut book, steps, text);
+    mem::forget(book);
+    added
 }
 
 fn add_replies(

@@ -1,0 +1,202 @@
+"""Each text that the program writes to standard error, seen in a run.
+
+The texts are read off the sources. Each must be seen in one of the runs here, but for those that are named with the reason
+why no run shows them.
+"""
+
+import glob
+import os
+import re
+import subprocess
+import tempfile
+
+from program import HERE, SECONDS
+
+CRATES = os.path.join(HERE, "..", "..", "crates")
+TEXT = re.compile(r'(?:error|warn|info)!\((?:[\w&.]+); "((?:[^"\\]|\\.)*)"')
+
+# Texts that no run here shows: of what can't come to be, or is shown elsewhere.
+UNSEEN = {
+    "a tenant has no name: it is not audited": "each open tenant has one",
+    "the history is not that of the feeds: no reply is written": "threads that keep to the code never come to it",
+    "a standard stream is closed, and nothing can stand in its place: {error}": "the null device is there",
+    "can't lock the journal {path:?}: {error}": "the system's locks don't fail",
+    "the journal {path:?} was replaced while it was opened": "it takes a moment that can't be met",
+    "waiting for step lines from the terminal, up to Ctrl-D: `{name} run --help` lists them": "tests/words has a terminal",
+    "there are too many feeds: name at most {MAX_FEEDS} files": "the words take no more",
+}
+
+OPEN = b'{"do":"open","tenant":"a","units":["echo"]}\n'
+POST = b'{"do":"post","number":0,"tenant":"a","text":"a text of more than sixteen bytes","unit":0}\n'
+FLUSH = b'{"do":"flush","tenant":"a","unit":0}\n'
+LINES = OPEN + POST + FLUSH + b'{"do":"release","tenant":"a","unit":0}\n'
+
+
+def texts():
+    """The format texts of all messages."""
+    found = set()
+    for path in glob.glob(f"{CRATES}/*/src/*.rt"):
+        with open(path, encoding="utf-8") as file:
+            found.update(TEXT.findall(file.read()))
+    return found
+
+
+def matcher(text):
+    """What a message of this text reads like."""
+    return re.compile("".join(".*" if part.startswith("{") else re.escape(part) for part in re.split(r"(\{[^{}]*\})", text.replace('\\"', '"'))), re.S)
+
+
+class Runs:
+    """Runs in a folder of their own, and all that they said."""
+
+    def __init__(self, program, room):
+        self.program, self.room, self.said, self.count = program, room, [], 0
+
+    def file(self, name, data=b"", mode=0o600):
+        path = os.path.join(self.room, name)
+        with open(path, "wb") as file:
+            file.write(data)
+        os.chmod(path, mode)
+        return path
+
+    def run(self, given, *words, out=subprocess.PIPE, **faults):
+        own = self.file("given", given)
+        with open(own, "rb") as stream:
+            ran = subprocess.run([self.program.path, *words], stdin=stream, stdout=out, stderr=subprocess.PIPE, timeout=SECONDS, cwd=self.room, env=self.program.environment(**faults))
+        self.count += 1
+        self.said += ran.stderr.decode(errors="replace").splitlines()
+        return ran.returncode
+
+    def refused(self, given, *words, fresh=()):
+        """The same run with each request for memory refused in turn, up to the first that isn't made."""
+        requests = self.counted(given, *words)
+        for n in range(1, requests + 1):
+            for name in fresh:
+                for each in (name, name + ".about"):
+                    if os.path.exists(os.path.join(self.room, each)):
+                        os.remove(os.path.join(self.room, each))
+            self.run(given, *words, refuse=n)
+
+    def counted(self, given, *words):
+        """How many requests for memory such a run makes."""
+        path = self.file("count", bytes(8))
+        self.run(given, *words, count=path)
+        with open(path, "rb") as file:
+            return int.from_bytes(file.read(8), "little")
+
+
+def files(runs):
+    """Files that can't be opened, made, read or trusted."""
+    room = runs.room
+    runs.run(b"", "run", "--journal", "none/journal")
+    runs.run(b"", "run", "--log", "none/log")
+    runs.run(b"", "draw", "--to", "none/picture")
+    runs.run(b"", "journal", "none")
+    runs.run(b"", "feeds", "none")
+    os.mkdir(os.path.join(room, "folder"))
+    os.mkfifo(os.path.join(room, "pipe"))
+    runs.run(OPEN, "run", "--journal", "folder")
+    runs.run(OPEN, "run", "--log", "folder")
+    runs.run(b"", "feeds", "folder")
+    runs.file("notes", b"milk\n")
+    runs.run(OPEN, "run", "--journal", "notes")
+    runs.run(LINES, "run", "--journal", "journal")
+    runs.run(POST, "run", "--journal", "journal")
+    runs.run(b"", "run", "--journal", "journal", "--from", "99")
+    runs.file("journal.about", b'{"handler":"other"}')
+    runs.run(b"", "run", "--journal", "journal")
+    runs.file("journal.about", b"{")
+    runs.run(b"", "run", "--journal", "journal")
+    os.mkdir(os.path.join(room, "new.about"))
+    runs.run(LINES, "run", "--journal", "new")
+    runs.file("large", b"")
+    os.truncate(os.path.join(room, "large"), 300 << 20)
+    runs.run(b"", "feeds", "large")
+    runs.run(b"", "feeds", *["given"] * 65)
+    reader = subprocess.Popen(["cat", os.path.join(room, "pipe")], stdout=subprocess.DEVNULL)
+    runs.run(LINES, "run", "--log", "pipe")
+    reader.wait(SECONDS)
+
+
+def journals(runs):
+    """A journal that fails, that another has, or that somebody changes."""
+    for words in ({"append": 0}, {"append": 60}, {"sync": 1}, {"sync": 2}, {"sync": 3}, {"sync": 4}, {"sync": 5}):
+        for lines in (0, 1):
+            runs.run(LINES, "run", "--journal", f"fails-{len(runs.said)}-{lines}", lines=lines, **words)
+    runs.run(LINES, "run", "--journal", "whole")
+    with open(os.path.join(runs.room, "whole"), "ab") as file:
+        file.write(b"{")
+    runs.run(POST, "run", "--journal", "whole")
+    runs.run(LINES, "run", "--journal", "read", read=len(OPEN), lines=1)
+    runs.run(LINES, "run", "--journal", "written", write=5)
+    for room in range(100, 260, 15):
+        runs.run(LINES, "run", "--journal", f"stays-{room}", append=room, cut=1, lines=1)
+    for n in range(1, 8):
+        runs.run(POST, "run", "--journal", "whole", fetch=n)
+    for change in ("remove", "grow"):
+        held(runs, change)
+
+
+def held(runs, change):
+    """A run whose journal is asked for by another, and then changed."""
+    path, pipe = os.path.join(runs.room, change), subprocess.PIPE
+    talk = subprocess.Popen([runs.program.path, "run", "--journal", change], stdin=pipe, stdout=pipe, stderr=pipe, cwd=runs.room, bufsize=0)
+    talk.stdin.write(OPEN)
+    talk.stdout.readline()
+    runs.run(b"", "run", "--journal", change)
+    if change == "remove":
+        os.remove(path)
+    else:
+        with open(path, "ab") as file:
+            file.write(b"{}\n")
+    _, said = talk.communicate(POST, SECONDS)
+    runs.said += said.decode().splitlines()
+
+
+def streams(runs):
+    """Input and output that fail."""
+    for words in (["run"], ["draw"], ["feeds", "given"], ["run", "--audit"]):
+        runs.run(LINES, *words, read=10)
+        runs.run(LINES, *words, write=0)
+    tenants = b"".join(b'{"do":"open","tenant":"t%d","units":["echo"]}\n' % each for each in range(3000))
+    runs.run(tenants, "run", "--audit", write=100_000)
+    runs.run(tenants, "run", "--audit", write=150_000)
+    runs.run(b"", "journal", "whole", write=0)
+    runs.run(LINES, "run", "--log", "/dev/full")
+    runs.run(LINES, "run", "--strict")
+    runs.run(LINES + LINES, "run", "--strict", "--explain")
+    runs.run(LINES, "run", "--verbose")
+    runs.run(LINES, "run", "--journal", "told", "--verbose")
+    runs.run(LINES, "feeds", "-v", "given")
+    runs.run(LINES, "draw", "--tenant", "nobody")
+    runs.run(LINES, b"run", b"\xff")
+    runs.run(LINES, "feeds", "given", threads=1)
+
+
+def memory(runs):
+    """Each request for memory refused in turn."""
+    runs.refused(LINES, "run")
+    runs.refused(LINES, "run", "--audit", "--verbose")
+    runs.refused(LINES, "draw")
+    runs.refused(LINES, "feeds", "--audit", "-v", "given")
+    runs.refused(LINES, "run", "--journal", "small", fresh=("small",))
+    runs.refused(b"", "journal", "whole")
+
+
+def each_text(program):
+    """Whether each text was seen."""
+    with tempfile.TemporaryDirectory(dir=program.room) as room:
+        runs = Runs(program, room)
+        for scene in (files, journals, streams, memory):
+            scene(runs)
+    wanted = texts()
+    wrong = [f"{text!r} is no text of the sources" for text in UNSEEN if text not in wanted]
+    for text in sorted(wanted):
+        is_seen = any(map(matcher(text).search, runs.said))
+        if is_seen == (text in UNSEEN):
+            wrong.append(f"{'a run' if is_seen else 'no run'} said {text!r}")
+    return runs.count, wrong
+
+
+def checks():
+    yield "each text on standard error", each_text
