@@ -7,3 +7,4 @@ pub mod Keeping
 pub mod Devices
 pub mod Wanting
 pub mod Parted
+pub mod Standing

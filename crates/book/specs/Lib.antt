@@ -3,3 +3,4 @@ pub mod History
 pub mod Certificates
 pub mod Commits
 pub mod Keeping
+pub mod Standing

@@ -8,38 +8,36 @@ ghost use Rattle.book.specs.Certificates.{CertifiesAt, IsHeadline, certificate_a
 ghost use Rattle.book.specs.Commits.{Commits, needed};
 ghost use Rattle.book.specs.Entries.{CountsDevice, IsEntered};
 ghost use Rattle.book.specs.Keeping.{kept_after};
+ghost use Rattle.book.specs.Standing.{IsHostOf};
 ghost use Rattle.book.specs.History.{IsIsolated, IsRecordedIn, IsSaidHonestly, Ran, entries_of, opened, released_at, table_at, world_of};
 
-use crate::answer::{Tenants, answer, answer_with, ask, memory_reply};
+use crate::answer::memory_reply;
 use crate::committed::Committed;
+use crate::host::Host;
 use handler::{Ask, Done, Handler};
-use indexmap::IndexMap;
 use model::{Entry, Kept, Move, NoMemory, Reply, Row, Seat, Step, TenantName, Text, Unit, Who};
-use shared_log::{SharedLog, Store};
+use shared_log::Store;
 use std::alloc::Global;
 use std::marker::Model;
 use tenant::Answer;
 
-/// All tenants, the log of all of them, and the history of their steps. Contracts see a book as its
+/// A host of all tenants with the log of all of them, and the history of their steps. Contracts see a book as its
 /// history and its log. It is always the replay of its history.
 #[derive(Drop)]
 pub struct Book<H: Handler, S: Store> {
-    alloc: Global,
-    handler: H,
-    log: SharedLog<S>,
-    tenants: Tenants<H>,
+    host: Host<H, S>,
     history: Vec<Entry>,
 }
 
 impl<H: Handler, S: Store> Model for Book<H, S> {
     ghost use Rattle.book.specs.Entries.{Ledger};
-    ghost use Rattle.book.specs.History.{IsReplay, holding};
+    ghost use Rattle.book.specs.Standing.{HostReplays};
 
     ghost Value = { Ledger };
 
-    ghost view = { λ b. record { history = b.history.items; log = b.log } };
+    ghost view = { λ b. record { history = b.history.items; log = b.host.log } };
 
-    ghost invariant = { λ b. IsReplay H.meaning (holding b.tenants b.log) b.history.items };
+    ghost invariant = { λ b. HostReplays H.meaning b.host b.history.items };
 }
 
 impl<H: Handler, S: Store> Book<H, S> {
@@ -52,12 +50,16 @@ impl<H: Handler, S: Store> Book<H, S> {
         ensures failures { result.log.failures ≡ S.failures store }
     {
         Book {
-            alloc,
-            handler,
-            log: SharedLog::new(alloc, store),
-            tenants: IndexMap::new(alloc),
+            host: Host::new(alloc, handler, store),
             history: Vec::new(alloc),
         }
+    }
+
+    /// The host that the book is, without its history.
+    pub fn host(&self) -> &Host<H, S>
+        ensures { IsHostOf H.meaning result.now self.now }
+    {
+        &self.host
     }
 
     /// The entries, in order. To each tenant the replies are those that it gets alone, and the
@@ -84,13 +86,7 @@ impl<H: Handler, S: Store> Book<H, S> {
         if reserve_place(&mut self.history).is_err() {
             return memory_reply(&step);
         }
-        let done = answer(
-            self.alloc,
-            &self.handler,
-            &mut self.tenants,
-            &mut self.log,
-            &step,
-        );
+        let done = self.host.answer(&step);
         match done {
             Err(_) => memory_reply(&step),
             Ok(answer) => enter(&mut self.history, who, step, answer),
@@ -103,7 +99,7 @@ impl<H: Handler, S: Store> Book<H, S> {
     pub fn prepare(&self, step: &Step) -> Result<Option<Ask<H>>, NoMemory>
         ensures { IfOk result (λ a. a ≡ needed H.meaning self.now.history step.now) }
     {
-        ask(self.alloc, &self.handler, &self.tenants, step)
+        self.host.prepare(step)
     }
 
     /// Does a step that this one gave by a turn that was worked, and enters it with its reply, as
@@ -119,14 +115,7 @@ impl<H: Handler, S: Store> Book<H, S> {
         if reserve_place(&mut self.history).is_err() {
             return Committed::Reply(memory_reply(&step));
         }
-        let done = answer_with(
-            self.alloc,
-            &self.handler,
-            &mut self.tenants,
-            &mut self.log,
-            &step,
-            worked,
-        );
+        let done = self.host.answer_with(&step, worked);
         match done {
             Err(_) => Committed::Reply(memory_reply(&step)),
             Ok(None) => Committed::Stale(step),
@@ -161,7 +150,7 @@ impl<H: Handler, S: Store> Book<H, S> {
         ensures ran { IfOk result (λ replies. Ran self.old steps.now replies.items self.new) }
         ensures err { OnErr result (self.new ≡ self.old) }
     {
-        let alloc = self.alloc;
+        let alloc = self.host.alloc();
         let Ok(mut replies) = Vec::with_capacity(alloc, steps.len()) else {
             return Err(NoMemory);
         };
@@ -176,7 +165,7 @@ impl<H: Handler, S: Store> Book<H, S> {
     pub fn tenants(&self) -> Result<Vec<TenantName>, NoMemory>
         ensures { IfOk result (λ names. names.items ≡ opened self.now.history) }
     {
-        names_of(self.alloc, self.tenants.keys().as_slice())
+        self.host.tenants()
     }
 
     /// The replies to a tenant so far, in order: none where no step named it. They are those that
@@ -186,7 +175,7 @@ impl<H: Handler, S: Store> Book<H, S> {
         ensures alone { IfOk result (λ replies.
             replies.items ≡ (alone H.meaning (own tenant.now (pairs self.now.history))).replies) }
     {
-        replies_in(self.alloc, self.history(), tenant)
+        replies_in(self.host.alloc(), self.history(), tenant)
     }
 
     /// The outputs that a unit of the tenant has released so far, if the tenant is open and has the
@@ -195,7 +184,7 @@ impl<H: Handler, S: Store> Book<H, S> {
         ensures { MatchOption result (released_at (world_of H.meaning tenant.now self.now.history) unit
             ≡ None) (λ texts. released_at (world_of H.meaning tenant.now self.now.history) unit ≡ Some texts.now) }
     {
-        match self.tenants.get(tenant) {
+        match self.host.tenant(tenant) {
             Some(open) => open.released(unit),
             None => None,
         }
@@ -207,7 +196,7 @@ impl<H: Handler, S: Store> Book<H, S> {
         ensures { MatchOption result (table_at (world_of H.meaning tenant.now self.now.history) ≡ None) (λ rows.
             table_at (world_of H.meaning tenant.now self.now.history) ≡ Some rows.now) }
     {
-        match self.tenants.get(tenant) {
+        match self.host.tenant(tenant) {
             Some(open) => Some(open.rollbacks()),
             None => None,
         }
@@ -218,10 +207,7 @@ impl<H: Handler, S: Store> Book<H, S> {
     pub fn kept(&self, tenant: &TenantName, unit: Unit) -> Option<Kept>
         ensures { result ≡ kept_after H.meaning tenant.now self.now.history unit }
     {
-        match self.tenants.get(tenant) {
-            Some(open) => open.kept(unit),
-            None => None,
-        }
+        self.host.kept(tenant, unit)
     }
 }
 
@@ -230,9 +216,9 @@ impl<H: Handler, S: Store> Book<H, S> {
     pub fn seats(&self, tenant: &TenantName) -> Result<Vec<Seat>, NoMemory>
         ensures { IfOk result (λ seats. seats.items ≡ seats_at (world_of H.meaning tenant.now self.now.history)) }
     {
-        match self.tenants.get(tenant) {
-            Some(open) => open.opening_seats(self.alloc),
-            None => Ok(Vec::new(self.alloc)),
+        match self.host.tenant(tenant) {
+            Some(open) => open.opening_seats(self.host.alloc()),
+            None => Ok(Vec::new(self.host.alloc())),
         }
     }
 
@@ -243,9 +229,10 @@ impl<H: Handler, S: Store> Book<H, S> {
         requires legal { IsLegal H.meaning self.now.history → IsLegal H.meaning history.now }
         ensures { IfOk result (λ moves. moves.items ≡ certificate_at (world_of H.meaning tenant.now self.now.history)) }
     {
-        match self.tenants.get(tenant) {
-            Some(open) => open.certificate(self.alloc, &self.handler, history, tenant),
-            None => Ok(Vec::new(self.alloc)),
+        let alloc = self.host.alloc();
+        match self.host.tenant(tenant) {
+            Some(open) => open.certificate(alloc, self.host.handler(), history, tenant),
+            None => Ok(Vec::new(alloc)),
         }
     }
 
@@ -309,17 +296,6 @@ fn enter(history: &mut Vec<Entry>, who: Who, step: Step, answer: Answer) -> Repl
         reply: kept,
     });
     reply
-}
-
-/// Equal names.
-fn names_of(alloc: Global, names: &[TenantName]) -> Result<Vec<TenantName>, NoMemory>
-    ensures { IfOk result (λ copies. copies.items ≡ names.now) }
-{
-    let mut copies = Vec::new(alloc);
-    for name in names {
-        copies.push(name.copy())?;
-    }
-    Ok(copies)
 }
 
 /// The replies to a tenant in a history.

@@ -3,7 +3,7 @@
 ghost use Rattle.std.specs.Prelude.{refl};
 
 use crate::place::Place;
-use journal::Durable;
+use durable::Durable;
 use std::fs::{File, Files};
 use std::io::{ErrorKind, Seek, SeekFrom, Write};
 use std::{fs, io};

@@ -9,7 +9,7 @@
 //! - `Fitness` (`fitness`): why a file must not be written to.
 //!
 //! No clause says what a file holds: these are read, and tested against faults that are planted (`tests/journal`,
-//! `tests/power`). What a reader that journals promises of a file that keeps its word is proved in `journal`.
+//! `tests/power`). What a reader that journals promises of a file that keeps its word is proved in `durable`.
 #![tactic(auto)]
 
 mod about;

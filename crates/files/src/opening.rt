@@ -4,8 +4,8 @@ use crate::about::{About, Owner, write_about};
 use crate::fitness::{Unfit, why_unfit};
 use crate::lasting::LastingFile;
 use crate::place::Place;
-use crate::tail::{BLOCK, make_last, trusted_length};
-use journal::{Extent, measure};
+use crate::tail::{make_last, trusted_length};
+use durable::{Extent, measure};
 use log::{Log, error, warn};
 use std::alloc::Global;
 use std::fs::{File, Files, Metadata, OpenOptions, TryLockError};
@@ -14,7 +14,7 @@ use std::os::unix::fs::OpenOptionsExt;
 use std::path::Path;
 use std::time::Clock;
 use std::{fs, io};
-use terminal::Plural;
+use terminal::{BLOCK, Plural};
 
 /// A journal that this run has for itself, whose bytes are whole lines, synced. The next read of the file gives its first
 /// byte.

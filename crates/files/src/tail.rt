@@ -4,9 +4,7 @@ use std::alloc::Global;
 use std::fs::File;
 use std::io;
 use std::os::unix::fs::FileExt;
-
-/// The bytes that are appended and synced at once, at most.
-pub(crate) const BLOCK: usize = 65536;
+use terminal::BLOCK;
 
 /// Where the last block begins, of a file of so many bytes.
 fn begin_of(length: u64) -> u64 {

@@ -1,15 +1,15 @@
 //! What a journal has, told at any time.
 
 use crate::about::About;
-use crate::tail::{BLOCK, trusted_length};
-use journal::{Extent, measure};
+use crate::tail::trusted_length;
+use durable::{Extent, measure};
 use serde_json::{Value, json};
 use std::alloc::{AllocError, Global};
 use std::fmt::{Display, Formatter};
 use std::fs::{File, Files};
 use std::io::{BufReader, Read};
 use std::{fmt, io};
-use terminal::Plural;
+use terminal::{BLOCK, Plural};
 
 /// What a journal has.
 #[derive(Debug, Drop)]

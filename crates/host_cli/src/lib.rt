@@ -1,11 +1,9 @@
 //! The whole command line of a program that hosts a handler: a `main` of a few lines over it is one.
 //!
 //! - `run_program` (`program_run`): reads the words and does what they ask for;
-//! - `feeds`: `feeds`, thin over `workers::run_feeds`, which carries its own theorem;
-//! - `draw`: `draw`, thin over `diagram::draw`; `journals`: `journal`, thin over `files`;
-//! - `budget`: how many bytes feeds may have.
+//! - `journals`: `journal`, thin over `files`.
 //!
-//! `run` itself stands in `runs`.
+//! `run`, `feeds` and `draw` stand in `runs`, `feed_runs` and `drawings`.
 //!
 //! For whoever has a handler and wants a program. A caller:
 //!
@@ -20,9 +18,6 @@
 //! ```
 #![tactic(auto)]
 
-mod budget;
-mod draw;
-mod feeds;
 mod journals;
 mod program_run;
 

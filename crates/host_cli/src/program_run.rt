@@ -1,22 +1,22 @@
 //! What the words ask for, done.
 
-use crate::draw::diagram_of;
-use crate::feeds::feeds_on;
 use crate::journals::journal_as_asked;
-use files::{LogFile, Owner, Unfit, fill_descriptors, make_log, open_journal, why_unfit};
+use drawings::draw_on;
+use feed_runs::feeds_on;
+use files::{LogFile, Owner, fill_descriptors, make_log, open_journal};
 use handler::Handler;
 use log::{LevelFilter, Log, Logged, error, warn};
-use runs::{Host, run_journaled, run_on};
+use runs::{Hosted, run_journaled, run_on};
 use shared_log::MemoryStore;
 use stable_log::WriterStore;
 use std::env::Env;
-use std::fs::{File, Files, OpenOptions};
-use std::io::{self, ErrorKind, Input, Write};
+use std::fs::{File, Files};
+use std::io::{self, ErrorKind, Input};
 use std::sync::Wait;
 use std::thread::Threads;
 use std::time::Clock;
 use terminal::{Bar, Complaints, Patient, Watched, input_size};
-use words::{Asked, DrawWords, FeedsWords, Pages, Program, RunWords, Talk, read_words};
+use words::{Asked, FeedsWords, Pages, Program, RunWords, Talk, read_words};
 
 /// Which standard streams are terminals.
 #[derive(Clone, Copy, Debug)]
@@ -62,7 +62,7 @@ pub fn run_program<
     match read_words(rt, &pages, words.as_slice()) {
         Asked::Run(run) => run_as_asked(rt, handler, program, terminals, &run),
         Asked::Feeds(feeds) => feeds_as_asked(rt, handler, program, terminals, &feeds),
-        Asked::Draw(draw) => draw_as_asked(rt, &told, handler, &draw),
+        Asked::Draw(draw) => draw_on(rt, &told, handler, &draw),
         Asked::Journal(journal) => journal_as_asked(rt, &told, rt.alloc(), &journal),
         Asked::Ended(status) => status,
     }
@@ -113,7 +113,7 @@ fn run_as_asked<
         let name = program.name;
         warn!(&told; "waiting for step lines from the terminal, up to Ctrl-D: `{name} run --help` lists them");
     }
-    let host = Host {
+    let host = Hosted {
         handler,
         kinds: program.kinds,
     };
@@ -130,7 +130,7 @@ fn run_watched<
 >(
     rt: &R,
     told: &L,
-    host: Host<'_, H>,
+    host: Hosted<'_, H>,
     program: &Program<'_>,
     run: &RunWords<'_>,
     bar: &Bar<'_, R>,
@@ -179,52 +179,4 @@ fn feeds_as_asked<
     };
     let told = Logged::new(rt, feeds.talk.level(), complaints);
     feeds_on(rt, &told, handler, feeds, shows_bar(terminals, feeds.talk))
-}
-
-/// `draw`: draws to the file that is named, or to standard output.
-fn draw_as_asked<
-    R: Files<File = File> + Clock + Print + Input + AllocGlobal,
-    L: Log,
-    H: Handler + Copy,
->(rt: &R, told: &L, handler: H, draw: &DrawWords<'_>) -> u8 {
-    let input = Patient::new(rt, rt.reader());
-    let found = diagram_of(told, rt.alloc(), handler, input, draw.tenant, draw.window);
-    let Some(diagram) = found else {
-        return 1;
-    };
-    let Some(path) = draw.to else {
-        let mut output = Patient::new(rt, io::writer(rt));
-        return put_diagram(told, &mut output, diagram.as_str());
-    };
-    match make_picture(rt, path) {
-        Ok(mut file) => put_diagram(told, &mut file, diagram.as_str()),
-        Err(error) => {
-            error!(told; "can't make {path:?}: {error}");
-            1
-        }
-    }
-}
-
-/// Makes the picture's file anew, which must not be the input.
-fn make_picture<R: Files<File = File>>(rt: &R, path: &str) -> io::Result<File> {
-    let mut options = OpenOptions::new();
-    options.write(true).create(true);
-    let file = options.open(rt, path)?;
-    let found = file.metadata()?;
-    if why_unfit(rt, &found) == Some(Unfit::Input) {
-        return Err(io::Error::new(ErrorKind::InvalidInput, "it is the input of this run"));
-    }
-    if found.is_file() {
-        file.set_len(0)?;
-    }
-    Ok(file)
-}
-
-/// Writes a diagram, and tells the status to end with.
-fn put_diagram<L: Log, W: Write>(told: &L, writer: &mut W, diagram: &str) -> u8 {
-    if writer.write_all(diagram.as_bytes()).is_err() || writer.flush().is_err() {
-        error!(told; "the diagram can't be written");
-        return 1;
-    }
-    0
 }

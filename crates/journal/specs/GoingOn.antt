@@ -8,7 +8,8 @@ use Rattle.model.specs.declared.replies.Reply.{Reply}
 use Rattle.model.specs.declared.replies.Reply.TheVariants.{Stopped, Refused}
 use Rattle.book.specs.Entries.{Ledger}
 use Rattle.book.specs.History.{IsRecordedIn}
-use Rattle.lines.specs.Serving.{Serves}
+use Rattle.book.specs.Standing.{HostReplays, HostState, IsHostOf}
+use Rattle.lines.specs.Serving.{HostServes, Serves}
 
 -- the refusal follows from the steps, and tells of no memory that was missing and of no device that failed
 abbrev pub IsOfSteps : Refusal → Type 0
@@ -50,4 +51,39 @@ GoesOn M =
     → (start.history ≡ []) → Serves first start seen mid → Serves second mid missed new
     → IsBook M new → All IsPromise (seen ++ missed)
     → IsRun M (first ++ second) all new'
+    → (missed ≡ drop (length first) all) × (seen ≡ take (length first) all)
+
+-- ---- the same of hosts, which store no history
+
+-- A run of a new host, as a whole: there is a book that began with an empty history and was served the lines with these replies; it is what each book shows of itself, and the host stands for it.
+pub record RunsAs {S : Type 0} (M : Meaning S) (lines : List (List ℕ)) (replies : List Reply)
+    (host : HostState S) (new : Ledger) : Type 0 where
+  pub start : Ledger
+  pub empty : start.history ≡ []
+  pub served : Serves lines start replies new
+  pub book : IsBook M new
+  pub stands : IsHostOf M host new
+
+-- each new host that was served lines runs as some book
+abbrev pub HostRuns : {S : Type 0} → Meaning S → Type 0
+HostRuns {S} M =
+    (lines : List (List ℕ)) (replies : List Reply) (old new : HostState S)
+    → HostReplays M old [] → HostServes M lines old replies new
+    → (book : Ledger) × RunsAs M lines replies new book
+
+-- two new hosts that were served the same lines give the same promises
+abbrev pub HostsRepeat : {S : Type 0} → Meaning S → Type 0
+HostsRepeat {S} M =
+    (lines : List (List ℕ)) (one other : List Reply) (old new old' new' : HostState S)
+    → HostReplays M old [] → HostServes M lines old one new → All IsPromise one
+    → HostReplays M old' [] → HostServes M lines old' other new' → All IsPromise other
+    → one ≡ other
+
+-- lines are cut in two, for a new host that is served the first and then the second, and a new host that is served the whole
+abbrev pub HostsGoOn : {S : Type 0} → Meaning S → Type 0
+HostsGoOn {S} M =
+    (first second : List (List ℕ)) (start mid new start' new' : HostState S) (seen missed all : List Reply)
+    → HostReplays M start [] → HostServes M first start seen mid → HostServes M second mid missed new
+    → All IsPromise (seen ++ missed)
+    → HostReplays M start' [] → HostServes M (first ++ second) start' all new' → All IsPromise all
     → (missed ≡ drop (length first) all) × (seen ≡ take (length first) all)

@@ -1,4 +1,2 @@
-pub mod Standing
-pub mod Measuring
 pub mod Promises
 pub mod GoingOn

@@ -1,6 +1,6 @@
 //! What a run that steps the lines of an earlier one answers.
 
-ghost use Rattle.journal.specs.GoingOn.{GoesOn, Repeats};
+ghost use Rattle.journal.specs.GoingOn.{GoesOn, HostRuns, HostsGoOn, HostsRepeat, Repeats};
 ghost use Rattle.journal.specs.Promises.{MemoryIsTold};
 
 use handler::Handler;
@@ -17,6 +17,23 @@ pub fn repeats<H: Handler>()
 /// twice or lost, and no output leaves twice for whoever counts replies.
 pub fn goes_on<H: Handler>()
     ensures { GoesOn H.meaning }
+{}
+
+/// A run, as a whole. Of each new host that was served lines there is a book that began with an empty history, was served
+/// them with these replies, and for which the host stands then: its history is legal, and what the store said in it is
+/// honest. So what is said of books holds of the replies of hosts, which store no history.
+pub fn host_runs<H: Handler>()
+    ensures { HostRuns H.meaning }
+{}
+
+/// `repeats`, of two new hosts.
+pub fn hosts_repeat<H: Handler>()
+    ensures { HostsRepeat H.meaning }
+{}
+
+/// `goes_on`, of hosts.
+pub fn hosts_go_on<H: Handler>()
+    ensures { HostsGoOn H.meaning }
 {}
 
 /// Each reply that tells of missing memory has a line that `Promised` refuses.

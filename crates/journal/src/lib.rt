@@ -1,25 +1,16 @@
-//! What a run needs to survive the crash of its own process: a list of its lines that lasts.
+//! What a run that goes on from the lines of an earlier one needs beside a list of them that lasts, which `durable` has.
 //!
-//! - `Durable`: a file to which bytes are appended, and that is synced.
-//! - `Journaled`: a reader that gives only bytes that stand, synced, in such a file.
-//! - `measure`: the whole lines of such a file, and what a crash left of one more.
 //! - `Promised`: a writer of replies that lets none through that a later run may not keep, as
 //!   `memory_is_told` says.
+//! - `host_runs`: the law of a run as a whole, by a host.
 //! - `repeats` and `goes_on`: the laws that a run on the lines of an earlier one gives its replies, and
-//!   goes on from them.
+//!   goes on from them; `hosts_repeat` and `hosts_go_on` say it of hosts.
 //!
-//! `specs/Standing` says what stands in a file, `specs/Measuring` what is measured,
-//! `specs/Promises` which replies are refused, and `specs/GoingOn` what the laws say.
+//! `specs/Promises` says which replies are refused, and `specs/GoingOn` what the laws say.
 #![tactic(auto)]
 
-mod durable;
-mod journaled;
 mod laws;
-mod measuring;
 mod promised;
 
-pub use durable::Durable;
-pub use journaled::Journaled;
-pub use laws::{goes_on, memory_is_told, repeats};
-pub use measuring::{Extent, measure};
+pub use laws::{goes_on, host_runs, hosts_go_on, hosts_repeat, memory_is_told, repeats};
 pub use promised::Promised;

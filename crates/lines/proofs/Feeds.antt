@@ -12,12 +12,7 @@ use Rattle.lines.specs.Feeds.{AreReadings, IsReading, ReadingOf}
 use Rattle.lines.specs.declared.input.Heard.{Heard}
 use Rattle.lines.specs.declared.input.Heard.TheVariants.{Line, Long, End}
 use Rattle.lines.proofs.Parts.{LinesRead-more}
-use Rattle.lines.proofs.Runs.{line_step-long}
-
--- a line that is held is read as it is
-line_step-held : (line : List ℕ) → length line ≤ MAX_LINE_BYTES → line_step line ≡ step_of_line line
-unfolding line_step
-line_step-held line fits = ap (λ b. cond b (step_of_line line) None) (le-leb (length line) MAX_LINE_BYTES fits)
+use Rattle.lines.proofs.Runs.{line_step-held, line_step-long}
 
 -- one line more
 AreReadings-more : (lines : List (List ℕ)) (found : List (Result Step LineFault)) (line : List ℕ) (step : Result Step LineFault)

@@ -3,3 +3,4 @@ pub mod Parts
 pub mod Serving
 pub mod Feeds
 pub mod Counting
+pub mod Doing

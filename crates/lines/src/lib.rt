@@ -1,6 +1,7 @@
 //! Serving: lines in, lines out.
 //!
-//! - `serve`: answers each line of a reader, in order, by the book, and writes each reply as a line.
+//! - `serve`: answers each line of a reader, in order, by the book, and writes each reply as a line; `serve_host` does
+//!   it by a host, which stores no history.
 //! - `read_feed`: the steps of all lines of a reader; `put_reply` and `fault_reply` answer them.
 //! - `Counted`: a reader or a writer with a count of its failures, by which the contracts tell
 //!   which end failed. What raises the count is private to the module `counted`.
@@ -38,4 +39,4 @@ pub use fault::ServeFault;
 pub use feed::read_feed;
 pub use forms::{LineFault, read_step, write_reply};
 pub use fuse_reader::FuseReader;
-pub use serving::{fault_reply, memory_aside, put_reply, serve};
+pub use serving::{fault_reply, memory_aside, put_reply, serve, serve_host};

@@ -6,16 +6,21 @@ ghost use Rattle.model.specs.Failures.{HasRisen};
 ghost use Rattle.model.specs.declared.replies.Reply.{Reply as ReplyOf};
 ghost use Rattle.book.specs.Entries.{Ledger};
 ghost use Rattle.written.specs.Beginnings.{AppendsBeginning};
-ghost use Rattle.lines.specs.Serving.{AnsweredLine, Serves, EntersEach, IsRemembered, reply_line, reply_upon, ServedAll, ServedSome, Took, Broken};
+ghost use Rattle.model.specs.declared.replies.Who.{Who as WhoOf};
+ghost use Rattle.model.specs.declared.replies.Who.TheVariants.{Caller};
+ghost use Rattle.book.specs.Entries.{IsEntered};
+ghost use Rattle.book.specs.Standing.{Carries, EntersHonestly, IsHostOf};
+ghost use Rattle.lines.specs.Doing.{DoesBy, TakesSteps};
+ghost use Rattle.lines.specs.Serving.{AnsweredLineBy, Serves, EntersEach, HostServes, IsRemembered, reply_line, reply_upon, ServedAll, ServedAllBy, ServedSome, ServedSomeBy, ServesBy, Took, Broken};
 
 use crate::counted::Counted;
 use crate::fault::ServeFault;
 use crate::input::{Heard, flush_unless, read_line};
-use book::Book;
+use book::{Book, Host};
 use forms::LineFault;
 use handler::Handler;
 use json::Scratch;
-use model::{MAX_LINE_BYTES, NoMemory, Refusal, Reply};
+use model::{MAX_LINE_BYTES, NoMemory, Refusal, Reply, Step};
 use quick_forms::{read_step, write_reply};
 use shared_log::Store;
 use std::alloc::Global;
@@ -47,6 +52,65 @@ pub fn serve<R: BufRead, W: Write, H: Handler, S: Store>(
     ensures read_same { result ≢ Err ServeFault.Read → reader.new.failed ≡ reader.old.failed }
     ensures write_same { result ≢ Err ServeFault.Write → writer.new.failed ≡ writer.old.failed }
 {
+    serve_by(
+        alloc,
+        reader,
+        writer,
+        book,
+        &|book: &mut Book<H, S>, step: Step| -> Reply
+            ensures { IsEntered book.entry.now Caller step result book.exit.now }
+        { book.step(step) },
+    )
+}
+
+/// The same by a host: whichever book it stood for before, what is written are the replies of that book, and the host then
+/// stands for the book after them.
+pub fn serve_host<R: BufRead, W: Write, H: Handler, S: Store>(
+    alloc: Global,
+    reader: &mut Counted<R>,
+    writer: &mut Counted<W>,
+    host: &mut Host<H, S>,
+) -> Result<u64, ServeFault>
+    ensures all { IfOk result (λ count. ServedAllBy (HostServes H.meaning) (R.remaining reader.old.inner)
+        (W.contents writer.old.inner) (W.contents writer.new.inner) host.old host.new count) }
+    ensures some { OnErr result (ServedSomeBy (HostServes H.meaning)
+        (R.remaining reader.old.inner) (R.remaining reader.new.inner)
+        (W.contents writer.old.inner) (W.contents writer.new.inner) host.old host.new) }
+    ensures read { result ≡ Err ServeFault.Read → HasRisen reader.old.failed reader.new.failed }
+    ensures write { result ≡ Err ServeFault.Write → HasRisen writer.old.failed writer.new.failed }
+    ensures read_same { result ≢ Err ServeFault.Read → reader.new.failed ≡ reader.old.failed }
+    ensures write_same { result ≢ Err ServeFault.Write → writer.new.failed ≡ writer.old.failed }
+{
+    serve_by(
+        alloc,
+        reader,
+        writer,
+        host,
+        &|host: &mut Host<H, S>, step: Step| -> Reply
+            ensures { (who : WhoOf) → Carries (IsHostOf H.meaning) (EntersHonestly H.meaning who step result) host.entry.now host.exit.now }
+        { host.step(step) },
+    )
+}
+
+// The same by whatever a function does steps on.
+fn serve_by<R: BufRead, W: Write, B, F: Fn(&mut B, Step) -> Reply>(
+    alloc: Global,
+    reader: &mut Counted<R>,
+    writer: &mut Counted<W>,
+    book: &mut B,
+    step: &F,
+) -> Result<u64, ServeFault>
+    requires { TakesSteps F.Fn step.now }
+    ensures all { IfOk result (λ count. ServedAllBy (ServesBy (DoesBy F.Fn step.now)) (R.remaining reader.old.inner)
+        (W.contents writer.old.inner) (W.contents writer.new.inner) book.old book.new count) }
+    ensures some { OnErr result (ServedSomeBy (ServesBy (DoesBy F.Fn step.now))
+        (R.remaining reader.old.inner) (R.remaining reader.new.inner)
+        (W.contents writer.old.inner) (W.contents writer.new.inner) book.old book.new) }
+    ensures read { result ≡ Err ServeFault.Read → HasRisen reader.old.failed reader.new.failed }
+    ensures write { result ≡ Err ServeFault.Write → HasRisen writer.old.failed writer.new.failed }
+    ensures read_same { result ≢ Err ServeFault.Read → reader.new.failed ≡ reader.old.failed }
+    ensures write_same { result ≢ Err ServeFault.Write → writer.new.failed ≡ writer.old.failed }
+{
     let Ok(mut held) = Vec::with_capacity(alloc, MAX_LINE_BYTES) else {
         return Err(ServeFault::NoMemory);
     };
@@ -62,6 +126,7 @@ pub fn serve<R: BufRead, W: Write, H: Handler, S: Store>(
             reader,
             writer,
             book,
+            step,
             &mut scratch,
             &mut held,
             &mut text,
@@ -74,22 +139,24 @@ pub fn serve<R: BufRead, W: Write, H: Handler, S: Store>(
 }
 
 // Reads a line and answers it, if one is left.
-fn serve_line<R: BufRead, W: Write, H: Handler, S: Store>(
+fn serve_line<R: BufRead, W: Write, B, F: Fn(&mut B, Step) -> Reply>(
     alloc: Global,
     reader: &mut Counted<R>,
     writer: &mut Counted<W>,
-    book: &mut Book<H, S>,
+    book: &mut B,
+    step: &F,
     scratch: &mut Scratch,
     held: &mut Vec<u8>,
     text: &mut Vec<u8>,
     ahead: &mut bool,
 ) -> Result<bool, ServeFault>
-    requires { MAX_LINE_BYTES ≤ vec_capacity held.old }
+    requires room { MAX_LINE_BYTES ≤ vec_capacity held.old }
+    requires takes { TakesSteps F.Fn step.now }
     ensures room { MAX_LINE_BYTES ≤ vec_capacity held.new }
-    ensures took { IfOk result (λ found. Took found
+    ensures took { IfOk result (λ found. Took (DoesBy F.Fn step.now) found
         (R.remaining reader.old.inner) (R.remaining reader.new.inner)
         (W.contents writer.old.inner) (W.contents writer.new.inner) book.old book.new) }
-    ensures err { OnErr result (Broken
+    ensures err { OnErr result (Broken (DoesBy F.Fn step.now)
         (R.remaining reader.old.inner) (R.remaining reader.new.inner)
         (W.contents writer.old.inner) (W.contents writer.new.inner) book.old book.new) }
     ensures read { result ≡ Err ServeFault.Read → HasRisen reader.old.failed reader.new.failed }
@@ -111,7 +178,7 @@ fn serve_line<R: BufRead, W: Write, H: Handler, S: Store>(
             Ok(true)
         }
         Heard::Line => {
-            let reply = answer_line(alloc, book, scratch, held.as_slice());
+            let reply = answer_line(alloc, book, step, scratch, held.as_slice());
             put_reply(alloc, writer, text, &reply)?;
             Ok(true)
         }
@@ -158,19 +225,30 @@ pub fn put_reply<W: Write>(
     }
 }
 
+// Does one step.
+#[inline(always)]
+fn do_step<B, F: Fn(&mut B, Step) -> Reply>(book: &mut B, step: &F, read: Step) -> Reply
+    requires { TakesSteps F.Fn step.now }
+    ensures { DoesBy F.Fn step.now book.old read result book.new }
+{
+    step(book, read)
+}
+
 // Does what a line says.
 #[tactic(auto, unfolding(crate::specs::Serving::line_step))]
-fn answer_line<H: Handler, S: Store>(
+fn answer_line<B, F: Fn(&mut B, Step) -> Reply>(
     alloc: Global,
-    book: &mut Book<H, S>,
+    book: &mut B,
+    step: &F,
     scratch: &mut Scratch,
     line: &[u8],
 ) -> Reply
-    requires { length line.now ≤ MAX_LINE_BYTES }
-    ensures { AnsweredLine line.now book.old result book.new }
+    requires short { length line.now ≤ MAX_LINE_BYTES }
+    requires takes { TakesSteps F.Fn step.now }
+    ensures { AnsweredLineBy (DoesBy F.Fn step.now) line.now book.old result book.new }
 {
     match read_step(alloc, scratch, line) {
-        Ok(step) => book.step(step),
+        Ok(read) => do_step(book, step, read),
         Err(fault) => fault_reply(fault),
     }
 }

@@ -1,6 +1,6 @@
 //! `run --explain`: lines are answered one by one, and each refusal is told with its reason.
 
-use crate::host::Host;
+use crate::hosted::Hosted;
 use book::Book;
 use diagram::{Untold, why_waits};
 use handler::Handler;
@@ -22,7 +22,7 @@ const WHOLE_LINE: u64 = MAX_LINE_BYTES as u64 + 1;
 pub(crate) fn serve_explained<L: Log, R: BufRead, W: Write, H: Handler, S: Store>(
     told: &L,
     alloc: Global,
-    host: &Host<'_, H>,
+    hosted: &Hosted<'_, H>,
     reader: &mut R,
     writer: &mut W,
     book: &mut Book<H, S>,
@@ -40,7 +40,7 @@ pub(crate) fn serve_explained<L: Log, R: BufRead, W: Write, H: Handler, S: Store
         explain(
             told,
             alloc,
-            host,
+            hosted,
             book,
             number,
             line.as_slice(),
@@ -121,7 +121,7 @@ fn put<W: Write>(writer: &mut W, reply: &[u8]) -> Result<(), ServeFault> {
 fn explain<L: Log, H: Handler, S: Store>(
     told: &L,
     alloc: Global,
-    host: &Host<'_, H>,
+    hosted: &Hosted<'_, H>,
     book: &Book<H, S>,
     number: u64,
     line: &[u8],
@@ -134,7 +134,7 @@ fn explain<L: Log, H: Handler, S: Store>(
         return;
     };
     let line = line.strip_suffix(b"\n").unwrap_or(line);
-    match reason_of(alloc, host, book, line, refusal) {
+    match reason_of(alloc, hosted, book, line, refusal) {
         Ok(reason) => warn!(told; "line {number}: {reason}"),
         Err(_) => warn!(told; "line {number}: {refusal}"),
     }
@@ -143,23 +143,23 @@ fn explain<L: Log, H: Handler, S: Store>(
 /// Why a line was refused. Of a letter that has to wait the history tells for what.
 fn reason_of<H: Handler, S: Store>(
     alloc: Global,
-    host: &Host<'_, H>,
+    hosted: &Hosted<'_, H>,
     book: &Book<H, S>,
     line: &[u8],
     refusal: &str,
 ) -> Result<String, NoMemory> {
     if refusal == "wait" {
-        if let Some(untold) = waits_for(alloc, host, book, line)? {
+        if let Some(untold) = waits_for(alloc, hosted, book, line)? {
             return wait_reason(alloc, untold.receiver, untold.unit);
         }
     }
-    reason(alloc, &host.handler, host.kinds, line, refusal)
+    reason(alloc, &hosted.handler, hosted.kinds, line, refusal)
 }
 
 /// What the letter that a line delivers has to wait for.
 fn waits_for<H: Handler, S: Store>(
     alloc: Global,
-    host: &Host<'_, H>,
+    hosted: &Hosted<'_, H>,
     book: &Book<H, S>,
     line: &[u8],
 ) -> Result<Option<Untold>, NoMemory> {
@@ -171,7 +171,7 @@ fn waits_for<H: Handler, S: Store>(
     };
     why_waits(
         alloc,
-        &host.handler,
+        &hosted.handler,
         history_of(book),
         rows,
         &tenant,

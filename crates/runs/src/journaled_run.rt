@@ -1,22 +1,22 @@
 //! `run --journal`: the lines of the journal are stepped again, and then those of the input, each of which stands in the
 //! journal before it is stepped.
 
-use crate::host::Host;
+use crate::engine::Engine;
+use crate::hosted::Hosted;
 use crate::judged::Judged;
 use crate::no_zeros::NoZeros;
-use crate::run::{BLOCK, answer_all, end_well};
-use book::Book;
+use durable::{Extent, Journaled};
 use files::{JournalFile, LastingFile, Standing};
 use handler::Handler;
-use journal::{Extent, Journaled, Promised};
-use lines::{Counted, ServeFault, serve};
+use journal::Promised;
+use lines::{Counted, ServeFault};
 use log::{Log, error, info};
 use shared_log::MemoryStore;
 use std::alloc::Global;
 use std::fs::{File, Files};
+use std::io;
 use std::io::{BufReader, BufWriter, Read, Write};
-use std::{io, mem};
-use terminal::Plural;
+use terminal::{BLOCK, Plural};
 use words::RunWords;
 
 /// Where a run ended early.
@@ -53,7 +53,7 @@ pub fn run_journaled<
 >(
     told: &L,
     alloc: Global,
-    host: Host<'_, H>,
+    hosted: Hosted<'_, H>,
     input: R,
     output: W,
     journal: JournalFile<'_, F>,
@@ -64,19 +64,19 @@ pub fn run_journaled<
         return 1;
     };
     let mut writer = Counted::new(Promised::new(Judged::new(writer)));
-    let mut book = Book::new(alloc, host.handler, MemoryStore::new(alloc));
+    let mut engine = Engine::new(alloc, hosted.handler, MemoryStore::new(alloc), asked);
     let gone_on = go_on(
         told,
         alloc,
-        &host,
+        &hosted,
         input,
         journal,
         &mut writer,
-        &mut book,
+        &mut engine,
         asked,
     );
     let status = match gone_on {
-        Ok(()) => end_well(told, alloc, &host, &mut writer.inner.inner, &book, asked),
+        Ok(()) => engine.end_well(told, alloc, &hosted, &mut writer.inner.inner, asked),
         Err(stop) => {
             // What was answered goes out, as far as it can.
             let _ = writer.inner.inner.flush();
@@ -84,8 +84,7 @@ pub fn run_journaled<
             1
         }
     };
-    // The process ends with this: to let go of each text of the history would take a fifth of its time.
-    mem::forget(book);
+    engine.forget();
     status
 }
 
@@ -93,23 +92,23 @@ pub fn run_journaled<
 fn go_on<L: Log, F: Files<File = File>, R: Read + Drop, W: Write, H: Handler>(
     told: &L,
     alloc: Global,
-    host: &Host<'_, H>,
+    hosted: &Hosted<'_, H>,
     input: R,
     journal: JournalFile<'_, F>,
     writer: &mut Counted<Promised<W>>,
-    book: &mut Book<H, MemoryStore>,
+    engine: &mut Engine<H, MemoryStore>,
     asked: &RunWords<'_>,
 ) -> Result<(), Stop> {
     let JournalFile { file, extent } = journal;
     let lines = extent.lines;
-    if let Err(fault) = step_again(alloc, file.file(), &extent, writer, book) {
+    if let Err(fault) = step_again(told, alloc, hosted, file.file(), &extent, writer, engine) {
         return Err(stop_at(Place::Again, fault, lines));
     }
     let Some(mut reader) = journaling(alloc, input, file) else {
         return Err(stop_at(Place::Input, ServeFault::NoMemory, lines));
     };
     let explained = asked.explain.then_some(lines);
-    match answer_all(told, alloc, host, &mut reader, writer, book, explained) {
+    match engine.answer_all(told, alloc, hosted, &mut reader, writer, explained) {
         Ok(count) => {
             info!(told; "answered {}, behind {} of the journal", Plural(count, "line"), Plural(lines, "line"));
             Ok(())
@@ -142,25 +141,29 @@ fn stop_at_input<F: Files<File = File>, R>(
 
 /// Steps each line of the journal as `serve` does: the replies to those before the one that is asked for
 /// go nowhere, and the others to the writer.
-fn step_again<W: Write, H: Handler>(
+fn step_again<L: Log, W: Write, H: Handler>(
+    told: &L,
     alloc: Global,
+    hosted: &Hosted<'_, H>,
     file: &File,
     extent: &Extent,
     writer: &mut Counted<Promised<W>>,
-    book: &mut Book<H, MemoryStore>,
+    engine: &mut Engine<H, MemoryStore>,
 ) -> Result<(), ServeFault> {
     let Ok(mut reader) = BufReader::with_capacity(alloc, BLOCK, file) else {
         return Err(ServeFault::NoMemory);
     };
     let mut nowhere = Counted::new(Promised::new(io::sink()));
     let before = reader.by_ref().take(extent.before);
-    let seen = serve(alloc, &mut Counted::new(before), &mut nowhere, book);
+    let mut before = Counted::new(before);
+    let seen = engine.answer_all(told, alloc, hosted, &mut before, &mut nowhere, None);
     if seen.is_err() {
         writer.inner.is_refused = nowhere.inner.is_refused;
     }
     seen?;
     let behind = reader.take(extent.whole.saturating_sub(extent.before));
-    serve(alloc, &mut Counted::new(behind), writer, book)?;
+    let mut behind = Counted::new(behind);
+    engine.answer_all(told, alloc, hosted, &mut behind, writer, None)?;
     Ok(())
 }
 

@@ -2,27 +2,17 @@
 
 ghost use Rattle.std.specs.Prelude.{◌≡◌, []};
 
-use crate::audits::audit_all;
-use crate::explained::serve_explained;
-use crate::host::Host;
+use crate::engine::Engine;
+use crate::hosted::Hosted;
 use crate::judged::Judged;
-use crate::kept::tell_kept;
-use book::Book;
 use handler::Handler;
-use lines::{Counted, ServeFault, serve};
+use lines::{Counted, ServeFault};
 use log::{Log, error, info};
 use shared_log::Store;
 use std::alloc::Global;
-use std::io::{BufRead, BufReader, BufWriter, Read, Write};
-use std::mem;
-use terminal::Plural;
+use std::io::{BufReader, BufWriter, Read, Write};
+use terminal::{BLOCK, Plural};
 use words::RunWords;
-
-/// Bytes that are read or written at once.
-pub const BLOCK: usize = 65536;
-
-/// The status of a run that refused a line, where that is asked for.
-const REFUSED: u8 = 3;
 
 /// Answers each line of the input, over a store that acknowledged nothing yet, and tells the status to end with: 0 where
 /// all lines are answered, 1 after a fault of input, output or memory. Where it is asked for, each refusal is told with its
@@ -31,7 +21,7 @@ const REFUSED: u8 = 3;
 pub fn run_on<L: Log, R: Read + Drop, W: Write + Drop, H: Handler + Copy, S: Store>(
     told: &L,
     alloc: Global,
-    host: Host<'_, H>,
+    hosted: Hosted<'_, H>,
     input: R,
     output: W,
     store: S,
@@ -48,21 +38,13 @@ pub fn run_on<L: Log, R: Read + Drop, W: Write + Drop, H: Handler + Copy, S: Sto
     };
     let mut reader = Counted::new(reader);
     let mut writer = Counted::new(Judged::new(writer));
-    let mut book = Book::new(alloc, host.handler, store);
+    let mut engine = Engine::new(alloc, hosted.handler, store, asked);
     let explained = asked.explain.then_some(0);
-    let answered = answer_all(
-        told,
-        alloc,
-        &host,
-        &mut reader,
-        &mut writer,
-        &mut book,
-        explained,
-    );
+    let answered = engine.answer_all(told, alloc, &hosted, &mut reader, &mut writer, explained);
     let status = match answered {
         Ok(count) => {
             info!(told; "answered {}", Plural(count, "line"));
-            end_well(told, alloc, &host, &mut writer.inner, &book, asked)
+            engine.end_well(told, alloc, &hosted, &mut writer.inner, asked)
         }
         Err(fault) => {
             // What was answered goes out, as far as it can.
@@ -71,56 +53,8 @@ pub fn run_on<L: Log, R: Read + Drop, W: Write + Drop, H: Handler + Copy, S: Sto
             1
         }
     };
-    // The process ends with this: to let go of each text of the history would take a fifth of its time.
-    mem::forget(book);
+    engine.forget();
     status
-}
-
-/// Tells what is kept, and audits, where that is asked for, after the last line. Tells the status to end with.
-pub(crate) fn end_well<L: Log, W: Write, H: Handler, S: Store>(
-    told: &L,
-    alloc: Global,
-    host: &Host<'_, H>,
-    writer: &mut Judged<W>,
-    book: &Book<H, S>,
-    asked: &RunWords<'_>,
-) -> u8 {
-    tell_kept(told, book, asked.talk);
-    let audited = if asked.audit {
-        audit_all(told, alloc, &host.handler, writer, book)
-    } else {
-        0
-    };
-    if audited == 0 && asked.strict && writer.refused > 0 {
-        error!(told; "{} refused", Plural(writer.refused, "line"));
-        return REFUSED;
-    }
-    audited
-}
-
-/// Answers each line, and tells how many there were. Where `explained` is a number, tells why it was refused, and so many lines came
-/// before the first.
-pub(crate) fn answer_all<L: Log, R: BufRead, W: Write, H: Handler, S: Store>(
-    told: &L,
-    alloc: Global,
-    host: &Host<'_, H>,
-    reader: &mut Counted<R>,
-    writer: &mut Counted<W>,
-    book: &mut Book<H, S>,
-    explained: Option<u64>,
-) -> Result<u64, ServeFault> {
-    if let Some(before) = explained {
-        return serve_explained(
-            told,
-            alloc,
-            host,
-            &mut reader.inner,
-            &mut writer.inner,
-            book,
-            before,
-        );
-    }
-    serve(alloc, reader, writer, book)
 }
 
 /// Says what failed, and what to do.

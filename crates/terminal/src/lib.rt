@@ -2,7 +2,7 @@
 //!
 //! - `Complaints`: what is logged goes to standard error, line by line;
 //! - `Bar` and `Watched` (`bar`): how far a run is, where standard error is a terminal;
-//! - `Patient`: a stream that is non-blocking is waited for;
+//! - `Patient`: a stream that is non-blocking is waited for; `BLOCK`: how much of one is read or written at once;
 //! - `Plural`: a number with its noun.
 //!
 //! For `host_cli` and the crates below it that tell of files and runs. A caller:
@@ -19,5 +19,5 @@ mod plural;
 
 pub use bar::{Bar, Watched, input_size};
 pub use complaints::Complaints;
-pub use patient::Patient;
+pub use patient::{BLOCK, Patient};
 pub use plural::Plural;

@@ -5,6 +5,9 @@ use std::io::{ErrorKind, Read, Write};
 use std::thread::sleep;
 use std::time::{Clock, Duration};
 
+/// Bytes that are read or written at once, at most: those of a journal are appended and synced as one.
+pub const BLOCK: usize = 65536;
+
 /// How many milliseconds pass before a stream that had nothing is asked again.
 const PAUSE: u64 = 2;
 

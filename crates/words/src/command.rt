@@ -52,7 +52,7 @@ const FROM: &str = "from";
 const LAST: &str = "last";
 
 /// Reads the words, and prints help or what is wrong with them. Help that can't be written is an output
-/// fault, of status 1.
+/// fault, which is told, of status 1.
 pub fn read_words<'a, R: Print + Eprint + AllocGlobal>(
     rt: &R,
     pages: &'a Pages,
@@ -64,7 +64,10 @@ pub fn read_words<'a, R: Print + Eprint + AllocGlobal>(
             let status = status_of(&error);
             match error.print(rt) {
                 Ok(()) => Asked::Ended(status),
-                Err(_) => Asked::Ended(status.max(1)),
+                Err(_) => {
+                    let _ = eprintln!(rt; "{}: the output can't be written", pages.name.as_str());
+                    Asked::Ended(status.max(1))
+                }
             }
         }
     }
@@ -119,11 +122,40 @@ fn talk_of(words: &ArgMatches<'_>) -> Talk {
     }
 }
 
-/// The options of `run` that speak of files.
-fn with_files<'a>(alloc: Global, run: Command<'a>) -> Result<Command<'a>, Error> {
-    let log = Arg::new(alloc, LOG).long(LOG).value_name("FILE").help(
+/// The command with one more word, if both could be made. So no function here but this one has a way out on which a
+/// command or a word that is half made is let go of.
+fn with<'a>(
+    command: Result<Command<'a>, Error>,
+    word: Result<Arg<'a>, Error>,
+) -> Result<Command<'a>, Error> {
+    let command = command?;
+    match word {
+        Ok(word) => Ok(command.arg(word)?),
+        Err(error) => Err(error),
+    }
+}
+
+/// The command with one more command below it, if both could be made.
+fn with_command<'a>(
+    command: Result<Command<'a>, Error>,
+    below: Result<Command<'a>, Error>,
+) -> Result<Command<'a>, Error> {
+    let command = command?;
+    match below {
+        Ok(below) => Ok(command.subcommand(below)?),
+        Err(error) => Err(error),
+    }
+}
+
+/// The option of `run` that names the log's file.
+fn log_option<'a>(alloc: Global) -> Arg<'a> {
+    Arg::new(alloc, LOG).long(LOG).value_name("FILE").help(
         "Makes FILE anew, for its owner alone, and writes a line to it for each record that is logged",
-    );
+    )
+}
+
+/// The option of `run` that names the journal.
+fn journal_option<'a>(alloc: Global) -> Result<Arg<'a>, Error> {
     let journal = Arg::new(alloc, JOURNAL)
         .long(JOURNAL)
         .value_name("FILE")
@@ -131,102 +163,134 @@ fn with_files<'a>(alloc: Global, run: Command<'a>) -> Result<Command<'a>, Error>
         .help(
             "Keeps each line in FILE before it is stepped, and begins with the lines that FILE has, without their replies",
         );
+    Ok(journal)
+}
+
+/// The option of `run` that has the first line of the journal whose reply is asked for.
+fn from_option<'a>(alloc: Global) -> Result<Arg<'a>, Error> {
     let from = Arg::new(alloc, FROM)
         .long(FROM)
         .value_name("N")
         .value_parser(value_parser!(u64))
         .requires_arg(JOURNAL)?
         .help("Writes the replies to the lines of the journal from N on (from 0)");
+    Ok(from)
+}
+
+/// The flag of `run` that takes over a journal.
+fn adopt_flag<'a>(alloc: Global) -> Result<Arg<'a>, Error> {
     let adopt = Arg::new(alloc, ADOPT)
         .long(ADOPT)
         .action(ArgAction::SetTrue)
         .requires_arg(JOURNAL)?
         .help("Takes over a FILE that isn't known to be a journal of this program and its handler");
-    Ok(run.arg(log)?.arg(journal)?.arg(from)?.arg(adopt)?)
+    Ok(adopt)
 }
 
-/// The command `run`.
-fn run_command<'a>(alloc: Global, pages: &'a Pages) -> Result<Command<'a>, Error> {
-    let explain = Arg::new(alloc, EXPLAIN)
+/// The flag of `run` that asks for reasons.
+fn explain_flag<'a>(alloc: Global) -> Arg<'a> {
+    Arg::new(alloc, EXPLAIN)
         .long(EXPLAIN)
         .action(ArgAction::SetTrue)
         .help(
             "Writes to standard error why each line was refused, and what would help; always, where that is a terminal",
-        );
-    let strict = Arg::new(alloc, STRICT)
+        )
+}
+
+/// The flag of `run` that asks for another status where a line was refused.
+fn strict_flag<'a>(alloc: Global) -> Arg<'a> {
+    Arg::new(alloc, STRICT)
         .long(STRICT)
         .action(ArgAction::SetTrue)
-        .help("Ends with status 3 where a line was refused; each line is answered all the same");
+        .help("Ends with status 3 where a line was refused; each line is answered all the same")
+}
+
+/// The command `run`.
+fn run_command<'a>(alloc: Global, pages: &'a Pages) -> Result<Command<'a>, Error> {
     let run = Command::new(alloc, "run")
         .about("Reads step lines from standard input and writes a reply line for each")
         .after_help(pages.run.as_str());
-    let run = with_files(alloc, run)?
-        .arg(explain)?
-        .arg(strict)?
-        .arg(audit_flag(alloc))?
-        .arg(quiet_flag(alloc))?
-        .arg(verbose_flag(alloc)?)?;
-    Ok(run)
+    let run = with(Ok(run), Ok(log_option(alloc)));
+    let run = with(run, journal_option(alloc));
+    let run = with(run, from_option(alloc));
+    let run = with(run, adopt_flag(alloc));
+    let run = with(run, Ok(explain_flag(alloc)));
+    let run = with(run, Ok(strict_flag(alloc)));
+    with_common(alloc, run)
+}
+
+/// The command with the flags that `run` and `feeds` share.
+fn with_common<'a>(
+    alloc: Global,
+    command: Result<Command<'a>, Error>,
+) -> Result<Command<'a>, Error> {
+    let command = with(command, Ok(audit_flag(alloc)));
+    let command = with(command, Ok(quiet_flag(alloc)));
+    with(command, verbose_flag(alloc))
 }
 
 /// The command `journal`.
 fn journal_command<'a>(alloc: Global) -> Result<Command<'a>, Error> {
+    let journal = Command::new(alloc, "journal").about(
+        "Tells how many lines and bytes a journal has, also while a run has it",
+    );
     let file = Arg::new(alloc, FILE).required(true).help("The journal");
     let json = Arg::new(alloc, JSON)
         .long(JSON)
         .action(ArgAction::SetTrue)
         .help("Writes one JSON object");
-    let journal = Command::new(alloc, "journal")
-        .about("Tells how many lines and bytes a journal has, also while a run has it")
-        .arg(file)?
-        .arg(json)?;
-    Ok(journal)
+    with(with(Ok(journal), Ok(file)), Ok(json))
 }
 
 /// The command `feeds`.
 fn feeds_command<'a>(alloc: Global) -> Result<Command<'a>, Error> {
-    let feeds = Command::new(alloc, "feeds")
-        .about(
-            "Runs the step lines of 1 to 64 files as feeds, all at once, and then writes the reply lines, file by file",
-        )
-        .arg(
-            Arg::new(alloc, FILE)
-                .required(true)
-                .num_args(1..=MAX_FEEDS)
-                .help("The step lines of a feed"),
-        )?
-        .arg(audit_flag(alloc))?
-        .arg(quiet_flag(alloc))?
-        .arg(verbose_flag(alloc)?)?;
-    Ok(feeds)
+    let feeds = Command::new(alloc, "feeds").about(
+        "Runs the step lines of 1 to 64 files as feeds, all at once, and then writes the reply lines, file by file",
+    );
+    let files = Arg::new(alloc, FILE)
+        .required(true)
+        .num_args(1..=MAX_FEEDS)
+        .help("The step lines of a feed");
+    with_common(alloc, with(Ok(feeds), Ok(files)))
 }
 
 /// The command `draw`.
 fn draw_command<'a>(alloc: Global) -> Result<Command<'a>, Error> {
-    let draw = Command::new(alloc, "draw")
-        .about(
-            "Runs the step lines of standard input, and draws a tenant's space-time diagram as SVG",
-        )
-        .arg(
-            Arg::new(alloc, TENANT)
-                .long(TENANT)
-                .value_name("NAME")
-                .help("The tenant; without it the first one that is opened"),
-        )?
-        .arg(
-            Arg::new(alloc, TO).long(TO).value_name("FILE").help(
-                "Makes FILE anew and draws to it; without it to standard output",
-            ),
-        )?
-        .arg(column_count(alloc, FROM).help(
-            "The first column that is drawn, from 0; 500 at most are drawn",
-        ))?
-        .arg(
-            column_count(alloc, LAST).conflicts_with(FROM)?.help(
-                "How many last columns are drawn; without it and --from, 500",
-            ),
-        )?;
-    Ok(draw)
+    let draw = Command::new(alloc, "draw").about(
+        "Runs the step lines of standard input, and draws a tenant's space-time diagram as SVG",
+    );
+    let draw = with(Ok(draw), Ok(tenant_option(alloc)));
+    let draw = with(draw, Ok(to_option(alloc)));
+    let draw = with(draw, Ok(first_option(alloc)));
+    with(draw, last_option(alloc))
+}
+
+/// The option of `draw` that names the tenant.
+fn tenant_option<'a>(alloc: Global) -> Arg<'a> {
+    Arg::new(alloc, TENANT)
+        .long(TENANT)
+        .value_name("NAME")
+        .help("The tenant; without it the first one that is opened")
+}
+
+/// The option of `draw` that names the file.
+fn to_option<'a>(alloc: Global) -> Arg<'a> {
+    Arg::new(alloc, TO).long(TO).value_name("FILE").help(
+        "Makes FILE anew and draws to it; without it to standard output",
+    )
+}
+
+/// The option of `draw` that has the first column.
+fn first_option<'a>(alloc: Global) -> Arg<'a> {
+    column_count(alloc, FROM).help("The first column that is drawn, from 0; 500 at most are drawn")
+}
+
+/// The option of `draw` that has how many last columns there are.
+fn last_option<'a>(alloc: Global) -> Result<Arg<'a>, Error> {
+    let last = column_count(alloc, LAST).conflicts_with(FROM)?.help(
+        "How many last columns are drawn; without it and --from, 500",
+    );
+    Ok(last)
 }
 
 /// An option of `draw` that has a number of columns.
@@ -282,12 +346,11 @@ fn command_of<'a>(alloc: Global, pages: &'a Pages) -> Result<Command<'a>, Error>
         .about(pages.about.as_str())
         .version(pages.version.as_str())
         .after_help(pages.whole.as_str())
-        .subcommand_required(true)
-        .subcommand(run_command(alloc, pages)?)?
-        .subcommand(feeds_command(alloc)?)?
-        .subcommand(draw_command(alloc)?)?
-        .subcommand(journal_command(alloc)?)?;
-    Ok(command)
+        .subcommand_required(true);
+    let command = with_command(Ok(command), run_command(alloc, pages));
+    let command = with_command(command, feeds_command(alloc));
+    let command = with_command(command, draw_command(alloc));
+    with_command(command, journal_command(alloc))
 }
 
 /// What the words ask for.
@@ -300,24 +363,39 @@ fn read_command<'a, R: AllocGlobal>(
     // The words' first is the name of the file that runs, which need not be the program's.
     let words = words.get(1..).unwrap_or(&[]);
     let matches = command_of(alloc, pages)?.try_get_matches_from(words)?;
+    asked_by(alloc, &matches)
+}
+
+/// What the command asks for that was found.
+fn asked_by<'a>(alloc: Global, matches: &ArgMatches<'a>) -> Result<Asked<'a>, Error> {
     if let Some(run) = matches.subcommand_matches("run") {
         return Ok(Asked::Run(run_words(run)));
     }
     if let Some(feeds) = matches.subcommand_matches("feeds") {
-        return Ok(Asked::Feeds(FeedsWords {
-            audit: feeds.get_flag(AUDIT),
-            files: files_of(alloc, feeds)?,
-            talk: talk_of(feeds),
-        }));
+        return Ok(Asked::Feeds(feeds_words(alloc, feeds)?));
     }
     if let Some(draw) = matches.subcommand_matches("draw") {
         return Ok(Asked::Draw(draw_words(draw)));
     }
     if let Some(journal) = matches.subcommand_matches("journal") {
-        return Ok(Asked::Journal(JournalWords {
-            file: journal.get_str(FILE).unwrap_or(""),
-            json: journal.get_flag(JSON),
-        }));
+        return Ok(Asked::Journal(journal_words(journal)));
     }
     Ok(Asked::Ended(2))
+}
+
+/// What `feeds` is to do.
+fn feeds_words<'a>(alloc: Global, feeds: &ArgMatches<'a>) -> Result<FeedsWords<'a>, Error> {
+    Ok(FeedsWords {
+        audit: feeds.get_flag(AUDIT),
+        files: files_of(alloc, feeds)?,
+        talk: talk_of(feeds),
+    })
+}
+
+/// What `journal` is to tell.
+fn journal_words<'a>(journal: &ArgMatches<'a>) -> JournalWords<'a> {
+    JournalWords {
+        file: journal.get_str(FILE).unwrap_or(""),
+        json: journal.get_flag(JSON),
+    }
 }

@@ -1,6 +1,6 @@
-use Rattle.std.proofs.Common.{◌≡◌, bytes_eq}
+use Rattle.book.specs.Standing.{held_by}
+use Rattle.std.proofs.Common.{◌≡◌, sym}
 use Rattle.std.specs.Prelude.{MatchOption, None, Some}
-use Rattle.indexmap.specs.IndexMap.{get}
 use Rattle.book.specs.History.{released_at, world_of}
 use Rattle.book.proofs.Answers.{of_open}
 use Rattle.book.proofs.book.Book.released.Goals as goal
@@ -11,9 +11,9 @@ returns-in-Some g c =
     let now = c.self.inside in
     let name = c.args.tenant.now in
     rw (← c.self.view_is) (
-    of_open M name c.in-Some.open.now (get bytes_eq now.tenants name) now.log.records
+    of_open M name c.in-Some.open.now ((held_by now.host).at name) now.host.log.records
     (λ w. MatchOption c.released.result (released_at w c.args.unit ≡ None) (λ texts. released_at w c.args.unit ≡ Some texts.now))
-    c.in-Some.ensures.value
-    (λ w stands. c.released.ensures name w now.log.records stands)
+    (sym c.in-Some.ensures)
+    (λ w stands. c.released.ensures name w now.host.log.records stands)
     (world_of M name now.history.items)
     (c.self.invariant.stands name))

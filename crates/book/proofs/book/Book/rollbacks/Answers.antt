@@ -1,6 +1,6 @@
-use Rattle.std.proofs.Common.{◌≡◌, bytes_eq, ap, sym}
+use Rattle.book.specs.Standing.{held_by}
+use Rattle.std.proofs.Common.{◌≡◌, ap, sym}
 use Rattle.std.specs.Prelude.{Some}
-use Rattle.indexmap.specs.IndexMap.{get}
 use Rattle.book.specs.History.{table_at, world_of}
 use Rattle.book.proofs.Answers.{of_open}
 use Rattle.book.proofs.book.Book.rollbacks.Goals as goal
@@ -11,9 +11,9 @@ returns-in-Some g c =
     let now = c.self.inside in
     let name = c.args.tenant.now in
     rw (← c.self.view_is) (
-    of_open M name c.in-Some.open.now (get bytes_eq now.tenants name) now.log.records
+    of_open M name c.in-Some.open.now ((held_by now.host).at name) now.host.log.records
     (λ w. table_at w ≡ Some c.rollbacks.result.now)
-    c.in-Some.ensures.value
-    (λ w stands. ap Some (sym (c.rollbacks.ensures name w now.log.records stands)))
+    (sym c.in-Some.ensures)
+    (λ w stands. ap Some (sym (c.rollbacks.ensures name w now.host.log.records stands)))
     (world_of M name now.history.items)
     (c.self.invariant.stands name))

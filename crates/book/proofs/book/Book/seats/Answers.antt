@@ -1,6 +1,6 @@
-use Rattle.std.proofs.Common.{◌≡◌, bytes_eq}
+use Rattle.book.specs.Standing.{held_by}
+use Rattle.std.proofs.Common.{◌≡◌, sym}
 use Rattle.std.specs.Prelude.{IfOk}
-use Rattle.indexmap.specs.IndexMap.{get}
 use Rattle.book.specs.Certificates.{seats_at}
 use Rattle.book.specs.History.{world_of}
 use Rattle.book.proofs.Answers.{if_ok, of_open}
@@ -12,9 +12,9 @@ returns-in-Some g c =
     let now = c.self.inside in
     let name = c.args.tenant.now in
     rw (← c.self.view_is) (
-    of_open M name c.in-Some.open.now (get bytes_eq now.tenants name) now.log.records
+    of_open M name c.in-Some.open.now ((held_by now.host).at name) now.host.log.records
     (λ w. IfOk c.opening_seats.result (λ found. found.items ≡ seats_at w))
-    c.in-Some.ensures.value
-    (λ w stands. if_ok c.opening_seats.result (λ found h. h name w now.log.records stands) c.opening_seats.ensures)
+    (sym c.in-Some.ensures)
+    (λ w stands. if_ok c.opening_seats.result (λ found h. h name w now.host.log.records stands) c.opening_seats.ensures)
     (world_of M name now.history.items)
     (c.self.invariant.stands name))

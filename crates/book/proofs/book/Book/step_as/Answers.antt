@@ -1,4 +1,4 @@
-use Rattle.book.specs.History.{holding}
+use Rattle.book.specs.Standing.{held_by}
 use Rattle.std.proofs.Common.{inl}
 use Rattle.book.proofs.Replays.{entered, is_added, said_honestly}
 use Rattle.book.proofs.book.Book.step_as.Goals as goal
@@ -9,7 +9,7 @@ invariant_of-self-in-Ok g c =
     let next = c.answer-done.new in
     let a = c.in-Ok.answer in
     rw (c.enter.ensures.entered, c.reserve_place.ensures.same, c.in-Ok.ensures.kept) (
-    entered g.H.Handler.meaning (holding now.tenants now.log) (holding next.tenants next.log) now.history.items
+    entered g.H.Handler.meaning (held_by now.host) (held_by next.self) now.history.items
     (record { who = c.args.who; step = c.args.step; said = a.said; reply = a.reply })
     c.self.invariant c.in-Ok.ensures.answered)
 
@@ -19,7 +19,7 @@ returns-in-Ok-clause-honest g c =
     let next = c.answer-done.new in
     let a = c.in-Ok.answer in
     rw (← c.self.view_is, c.enter.ensures.entered, c.reserve_place.ensures.same, c.in-Ok.ensures.kept) (
-    said_honestly g.H.Handler.meaning (holding now.tenants now.log) (holding next.tenants next.log) now.history.items
+    said_honestly g.H.Handler.meaning (held_by now.host) (held_by next.self) now.history.items
     (record { who = c.args.who; step = c.args.step; said = a.said; reply = a.reply })
     c.self.invariant c.in-Ok.ensures.answered)
 
@@ -29,6 +29,6 @@ returns-in-Ok-clause-entered g c =
     let next = c.answer-done.new in
     let a = c.in-Ok.answer in
     rw (← c.self.view_is, c.enter.ensures.entered, c.enter.ensures.reply, c.reserve_place.ensures.same, c.in-Ok.ensures.kept) (inl (
-    is_added g.H.Handler.meaning (holding now.tenants now.log) (holding next.tenants next.log) now.history.items
+    is_added g.H.Handler.meaning (held_by now.host) (held_by next.self) now.history.items
     (record { who = c.args.who; step = c.args.step; said = a.said; reply = a.reply })
     c.self.invariant c.in-Ok.ensures.answered))

@@ -1,5 +1,5 @@
-use Rattle.book.specs.History.{holding}
-use Rattle.std.proofs.Common.{inl}
+use Rattle.book.specs.Standing.{held_by}
+use Rattle.std.proofs.Common.{inl, refl}
 use Rattle.model.specs.Addresses.{addressed}
 use Rattle.book.specs.History.{world_of}
 use Rattle.book.proofs.Replays.{entered, is_added, said_honestly}
@@ -12,7 +12,7 @@ invariant_of-self-in-Ok-Some g c =
     let a = c.in-Ok-Some.answer in
     let is = c.in-Ok-Some.field-0-is in
     rw (c.enter.ensures.entered, c.reserve_place.ensures.same, (rw is at c.in-Ok-Some.ensures.kept)) (
-    entered g.H.Handler.meaning (holding now.tenants now.log) (holding next.tenants next.log) now.history.items
+    entered g.H.Handler.meaning (held_by now.host) (held_by next.self) now.history.items
     (record { who = c.args.who; step = c.args.step; said = a.said; reply = a.reply })
     c.self.invariant (rw is at c.in-Ok-Some.ensures.answered))
 
@@ -23,7 +23,7 @@ returns-in-Ok-Some-clause-honest g c =
     let a = c.in-Ok-Some.answer in
     let is = c.in-Ok-Some.field-0-is in
     rw (← c.self.view_is, c.enter.ensures.entered, c.reserve_place.ensures.same, (rw is at c.in-Ok-Some.ensures.kept)) (
-    said_honestly g.H.Handler.meaning (holding now.tenants now.log) (holding next.tenants next.log) now.history.items
+    said_honestly g.H.Handler.meaning (held_by now.host) (held_by next.self) now.history.items
     (record { who = c.args.who; step = c.args.step; said = a.said; reply = a.reply })
     c.self.invariant (rw is at c.in-Ok-Some.ensures.answered))
 
@@ -35,8 +35,18 @@ returns-in-Ok-Some-clause-commits g c =
     let is = c.in-Ok-Some.field-0-is in
     let name = (addressed c.args.step).0 in
     rw (← c.self.view_is, c.enter.ensures.entered, c.enter.ensures.reply, c.reserve_place.ensures.same, (rw is at c.in-Ok-Some.ensures.kept)) (inl (
-      is_added g.H.Handler.meaning (holding now.tenants now.log) (holding next.tenants next.log) now.history.items
+      is_added g.H.Handler.meaning (held_by now.host) (held_by next.self) now.history.items
           (record { who = c.args.who; step = c.args.step; said = a.said; reply = a.reply })
           c.self.invariant (rw is at c.in-Ok-Some.ensures.answered),
       (rw is at c.in-Ok-Some.ensures.fresh) (world_of g.H.Handler.meaning name now.history.items) (c.self.invariant.stands name),
     ))
+
+pub returns-in-Ok-None-clause-commits : goal.returns-in-Ok-None-clause-commits
+returns-in-Ok-None-clause-commits g c =
+    let is = c.in-Ok-None.field-0-is in
+    let name = (addressed c.args.step).0 in
+    rw (← c.self.view_is) (
+      refl,
+      record { history = c.reserve_place.ensures.same; log = rw is at c.in-Ok-None.ensures.stale_log },
+      (rw is at c.in-Ok-None.ensures.fresh) (world_of g.H.Handler.meaning name c.self.inside.history.items) (c.self.invariant.stands name),
+    )

@@ -1,0 +1,51 @@
+-- Which books a host stands for, and how a step goes on from each of them.
+use Rattle.std.specs.Prelude.{◌≡◌, ℕ, List, bytes_eq}
+use Rattle.std.specs.Map.{keys_of, lookup}
+use Rattle.handler.specs.Inputs.{Input}
+use Rattle.model.specs.Handler.{Meaning}
+use Rattle.model.specs.declared.replies.Entry.{Entry}
+use Rattle.model.specs.declared.replies.Reply.{Reply}
+use Rattle.model.specs.declared.replies.Who.{Who}
+use Rattle.model.specs.declared.steps.Step.{Step}
+use Rattle.shared_log.specs.Logged.{Logged}
+use Rattle.tenant.specs.Stands.{TenantState}
+use Rattle.book.specs.declared.committed.Committed.{Committed}
+use Rattle.book.specs.Commits.{Commits}
+use Rattle.book.specs.Entries.{IsEntered, Ledger}
+use Rattle.book.specs.History.{Holding, IsReplay, IsSaidHonestly}
+
+-- what a host is seen as: the tenants under their names, in the order of opening, and the log of all of them
+pub record Hosted (K : Type 0) : Type 0 where
+  pub entries : List (List ℕ × K)
+  pub log : Logged
+
+-- a host, where the units have such states
+abbrev pub HostState : Type 0 → Type 0
+HostState S = Hosted (TenantState S)
+
+-- what it holds
+abbrev pub held_by : {K : Type 0} → Hosted K → Holding K
+held_by host = record { at = λ t. lookup (bytes_eq t) host.entries; names = keys_of host.entries; log = host.log }
+
+-- it is the replay of this history
+abbrev pub HostReplays : {S : Type 0} → Meaning S → Hosted (TenantState S) → List Entry → Type 0
+HostReplays M host history = IsReplay M (held_by host) history
+
+-- The host is the replay of this book's history, and has its log. It stores no history, so it may stand for many.
+pub record IsHostOf {S : Type 0} (M : Meaning S) (host : Hosted (TenantState S)) (book : Ledger) : Type 0 where
+  pub replay : HostReplays M host book.history
+  pub log : book.log ≡ host.log
+
+-- Of each book that the first stood for a book became so for which the second stands.
+abbrev pub Carries : {A : Type 0} → (A → Ledger → Type 0) → (Ledger → Ledger → Type 0) → A → A → Type 0
+Carries stands Becomes old new =
+    (before : Ledger) → stands old before → (after : Ledger) × stands new after × Becomes before after
+
+-- a step was entered, or there was no memory for it, and what the store said during it is honest
+abbrev pub EntersHonestly : {S : Type 0} → Meaning S → Who → Step → Reply → Ledger → Ledger → Type 0
+EntersHonestly M who step reply before after = IsEntered before who step reply after × IsSaidHonestly M before after
+
+-- the same of a step whose turn was worked elsewhere
+abbrev pub CommitsHonestly : {S : Type 0} → Meaning S → Who → Step → Input S → Committed → Ledger → Ledger → Type 0
+CommitsHonestly M who step input committed before after =
+    Commits M before who step input committed after × IsSaidHonestly M before after

@@ -1,0 +1,202 @@
+//! All tenants, without a history.
+
+ghost use Rattle.std.specs.Prelude.{◌≡◌, ◌≤◌, [], IfNone, IfOk, IfSome, MatchOption, OnErr, List, None, Some};
+ghost use Rattle.model.specs.Addresses.{addressed};
+ghost use Rattle.model.specs.declared.replies.Entry.{Entry};
+ghost use Rattle.model.specs.declared.replies.Who.{Who};
+ghost use Rattle.tenant.specs.Needs.{WasFresh};
+ghost use Rattle.tenant.specs.Stands.{StandsAt};
+ghost use Rattle.model.specs.World.{World};
+ghost use Rattle.std.specs.Prelude.{Option};
+ghost use Rattle.book.specs.Commits.{needed, needs_at};
+ghost use Rattle.book.specs.History.{HoldsAsBefore, IsAnswered, opened};
+ghost use Rattle.book.specs.Keeping.{kept_after};
+ghost use Rattle.book.specs.Standing.{Carries, CommitsHonestly, EntersHonestly, HostReplays, IsHostOf, held_by};
+
+use crate::answer::{Tenants, answer, answer_with, ask, memory_reply};
+use crate::committed::Committed;
+use handler::{Ask, Done, Handler};
+use indexmap::IndexMap;
+use model::{Kept, NoMemory, Reply, Step, TenantName, Unit};
+use shared_log::{SharedLog, Store};
+use std::alloc::Global;
+use std::marker::Model;
+use tenant::{Answer, Tenant};
+
+/// All tenants, and the log of all of them. It stores no history of their steps. Contracts see a host as its tenants
+/// and its log, and say what is true of each history that it is the replay of: a new host is that of the empty one,
+/// and a step makes it that of the same history with one entry more.
+#[derive(Drop)]
+pub struct Host<H: Handler, S: Store> {
+    alloc: Global,
+    handler: H,
+    log: SharedLog<S>,
+    tenants: Tenants<H>,
+}
+
+impl<H: Handler, S: Store> Model for Host<H, S> {
+    ghost use Rattle.book.specs.Standing.{Hosted};
+    ghost use Rattle.tenant.specs.Stands.{TenantState};
+
+    ghost Value = { Hosted (TenantState H.State) };
+
+    ghost view = { λ h. record { entries = h.tenants.entries; log = h.log } };
+}
+
+impl<H: Handler, S: Store> Host<H, S> {
+    /// A host with no tenants, over a store that acknowledged nothing yet. It takes no memory.
+    pub fn new(alloc: Global, handler: H, store: S) -> Host<H, S>
+        requires { S.log store ≡ [] }
+        ensures replay { HostReplays H.meaning result [] }
+        ensures records { result.log.records ≡ [] }
+        ensures failures { result.log.failures ≡ S.failures store }
+    {
+        Host {
+            alloc,
+            handler,
+            log: SharedLog::new(alloc, store),
+            tenants: IndexMap::new(alloc),
+        }
+    }
+
+    /// Its allocator.
+    pub(crate) fn alloc(&self) -> Global {
+        self.alloc
+    }
+
+    /// Its handler.
+    pub(crate) fn handler(&self) -> &H {
+        &self.handler
+    }
+
+    /// Does a step of any tenant. Where no memory was found nothing is changed.
+    #[inline(always)]
+    pub(crate) fn answer(&mut self, step: &Step) -> Result<Answer, NoMemory>
+        ensures kept { IfOk result (λ a. a.kept ≡ a.reply) }
+        ensures answered { IfOk result (λ a. IsAnswered H.meaning step.now a.said a.reply (held_by self.old) (held_by self.new)) }
+        ensures err { OnErr result (HoldsAsBefore (held_by self.old) (held_by self.new)) }
+    {
+        answer(
+            self.alloc,
+            &self.handler,
+            &mut self.tenants,
+            &mut self.log,
+            step,
+        )
+    }
+
+    /// Does a step of any tenant by a turn that was worked, if it needs no other. Where there is no
+    /// answer, or no memory was found, nothing is changed.
+    pub(crate) fn answer_with(
+        &mut self,
+        step: &Step,
+        worked: Done<H>,
+    ) -> Result<Option<Answer>, NoMemory>
+        ensures fresh { IfOk result (λ o. (w : Option World)
+            → StandsAt H.meaning (addressed step.now).0 ((held_by self.old).at (addressed step.now).0) w self.old.log.records
+            → WasFresh (needs_at H.meaning w (addressed step.now).1) worked.input o) }
+        ensures kept { IfOk result (λ o. IfSome o (λ a. a.kept ≡ a.reply)) }
+        ensures answered { IfOk result (λ o.
+            IfSome o (λ a. IsAnswered H.meaning step.now a.said a.reply (held_by self.old) (held_by self.new))) }
+        ensures stale { IfOk result (λ o. IfNone o (HoldsAsBefore (held_by self.old) (held_by self.new))) }
+        ensures stale_log { IfOk result (λ o. IfNone o (self.new.log ≡ self.old.log)) }
+        ensures err { OnErr result (HoldsAsBefore (held_by self.old) (held_by self.new)) }
+    {
+        answer_with(
+            self.alloc,
+            &self.handler,
+            &mut self.tenants,
+            &mut self.log,
+            step,
+            worked,
+        )
+    }
+
+    /// Does a step. Whichever book the host stood for, and whoever gave the step: it is entered there with its reply,
+    /// and the host stands for that book then; or there was no memory for it, and tenants and records are as they were.
+    pub fn step(&mut self, step: Step) -> Reply
+        ensures { (who : Who) → Carries (IsHostOf H.meaning) (EntersHonestly H.meaning who step result) self.old self.new }
+    {
+        match self.answer(&step) {
+            Err(_) => memory_reply(&step),
+            Ok(answer) => reply_of(answer),
+        }
+    }
+
+    /// The whole input of the turn that the step now needs, if it needs one: a post or a delivery
+    /// needs one, unless it is refused before its turn. Whoever works it may do so beside the host,
+    /// and commit it with `step_with`. `NoMemory` comes where there is none for the copies.
+    pub fn prepare(&self, step: &Step) -> Result<Option<Ask<H>>, NoMemory>
+        ensures { (history : List Entry) → HostReplays H.meaning self.now history
+            → IfOk result (λ a. a ≡ needed H.meaning history step.now) }
+    {
+        ask(self.alloc, &self.handler, &self.tenants, step)
+    }
+
+    /// Does a step by a turn that was worked, as `step` does. The step is given back, with nothing changed, exactly
+    /// where it now needs a turn of another whole input (seat, state, source and text).
+    pub fn step_with(&mut self, step: Step, worked: Done<H>) -> Committed
+        ensures { (who : Who)
+            → Carries (IsHostOf H.meaning) (CommitsHonestly H.meaning who step worked.input result) self.old self.new }
+    {
+        match self.answer_with(&step, worked) {
+            Err(_) => Committed::Reply(memory_reply(&step)),
+            Ok(None) => Committed::Stale(step),
+            Ok(Some(answer)) => Committed::Reply(reply_of(answer)),
+        }
+    }
+
+    /// The open tenant of this name.
+    pub(crate) fn tenant(&self, name: &TenantName) -> Option<&Tenant<H>>
+        ensures { MatchOption result ((held_by self.now).at name.now ≡ None) (λ t.
+            (held_by self.now).at name.now ≡ Some t.now) }
+    {
+        self.tenants.get(name)
+    }
+
+    /// The names of the open tenants, in the order of opening. `NoMemory` comes where there is none
+    /// for the copies.
+    pub fn tenants(&self) -> Result<Vec<TenantName>, NoMemory>
+        ensures { (history : List Entry) → HostReplays H.meaning self.now history
+            → IfOk result (λ names. names.items ≡ opened history) }
+    {
+        self.names()
+    }
+
+    fn names(&self) -> Result<Vec<TenantName>, NoMemory>
+        ensures { IfOk result (λ names. names.items ≡ (held_by self.now).names) }
+    {
+        names_of(self.alloc, self.tenants.keys().as_slice())
+    }
+
+    /// How much the host keeps of the past of a unit of the tenant, if the tenant is open and has the unit: what the
+    /// rules of keeping leave of the tenant's own entries. Takes no memory, and time by the number of its letters.
+    pub fn kept(&self, tenant: &TenantName, unit: Unit) -> Option<Kept>
+        ensures { (history : List Entry) → HostReplays H.meaning self.now history
+            → result ≡ kept_after H.meaning tenant.now history unit }
+    {
+        match self.tenants.get(tenant) {
+            Some(open) => open.kept(unit),
+            None => None,
+        }
+    }
+}
+
+/// The reply of an answer.
+fn reply_of(answer: Answer) -> Reply
+    ensures { result ≡ answer.reply }
+{
+    let Answer { reply, .. } = answer;
+    reply
+}
+
+/// Equal names.
+fn names_of(alloc: Global, names: &[TenantName]) -> Result<Vec<TenantName>, NoMemory>
+    ensures { IfOk result (λ copies. copies.items ≡ names.now) }
+{
+    let mut copies = Vec::new(alloc);
+    for name in names {
+        copies.push(name.copy())?;
+    }
+    Ok(copies)
+}

@@ -1,0 +1,59 @@
+//! `draw`.
+
+use crate::diagram_of::diagram_of;
+use files::{Unfit, why_unfit};
+use handler::Handler;
+use log::{Log, error};
+use std::fs::{File, Files, OpenOptions};
+use std::io::{self, ErrorKind, Input, Write};
+use std::time::Clock;
+use terminal::Patient;
+use words::DrawWords;
+
+/// `draw`: draws to the file that is named, or to standard output.
+pub fn draw_on<
+    R: Files<File = File> + Clock + Print + Input + AllocGlobal,
+    L: Log,
+    H: Handler + Copy,
+>(rt: &R, told: &L, handler: H, draw: &DrawWords<'_>) -> u8 {
+    let input = Patient::new(rt, rt.reader());
+    let found = diagram_of(told, rt.alloc(), handler, input, draw.tenant, draw.window);
+    let Some(diagram) = found else {
+        return 1;
+    };
+    let Some(path) = draw.to else {
+        let mut output = Patient::new(rt, io::writer(rt));
+        return put_diagram(told, &mut output, diagram.as_str());
+    };
+    match make_picture(rt, path) {
+        Ok(mut file) => put_diagram(told, &mut file, diagram.as_str()),
+        Err(error) => {
+            error!(told; "can't make {path:?}: {error}");
+            1
+        }
+    }
+}
+
+/// Makes the picture's file anew, which must not be the input.
+fn make_picture<R: Files<File = File>>(rt: &R, path: &str) -> io::Result<File> {
+    let mut options = OpenOptions::new();
+    options.write(true).create(true);
+    let file = options.open(rt, path)?;
+    let found = file.metadata()?;
+    if why_unfit(rt, &found) == Some(Unfit::Input) {
+        return Err(io::Error::new(ErrorKind::InvalidInput, "it is the input of this run"));
+    }
+    if found.is_file() {
+        file.set_len(0)?;
+    }
+    Ok(file)
+}
+
+/// Writes a diagram, and tells the status to end with.
+fn put_diagram<L: Log, W: Write>(told: &L, writer: &mut W, diagram: &str) -> u8 {
+    if writer.write_all(diagram.as_bytes()).is_err() || writer.flush().is_err() {
+        error!(told; "the diagram can't be written");
+        return 1;
+    }
+    0
+}

@@ -1,0 +1,18 @@
+//! What is told behind the last reply, for any handler.
+//!
+//! - `audit_all` (`audits`): the audit lines, thin over `auditor::audit_part`, which carries its own theorem;
+//! - `tell_kept` (`kept`): how much is kept of the past.
+//!
+//! For `runs` and `feed_runs`. A caller:
+//!
+//! ```
+//! tell_kept(told, book, asked.talk);
+//! audit_all(told, alloc, &handler, writer, book)
+//! ```
+#![tactic(auto)]
+
+mod audits;
+mod kept;
+
+pub use audits::audit_all;
+pub use kept::tell_kept;

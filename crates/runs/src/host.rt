@@ -1,8 +1,0 @@
-//! What is hosted.
-
-/// A handler, and the names of the kinds that it knows.
-#[derive(Clone, Copy, Debug)]
-pub struct Host<'a, H> {
-    pub handler: H,
-    pub kinds: &'a [&'a str],
-}

@@ -1,0 +1,8 @@
+//! What is hosted.
+
+/// A handler, and the names of the kinds that it knows.
+#[derive(Clone, Copy, Debug)]
+pub struct Hosted<'a, H> {
+    pub handler: H,
+    pub kinds: &'a [&'a str],
+}
