@@ -3,8 +3,8 @@
 Long texts go down a chain of units that put them out and send them on. The run may take three times their bytes at its
 peak: kept once, they and all else take less than that, and eight times as much where each unit keeps its own.
 
-Short posts are all logged. Each may take 480 bytes for its entry, its record, its interval, its letter and its place in
-the log. They take more where each record has a name of its own for its tenant.
+Short posts are all logged. Each may take 290 bytes for its record, its interval, its letter and its place in the log. They
+take more where each record has a name of its own for its tenant, and where a history is stored.
 """
 
 import json
@@ -12,7 +12,7 @@ import re
 
 UNITS = ["tee", "tee", "tee", "echo"]
 TEXTS, BATCH, BYTES = 4000, 100, 4096
-FIRST, POSTS, POST_BYTES = 10000, 50000, 480
+FIRST, POSTS, POST_BYTES = 10000, 50000, 290
 
 
 def line(**members):
