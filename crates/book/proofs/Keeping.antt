@@ -1,12 +1,12 @@
 -- Of its past a tenant keeps what the rules leave of its own entries.
 use Rattle.std.proofs.Common.{◌≡◌, refl, sym, ap, subst, ◌∙◌, ℕ, List, [], ◌∷◌, ◌++◌}
-use Rattle.std.specs.Prelude.{Option, None, Some, Result, Ok, Err, IfOk, IfSome}
+use Rattle.std.specs.Prelude.{Option, None, Some, IfSome}
 use Rattle.std.specs.List.{fold}
 use Rattle.std.proofs.lemmas.List.Sums.{fold-append}
-use Rattle.model.specs.Alone.{Event, alone, course_from, step, step_open}
+use Rattle.model.specs.Alone.{Event, course_from}
 use Rattle.model.specs.Handler.{Meaning}
 use Rattle.model.specs.History.{own, pairs}
-use Rattle.model.specs.Keeping.{Keeping, Shelf, kept_at, kept_in, kept_of, keeping, keeping_on, shelves_in}
+use Rattle.model.specs.Keeping.{Keeping, Shelf, kept_in, kept_of, keeping, keeping_on, shelves_in}
 use Rattle.model.specs.Steps.{Outcome, open_new}
 use Rattle.model.specs.World.{World}
 use Rattle.model.specs.declared.kept.Kept.{Kept as Amount}

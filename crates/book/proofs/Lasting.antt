@@ -5,7 +5,7 @@ use Rattle.std.proofs.lemmas.List.{take-append-drop}
 use Rattle.std.proofs.lemmas.Option.{same_Some}
 use mathlib.Core.List.{IsPrefix}
 use Rattle.model.specs.Alone.{Event, alone, course_from, step}
-use Rattle.model.specs.FailureFree.{BeginWith, CertificateHolds, Network, Worker, certificate, failure_free, opening_seats}
+use Rattle.model.specs.FailureFree.{BeginWith, CertificateHolds, Network, Worker}
 use Rattle.model.specs.Handler.{Meaning}
 use Rattle.model.specs.History.{own, pairs}
 use Rattle.model.specs.World.{Member, World}

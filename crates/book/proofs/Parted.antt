@@ -6,7 +6,6 @@ use Rattle.model.specs.Alone.{Event, alone}
 use Rattle.model.specs.Handler.{Meaning}
 use Rattle.model.specs.History.{IsLegal, names, own, pairs, replies_to}
 use Rattle.model.specs.declared.replies.Entry.{Entry}
-use Rattle.model.specs.declared.replies.Reply.{Reply}
 use Rattle.model.specs.declared.replies.Said.{Said}
 use Rattle.model.specs.declared.steps.Step.{Step}
 use Rattle.book.specs.History.{entries_of}

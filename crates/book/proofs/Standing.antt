@@ -1,6 +1,7 @@
 -- A host goes on from each book that it stands for.
-use Rattle.std.proofs.Common.{◌≡◌, ◌≤◌, ◌∙◌, inl, inr, refl, sym, subst, ℕ, List, [], ◌∷◌, ◌++◌}
-use Rattle.std.specs.Prelude.{Option, Result, Ok, Err, Some, None}
+use Rattle.std.proofs.Common.{◌≡◌, ◌≤◌, ◌∙◌, ap, inl, inr, refl, sym, subst, true, false, bytes_eq, ℕ, List, [], ◌∷◌, ◌++◌}
+use Rattle.std.proofs.lemmas.Option.{same_Some}
+use Rattle.std.specs.Prelude.{IfSome, Option, Some, None}
 use Rattle.model.specs.Handler.{Meaning}
 use Rattle.model.specs.declared.records.Record.{Record}
 use Rattle.model.specs.declared.replies.Entry.{Entry}
@@ -9,11 +10,13 @@ use Rattle.model.specs.declared.replies.Said.{Said}
 use Rattle.model.specs.declared.replies.Who.{Who}
 use Rattle.model.specs.declared.steps.Step.{Step}
 use Rattle.shared_log.specs.Logged.{Logged}
-use Rattle.tenant.specs.Stands.{TenantState, StandsAt}
+use Rattle.tenant.specs.Stands.{KeepsTexts, TenantState, Stands, StandsAt}
 use Rattle.book.specs.Entries.{CountsDevice, IsAdded, Ledger, memory_reply}
-use Rattle.book.specs.History.{HoldsAsBefore, Holding, IsAnswered, IsRecordedIn, IsReplay, IsSaidHonestly, opened, world_of}
-use Rattle.book.specs.Keeping.{KeepsAt, keeping_after}
-use Rattle.book.specs.Standing.{Carries, CommitsHonestly, EntersHonestly, Hosted, IsHostOf, held_by}
+use Rattle.book.specs.History.{HoldsAsBefore, Holding, IsAnswered, IsRecordedIn, IsReplay, IsSaidHonestly, world_of}
+use Rattle.book.specs.Keeping.{KeepsAt, KeepsIn, keeping_after}
+use Rattle.model.specs.Keeping.{Keeping, Shelf}
+use Rattle.tenant.specs.Keeping.{KeepsPast}
+use Rattle.book.specs.Standing.{Carries, CommitsHonestly, EntersHonestly, Hosted, IsHostOf, KeepTexts, ReplaysAsWell, held_by}
 use Rattle.handler.specs.Inputs.{Input}
 use Rattle.model.specs.Addresses.{addressed}
 use Rattle.model.specs.World.{World}
@@ -21,7 +24,7 @@ use Rattle.tenant.specs.Needs.{IsFresh}
 use Rattle.book.specs.Commits.{needs_at}
 use Rattle.book.specs.declared.committed.Committed.TheVariants.{Stale, Reply as Replied}
 use Rattle.book.proofs.Devices.{counts_still}
-use Rattle.book.proofs.Replays.{entered, is_added, none_added, said_honestly}
+use Rattle.book.proofs.Replays.{entered, is_added, none_added, said_honestly, same_name}
 
 module _ {S : Type 0} (M : Meaning S) where
   module _ (old new : Hosted (TenantState S)) where
@@ -141,3 +144,82 @@ module _ {S : Type 0} (M : Meaning S) where
             none_added M book next refl,
           ),
         )
+
+-- ---- behind a step the host changes, and stands for the same
+
+pub carries_on : {S : Type 0} (M : Meaning S) {Becomes : Ledger → Ledger → Type 0} (old mid new : Hosted (TenantState S)) → new.log ≡ mid.log
+    → ReplaysAsWell M mid new → Carries (IsHostOf M) Becomes old mid → Carries (IsHostOf M) Becomes old new
+carries_on M old mid new log as_well carried book stands =
+    let then = carried book stands in (
+      then.0,
+      record { replay = as_well then.0.history then.1.replay; log = then.1.log ∙ sym log },
+      then.2,
+    )
+
+module _ {S : Type 0} (M : Meaning S) (old new : Hosted (TenantState S)) (log : new.log ≡ old.log)
+    (stands : (t : List ℕ) (w : Option World) → StandsAt M t ((held_by old).at t) w old.log.records → StandsAt M t ((held_by new).at t) w old.log.records)
+    (keeps : (t : List ℕ) (k : Keeping) → KeepsAt ((held_by old).at t) k → KeepsAt ((held_by new).at t) k)
+    (order : (held_by new).names ≡ (held_by old).names) where
+  -- whoever stands for the same world under each name, and keeps the same of its past, is the same replay
+  pub as_well : ReplaysAsWell M old new
+  as_well history replay = record {
+    stands = λ t. subst (λ (l : Logged). StandsAt M t ((held_by new).at t) (world_of M t history) l.records) (sym log) (stands t (world_of M t history) (replay.stands t));
+    keeps = λ t. keeps t (keeping_after M t history) (replay.keeps t);
+    order = order ∙ replay.order;
+    legal = replay.legal;
+    recorded = subst (λ (l : Logged). IsRecordedIn M history l.records) (sym log) replay.recorded;
+    device = subst (λ (l : Logged). CountsDevice history l.failures) (sym log) replay.device;
+  }
+
+-- ---- texts that are kept
+
+-- where a tenant goes on so, and each other is as it was
+pub texts_on : {S : Type 0} (old new : List ℕ → Option (TenantState S)) (name : List ℕ) (t v : TenantState S) → old name ≡ Some t → new name ≡ Some v
+    → ((other : List ℕ) → bytes_eq other name ≡ false → new other ≡ old other) → (KeepsTexts t → KeepsTexts v) → KeepTexts old → KeepTexts new
+texts_on old new name t v was is others on kept =
+    λ other k there. elim (bytes_eq other name) as (λ b. bytes_eq other name ≡ b → KeepsTexts k) [
+      | true ↦ λ e. subst KeepsTexts (same_Some v k (sym is ∙ ap new (sym (same_name other name e)) ∙ there)) (on (kept name t was))
+      | false ↦ λ e. kept other k (sym (others other e) ∙ there)
+    ] refl
+
+-- where one more is there, which has all of its texts
+pub texts_more : {S : Type 0} (old new : List ℕ → Option (TenantState S)) (name : List ℕ) (v : Option (TenantState S)) → new name ≡ v → IfSome v KeepsTexts
+    → ((other : List ℕ) → bytes_eq other name ≡ false → new other ≡ old other) → KeepTexts old → KeepTexts new
+texts_more old new name v is whole others kept =
+    λ other k there. elim (bytes_eq other name) as (λ b. bytes_eq other name ≡ b → KeepsTexts k) [
+      | true ↦ λ e. subst (λ o. IfSome o KeepsTexts) (sym is ∙ ap new (sym (same_name other name e)) ∙ there) whole
+      | false ↦ λ e. kept other k (sym (others other e) ∙ there)
+    ] refl
+
+-- ---- texts that are given up
+
+module _ {S : Type 0} (M : Meaning S) (t v : TenantState S) where
+  module _ (stands : (name : List ℕ) (w : World) (records : List (Option Record)) → Stands M name t w records → Stands M name v w records) where
+    stands_at : (name : List ℕ) (w : Option World) (records : List (Option Record)) → StandsAt M name (Some t) w records → StandsAt M name (Some v) w records
+    stands_at name None records s = s
+    stands_at name (Some w) records s = stands name w records s
+
+  module _ (past : (w : World) (shelves : List Shelf) → KeepsPast t w shelves → KeepsPast v w shelves) where
+    keeps_in : (w : Option World) (shelves : List Shelf) → KeepsIn (Some t) w shelves → KeepsIn (Some v) w shelves
+    keeps_in None shelves k = k
+    keeps_in (Some w) shelves k = past w shelves k
+
+  module _ (old new : List ℕ → Option (TenantState S)) (name : List ℕ) (was : old name ≡ Some t) (is : new name ≡ Some v)
+      (others : (other : List ℕ) → bytes_eq other name ≡ false → new other ≡ old other) where
+    -- what holds of each tenant goes on to hold
+    each_goes_on : (P : List ℕ → Option (TenantState S) → Type 0) → ((n : List ℕ) → P n (Some t) → P n (Some v)) → (other : List ℕ) → P other (old other) → P other (new other)
+    each_goes_on P on other p =
+        elim (bytes_eq other name) as (λ b. bytes_eq other name ≡ b → P other (new other)) [
+          | true ↦ λ e.
+              let here : other ≡ name = same_name other name e in
+              subst (P other) (sym is ∙ ap new (sym here)) (on other (subst (P other) (ap old here ∙ was) p))
+          | false ↦ λ e. subst (P other) (sym (others other e)) p
+        ] refl
+
+    pub given_up_stands : ((n : List ℕ) (w : World) (records : List (Option Record)) → Stands M n t w records → Stands M n v w records)
+        → (other : List ℕ) (w : Option World) (records : List (Option Record)) → StandsAt M other (old other) w records → StandsAt M other (new other) w records
+    given_up_stands stands other w records = each_goes_on (λ n k. StandsAt M n k w records) (λ n. stands_at stands n w records) other
+
+    pub given_up_keeps : ((w : World) (shelves : List Shelf) → KeepsPast t w shelves → KeepsPast v w shelves)
+        → (other : List ℕ) (k : Keeping) → KeepsAt (old other) k → KeepsAt (new other) k
+    given_up_keeps past other k = each_goes_on (λ n o. KeepsAt o k) (λ n. keeps_in past k.world k.shelves) other

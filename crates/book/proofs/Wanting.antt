@@ -1,17 +1,17 @@
 -- No step is answered as one for which there was no memory.
-use Rattle.std.proofs.Common.{◌≡◌, ◌≢◌, refl, sym, ap, subst, ◌∙◌, ℕ, ◌-◌, ◌<◌, ◌≤◌, Bool, true, false, cond, not, min, if◌then◌else◌, List, [], ◌∷◌, ◌++◌, length, drop, map, arith}
+use Rattle.std.proofs.Common.{◌≡◌, ◌≢◌, refl, ap, ◌∙◌, ℕ, ◌-◌, Bool, true, false, cond, not, min, if◌then◌else◌, List, [], ◌∷◌, length, drop, map, arith}
 use Rattle.std.specs.Prelude.{Option, Some, None, nat_lt, slice_get}
 use Rattle.std.proofs.lemmas.List.{length-drop, length-map}
 use Rattle.model.specs.Addresses.{addressed}
-use Rattle.model.specs.Alone.{Event, step, step_open, step_unopened}
+use Rattle.model.specs.Alone.{step, step_open, step_unopened}
 use Rattle.model.specs.Handler.{Meaning}
 use Rattle.model.specs.Nodes.{Message}
 use Rattle.model.specs.Records.{FlushesUnit, IsFlushed, IsHonest, record_of}
-use Rattle.model.specs.Steps.{Outcome, at_unit, at_up, can_open, checkpoint, deliver, deliver_to, first_refusal, flush, flush_reply, if_letter, if_unit, is_down, join, join_kind, kill, notice, notice_orphan, notice_rows, opened_with, outcome_or, path_kept, post, post_to, release, restart, status, unless, flushed, with_member}
+use Rattle.model.specs.Steps.{Outcome, at_unit, at_up, can_open, deliver_to, first_refusal, flush, flush_reply, if_letter, if_unit, is_down, join_kind, notice_orphan, notice_rows, opened_with, outcome_or, path_kept, post_to, unless, flushed, with_member}
 use Rattle.model.specs.World.{Member, World, executed}
 use Rattle.model.specs.declared.records.Record.{Record}
 use Rattle.model.specs.declared.refusals.Refusal.{Refusal}
-use Rattle.model.specs.declared.refusals.Refusal.TheVariants.{BadLine, BadOpen, NoTenant, AlreadyOpen, NoUnit, Down, Up, NoLetter, Wait, Orphan, Repeat, Gap, Quota as OverQuota, TooMuch, Unlogged, Limit, Store, Memory, Pending}
+use Rattle.model.specs.declared.refusals.Refusal.TheVariants.{BadOpen, Down, Memory}
 use Rattle.model.specs.declared.replies.End.{End}
 use Rattle.model.specs.declared.replies.End.TheVariants.{Whole, Device, Memory as NoMemory}
 use Rattle.model.specs.declared.replies.Reply.{Reply}

@@ -1,5 +1,5 @@
 -- Which books a host stands for, and how a step goes on from each of them.
-use Rattle.std.specs.Prelude.{◌≡◌, ℕ, List, bytes_eq}
+use Rattle.std.specs.Prelude.{◌≡◌, ℕ, List, Option, Some, bytes_eq}
 use Rattle.std.specs.Map.{keys_of, lookup}
 use Rattle.handler.specs.Inputs.{Input}
 use Rattle.model.specs.Handler.{Meaning}
@@ -8,7 +8,7 @@ use Rattle.model.specs.declared.replies.Reply.{Reply}
 use Rattle.model.specs.declared.replies.Who.{Who}
 use Rattle.model.specs.declared.steps.Step.{Step}
 use Rattle.shared_log.specs.Logged.{Logged}
-use Rattle.tenant.specs.Stands.{TenantState}
+use Rattle.tenant.specs.Stands.{KeepsTexts, TenantState}
 use Rattle.book.specs.declared.committed.Committed.{Committed}
 use Rattle.book.specs.Commits.{Commits}
 use Rattle.book.specs.Entries.{IsEntered, Ledger}
@@ -35,6 +35,19 @@ HostReplays M host history = IsReplay M (held_by host) history
 pub record IsHostOf {S : Type 0} (M : Meaning S) (host : Hosted (TenantState S)) (book : Ledger) : Type 0 where
   pub replay : HostReplays M host book.history
   pub log : book.log ≡ host.log
+
+-- under each name no unit gave up a text that it released
+abbrev pub KeepTexts : {S : Type 0} → (List ℕ → Option (TenantState S)) → Type 0
+KeepTexts {S} at = (name : List ℕ) (k : TenantState S) → at name ≡ Some k → KeepsTexts k
+
+-- A book's host is the replay of its history, and has all texts that were released.
+pub record IsBook {S : Type 0} (M : Meaning S) (host : Hosted (TenantState S)) (history : List Entry) : Type 0 where
+  pub replay : HostReplays M host history
+  pub texts : KeepTexts (held_by host).at
+
+-- whatever history the first is the replay of, the second is so too
+abbrev pub ReplaysAsWell : {S : Type 0} → Meaning S → Hosted (TenantState S) → Hosted (TenantState S) → Type 0
+ReplaysAsWell M old new = (history : List Entry) → HostReplays M old history → HostReplays M new history
 
 -- Of each book that the first stood for a book became so for which the second stands.
 abbrev pub Carries : {A : Type 0} → (A → Ledger → Type 0) → (Ledger → Ledger → Type 0) → A → A → Type 0

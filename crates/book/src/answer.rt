@@ -7,16 +7,20 @@ ghost use Rattle.model.specs.World.{World};
 ghost use Rattle.model.specs.declared.records.Record.{Record};
 ghost use Rattle.tenant.specs.Needs.{WasFresh};
 ghost use Rattle.tenant.specs.Outcomes.{IsPlain};
-ghost use Rattle.tenant.specs.Stands.{IsOpened, StandsAt};
+ghost use Rattle.tenant.specs.Stands.{IsOpened, KeepsTexts, StandsAt};
 ghost use Rattle.shared_log.specs.Logged.{Logged};
 ghost use Rattle.book.specs.Commits.{needs_at};
 ghost use Rattle.book.specs.Entries.{memory_reply as reply_of_memory};
-ghost use Rattle.book.specs.Keeping.{KeepsOnAt};
+ghost use Rattle.model.specs.Keeping.{Keeping};
+ghost use Rattle.book.specs.Keeping.{KeepsAt, KeepsOnAt};
+ghost use Rattle.book.specs.Standing.{KeepTexts};
 ghost use Rattle.book.specs.History.{DidAt, IsAnswered, HoldsAsBefore, KeepsOthers, LogsAt, StepsAt, holding, opened_by};
 
 use handler::{Ask, Done, Handler};
 use indexmap::IndexMap;
-use model::{End, NoMemory, Quota, Refusal, Reply, Said, Step, TenantName, TenantStep, Texts};
+use model::{
+    End, NoMemory, Quota, Refusal, Reply, Said, Step, TenantName, TenantStep, Texts, Unit,
+};
 use shared_log::{SharedLog, Store};
 use std::alloc::Global;
 use tenant::{Answer, Tenant};
@@ -103,6 +107,7 @@ fn open_new<H: Handler>(
     ensures others { (t : List ℕ) → bytes_eq t name.now ≡ false
         → get bytes_eq tenants.new t ≡ get bytes_eq tenants.old t }
     ensures err { OnErr result (IsUnchanged tenants.old tenants.new) }
+    ensures texts { KeepTexts (get bytes_eq tenants.old) → KeepTexts (get bytes_eq tenants.new) }
 {
     if tenants.reserve(1).is_err() {
         return Err(NoMemory);
@@ -143,6 +148,7 @@ fn answer_open<H: Handler, S: Store>(
     ensures up { log.old.failures ≤ log.new.failures }
     ensures err { OnErr result (tenant.new ≡ tenant.old) }
     ensures err_log { OnErr result (log.new.records ≡ log.old.records) }
+    ensures texts { KeepsTexts tenant.old → KeepsTexts tenant.new }
 {
     tenant.step(alloc, handler, name, step, log)
 }
@@ -163,6 +169,7 @@ fn answer_unopened<H: Handler>(
     ensures others { (t : List ℕ) → bytes_eq t name.now ≡ false
         → get bytes_eq tenants.new t ≡ get bytes_eq tenants.old t }
     ensures err { OnErr result (IsUnchanged tenants.old tenants.new) }
+    ensures texts { KeepTexts (get bytes_eq tenants.old) → KeepTexts (get bytes_eq tenants.new) }
 {
     match step {
         TenantStep::Open {
@@ -186,6 +193,7 @@ pub(crate) fn answer<H: Handler, S: Store>(
     ensures answered { IfOk result (λ a.
         IsAnswered H.meaning step.now a.said a.reply (holding tenants.old log.old) (holding tenants.new log.new)) }
     ensures err { OnErr result (HoldsAsBefore (holding tenants.old log.old) (holding tenants.new log.new)) }
+    ensures texts { KeepTexts (get bytes_eq tenants.old) → KeepTexts (get bytes_eq tenants.new) }
 {
     let own_step = step.tenant_step()?;
     let name = step.tenant();
@@ -193,6 +201,20 @@ pub(crate) fn answer<H: Handler, S: Store>(
         return answer_open(alloc, handler, tenant, name, own_step, log);
     }
     answer_unopened(alloc, handler, tenants, name, own_step)
+}
+
+/// Gives up the texts that a unit of the tenant of this name released, if both are there.
+pub(crate) fn give_up<H: Handler>(tenants: &mut Tenants<H>, name: &TenantName, unit: Unit)
+    ensures stands { (t : List ℕ) (w : Option World) (records : List (Option Record))
+        → StandsAt H.meaning t (get bytes_eq tenants.old t) w records
+        → StandsAt H.meaning t (get bytes_eq tenants.new t) w records }
+    ensures keeps { (t : List ℕ) (k : Keeping) → KeepsAt (get bytes_eq tenants.old t) k
+        → KeepsAt (get bytes_eq tenants.new t) k }
+    ensures names { keys tenants.new ≡ keys tenants.old }
+{
+    if let Some(tenant) = tenants.get_mut(name) {
+        tenant.give_up(unit);
+    }
 }
 
 /// The input of the turn that a step of any tenant now needs, if it needs one.
@@ -244,6 +266,7 @@ fn answer_open_with<H: Handler, S: Store>(
     ensures stale_log { IfOk result (λ o. IfNone o (log.new ≡ log.old)) }
     ensures err { OnErr result (tenant.new ≡ tenant.old) }
     ensures err_log { OnErr result (log.new.records ≡ log.old.records) }
+    ensures texts { KeepsTexts tenant.old → KeepsTexts tenant.new }
 {
     tenant.step_with(alloc, handler, name, step, worked, log)
 }
@@ -270,6 +293,7 @@ pub(crate) fn answer_with<H: Handler, S: Store>(
         (HoldsAsBefore (holding tenants.old log.old) (holding tenants.new log.new))) }
     ensures stale_log { IfOk result (λ o. IfNone o (log.new ≡ log.old)) }
     ensures err { OnErr result (HoldsAsBefore (holding tenants.old log.old) (holding tenants.new log.new)) }
+    ensures texts { KeepTexts (get bytes_eq tenants.old) → KeepTexts (get bytes_eq tenants.new) }
 {
     let own_step = step.tenant_step()?;
     let name = step.tenant();

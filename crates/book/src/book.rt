@@ -31,13 +31,13 @@ pub struct Book<H: Handler, S: Store> {
 
 impl<H: Handler, S: Store> Model for Book<H, S> {
     ghost use Rattle.book.specs.Entries.{Ledger};
-    ghost use Rattle.book.specs.Standing.{HostReplays};
+    ghost use Rattle.book.specs.Standing.{IsBook};
 
     ghost Value = { Ledger };
 
     ghost view = { λ b. record { history = b.history.items; log = b.host.log } };
 
-    ghost invariant = { λ b. HostReplays H.meaning b.host b.history.items };
+    ghost invariant = { λ b. IsBook H.meaning b.host b.history.items };
 }
 
 impl<H: Handler, S: Store> Book<H, S> {

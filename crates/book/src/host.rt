@@ -11,9 +11,9 @@ ghost use Rattle.std.specs.Prelude.{Option};
 ghost use Rattle.book.specs.Commits.{needed, needs_at};
 ghost use Rattle.book.specs.History.{HoldsAsBefore, IsAnswered, opened};
 ghost use Rattle.book.specs.Keeping.{kept_after};
-ghost use Rattle.book.specs.Standing.{Carries, CommitsHonestly, EntersHonestly, HostReplays, IsHostOf, held_by};
+ghost use Rattle.book.specs.Standing.{Carries, KeepTexts, ReplaysAsWell, CommitsHonestly, EntersHonestly, HostReplays, IsHostOf, held_by};
 
-use crate::answer::{Tenants, answer, answer_with, ask, memory_reply};
+use crate::answer::{Tenants, answer, answer_with, ask, give_up, memory_reply};
 use crate::committed::Committed;
 use handler::{Ask, Done, Handler};
 use indexmap::IndexMap;
@@ -50,6 +50,7 @@ impl<H: Handler, S: Store> Host<H, S> {
         ensures replay { HostReplays H.meaning result [] }
         ensures records { result.log.records ≡ [] }
         ensures failures { result.log.failures ≡ S.failures store }
+        ensures texts { KeepTexts (held_by result).at }
     {
         Host {
             alloc,
@@ -75,6 +76,7 @@ impl<H: Handler, S: Store> Host<H, S> {
         ensures kept { IfOk result (λ a. a.kept ≡ a.reply) }
         ensures answered { IfOk result (λ a. IsAnswered H.meaning step.now a.said a.reply (held_by self.old) (held_by self.new)) }
         ensures err { OnErr result (HoldsAsBefore (held_by self.old) (held_by self.new)) }
+        ensures texts { KeepTexts (held_by self.old).at → KeepTexts (held_by self.new).at }
     {
         answer(
             self.alloc,
@@ -101,6 +103,7 @@ impl<H: Handler, S: Store> Host<H, S> {
         ensures stale { IfOk result (λ o. IfNone o (HoldsAsBefore (held_by self.old) (held_by self.new))) }
         ensures stale_log { IfOk result (λ o. IfNone o (self.new.log ≡ self.old.log)) }
         ensures err { OnErr result (HoldsAsBefore (held_by self.old) (held_by self.new)) }
+        ensures texts { KeepTexts (held_by self.old).at → KeepTexts (held_by self.new).at }
     {
         answer_with(
             self.alloc,
@@ -119,8 +122,22 @@ impl<H: Handler, S: Store> Host<H, S> {
     {
         match self.answer(&step) {
             Err(_) => memory_reply(&step),
-            Ok(answer) => reply_of(answer),
+            Ok(answer) => {
+                self.give_up_after(&step);
+                reply_of(answer)
+            }
         }
+    }
+
+    /// Gives up the texts that this step released, which are in its reply: of a host nobody may ask for them.
+    pub(crate) fn give_up_after(&mut self, step: &Step)
+        ensures log { self.new.log ≡ self.old.log }
+        ensures replay { ReplaysAsWell H.meaning self.old self.new }
+    {
+        let Step::Release { tenant, unit } = step else {
+            return;
+        };
+        give_up(&mut self.tenants, tenant, *unit);
     }
 
     /// The whole input of the turn that the step now needs, if it needs one: a post or a delivery
@@ -142,7 +159,10 @@ impl<H: Handler, S: Store> Host<H, S> {
         match self.answer_with(&step, worked) {
             Err(_) => Committed::Reply(memory_reply(&step)),
             Ok(None) => Committed::Stale(step),
-            Ok(Some(answer)) => Committed::Reply(reply_of(answer)),
+            Ok(Some(answer)) => {
+                self.give_up_after(&step);
+                Committed::Reply(reply_of(answer))
+            }
         }
     }
 

@@ -15,8 +15,9 @@ pub record Issued : Type 0 where
   pub unit : ℕ
   pub output : Held
 
--- what a unit released, and how many more texts can follow without a growth
+-- what a unit released: how many texts were given up, the texts behind those, and how many more can follow without a growth
 pub record Line : Type 0 where
+  pub gone : ℕ
   pub texts : List (List ℕ)
   pub room : ℕ
 
@@ -37,13 +38,17 @@ abbrev pub held_below : List Held → ℕ → List Held
 held_below outputs index = take_while (λ o. nat_lt o.mark.index index) outputs
 
 abbrev pub no_line : Line
-no_line = record { texts = []; room = 0 }
+no_line = record { gone = 0; texts = []; room = 0 }
 
 -- the list of a unit
 abbrev pub line_of : List Line → ℕ → Line
 line_of lines unit = slice_index_or lines unit no_line
 
--- what a unit released; nothing where it has no list
+-- how many of its texts a unit gave up
+abbrev pub gone_of : List Line → ℕ → ℕ
+gone_of lines unit = (line_of lines unit).gone
+
+-- what a unit released behind those; nothing where it has no list
 abbrev pub line_texts : List Line → ℕ → List (List ℕ)
 line_texts lines unit = (line_of lines unit).texts
 

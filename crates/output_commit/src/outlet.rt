@@ -1,7 +1,7 @@
 //! What left.
 
 ghost use Rattle.std.specs.Prelude.{◌≡◌, ◌+◌, ◌<◌, ◌≤◌, ◌∷◌, [], ◌++◌, IfErr, IfOk, IsOk, OnErr, OnOk, length, max, vec_capacity, vec_len, ◌≢◌, ℕ};
-ghost use Rattle.output_commit.specs.Holds.{IsOut, room_of, line_texts};
+ghost use Rattle.output_commit.specs.Holds.{IsOut, gone_of, line_of, line_texts, room_of};
 
 use crate::held::Held;
 use crate::ticket::Ticket;
@@ -9,26 +9,35 @@ use model::{NoMemory, Text, Unit};
 use std::alloc::Global;
 use std::marker::Model;
 
-/// What one unit released.
+/// What one unit released: how many texts were given up, and those behind them.
 #[derive(Drop)]
 pub struct Released {
+    gone: u64,
     texts: Vec<Text>,
 }
 
 impl Model for Released {
-    ghost use Rattle.std.specs.Prelude.{◌-◌, vec_len, vec_capacity};
+    ghost use Rattle.std.specs.Prelude.{◌-◌, ◌+◌, ◌<◌, ◌^◌, min, vec_len, vec_capacity};
     ghost use Rattle.output_commit.specs.Holds.{Line};
 
     ghost Value = { Line };
 
-    ghost view = { λ r. record { texts = r.texts.items; room = vec_capacity r.texts - vec_len r.texts } };
+    ghost view = { λ r. record {
+      gone = r.gone;
+      texts = r.texts.items;
+      room = min (vec_capacity r.texts - vec_len r.texts) (2 ^ 64 - 1 - (r.gone + vec_len r.texts));
+    } };
+
+    ghost invariant = { λ r. r.gone + vec_len r.texts < 2 ^ 64 };
 }
 
 impl Released {
     pub(crate) fn new(alloc: Global) -> Released
-        ensures { result.texts ≡ [] }
+        ensures gone { result.gone ≡ 0 }
+        ensures texts { result.texts ≡ [] }
     {
         Released {
+            gone: 0,
             texts: Vec::new(alloc),
         }
     }
@@ -39,21 +48,46 @@ impl Released {
         self.texts.as_slice()
     }
 
+    /// How many texts there were, those that were given up among them.
+    pub(crate) fn count(&self) -> u64
+        ensures { result ≡ self.now.gone + length self.now.texts }
+    {
+        self.gone + self.texts.len() as u64
+    }
+
+    /// `NoMemory` also comes where their count would pass 64 bits.
     pub(crate) fn reserve(&mut self, k: usize) -> Result<(), NoMemory>
+        ensures gone { self.new.gone ≡ self.old.gone }
         ensures texts { self.new.texts ≡ self.old.texts }
         ensures room { IfOk result (λ _. k ≤ self.new.room) }
     {
+        if u64::MAX - self.count() < k as u64 {
+            return Err(NoMemory);
+        }
         self.texts.reserve(k)?;
         Ok(())
     }
 
+    /// Gives its texts up.
+    pub(crate) fn give_up(&mut self)
+        ensures gone { self.new.gone ≡ self.old.gone + length self.old.texts }
+        ensures texts { self.new.texts ≡ [] }
+    {
+        self.gone += self.texts.len() as u64;
+        self.texts.clear();
+    }
+
     pub(crate) fn emit(&mut self, ticket: Ticket) -> Result<(), Ticket>
+        ensures gone { self.new.gone ≡ self.old.gone }
         ensures ok { OnOk result (self.new.texts ≡ self.old.texts ++ ticket.output.text ∷ []) }
         ensures err { OnErr result (self.new.texts ≡ self.old.texts) }
         ensures back { IfErr result (λ t. t ≡ ticket) }
         ensures succeeds { 0 < self.old.room → IsOk result }
         ensures room { self.old.room ≤ self.new.room + 1 }
     {
+        if self.count() == u64::MAX {
+            return Err(ticket);
+        }
         let unit = ticket.unit();
         let Held { mark, text } = ticket.into_output();
         match self.texts.push(text) {
@@ -90,6 +124,7 @@ impl Outlet {
     pub fn new(alloc: Global, n: usize) -> Result<Outlet, NoMemory>
         ensures len { IfOk result (λ o. length o ≡ n) }
         ensures none { IfOk result (λ o. (u : ℕ) → line_texts o u ≡ []) }
+        ensures gone { IfOk result (λ o. (u : ℕ) → gone_of o u ≡ 0) }
     {
         let mut outlet = Outlet {
             lines: Vec::new(alloc),
@@ -105,7 +140,30 @@ impl Outlet {
         self.lines.len()
     }
 
-    /// What the unit released, in order.
+    /// How many texts the unit released.
+    #[tactic(auto, using(crate::proofs::Lines::line_laws))]
+    pub fn count(&self, unit: Unit) -> u64
+        requires { unit < length self.now }
+        ensures { result ≡ gone_of self.now unit + length (line_texts self.now unit) }
+    {
+        let line = &self.lines[usize::from(unit.number())];
+        line.count()
+    }
+
+    /// Gives up the texts that the unit released. Their count stays.
+    #[tactic(auto, using(crate::proofs::Lines::line_laws))]
+    pub fn give_up(&mut self, unit: Unit)
+        requires { unit < length self.old }
+        ensures len { length self.new ≡ length self.old }
+        ensures gone { gone_of self.new unit ≡ gone_of self.old unit + length (line_texts self.old unit) }
+        ensures texts { line_texts self.new unit ≡ [] }
+        ensures others { (u : ℕ) → u ≢ unit → line_of self.new u ≡ line_of self.old u }
+    {
+        let line = &mut self.lines[usize::from(unit.number())];
+        line.give_up();
+    }
+
+    /// What the unit released behind the texts that were given up, in order.
     #[tactic(auto, using(crate::proofs::Lines::line_laws))]
     pub fn released(&self, unit: Unit) -> &[Text]
         requires { unit < length self.now }
@@ -125,6 +183,7 @@ impl Outlet {
         requires { unit < length self.old }
         ensures len { length self.new ≡ length self.old }
         ensures texts { (u : ℕ) → line_texts self.new u ≡ line_texts self.old u }
+        ensures gone { (u : ℕ) → gone_of self.new u ≡ gone_of self.old u }
         ensures room { IfOk result (λ _. k ≤ room_of self.new unit) }
     {
         let line = &mut self.lines[usize::from(unit.number())];
@@ -143,6 +202,7 @@ impl Outlet {
         ensures len { length self.new ≡ length self.old }
         ensures ok { OnOk result (IsOut self.old ticket.unit ticket.output.text self.new) }
         ensures others { (u : ℕ) → u ≢ ticket.unit → line_texts self.new u ≡ line_texts self.old u }
+        ensures gone { (u : ℕ) → gone_of self.new u ≡ gone_of self.old u }
         ensures err { OnErr result (line_texts self.new ticket.unit ≡ line_texts self.old ticket.unit) }
         ensures back { IfErr result (λ t. t ≡ ticket) }
         ensures succeeds { 0 < room_of self.old ticket.unit → IsOk result }
@@ -160,6 +220,7 @@ impl Outlet {
     pub fn widen(&mut self, n: usize) -> Result<(), NoMemory>
         ensures len { IfOk result (λ _. length self.new ≡ max n (length self.old)) }
         ensures texts { (u : ℕ) → line_texts self.new u ≡ line_texts self.old u }
+        ensures gone { (u : ℕ) → gone_of self.new u ≡ gone_of self.old u }
         ensures err { OnErr result (length self.new ≡ length self.old) }
     {
         let missing = n.saturating_sub(self.lines.len());
@@ -175,6 +236,7 @@ fn push_empty(lines: &mut Vec<Released>, count: usize)
     requires { vec_len lines.old + count ≤ vec_capacity lines.old }
     ensures len { length lines.new.items ≡ length lines.old.items + count }
     ensures texts { (u : ℕ) → line_texts lines.new.items u ≡ line_texts lines.old.items u }
+    ensures gone { (u : ℕ) → gone_of lines.new.items u ≡ gone_of lines.old.items u }
 {
     let alloc = *lines.allocator();
     for _ in 0..count {

@@ -349,6 +349,7 @@ module _ {S : Type 0} (M : Meaning S) (name : List ℕ) (t : TenantState S) (w :
           width = length-set t.members u q ∙ is.width ∙ sym width_is;
           stables = length-set t.stable_lengths u (stable_places (returned r target wt.progress)) ∙ is.stables ∙ sym width_is;
           fronts = is.fronts ∙ sym width_is;
+          counts = is.counts ∙ sym width_is;
           lines = is.lines ∙ sym width_is;
           members = λ c n z atn atz. elim (get_set t.members u c q n atn) [
             | inl e ↦ elim (get_set k.units u c after_unit z atz) [

@@ -146,6 +146,7 @@ module _ {S : Type 0} (M : Meaning S) (kinds : List (List ℕ)) (quota : Quota) 
     width = all_begun.same;
     stables = length-replicate width 1 ∙ sym count;
     fronts = length-replicate width 1 ∙ sym count;
+    counts = length-replicate width 0 ∙ sym count;
     lines = length-replicate width [] ∙ sym count;
     members = λ u m x e f.
         let b = all_begun.each u m x e f in
@@ -158,7 +159,7 @@ module _ {S : Type 0} (M : Meaning S) (kinds : List (List ℕ)) (quota : Quota) 
           known = refl;
           stable = replicated width u 1 within;
           frontier = replicated width u 1 within;
-          released = replicated width u [] within;
+          released = ([], [], replicated width u 0 within, replicated width u [] within, refl);
           places = last_none (live u);
         }));
     letters = all_begun.letters;

@@ -38,7 +38,7 @@ use Rattle.unit_steps.specs.Receipts.{IsFrontier, frontier_of}
 use Rattle.unit_steps.proofs.Seen.{frontiers_go_on}
 use Rattle.tenant.specs.Kept.{MakesStable, TenantState, Member, flushed_member, up_refusal}
 use Rattle.tenant.specs.Stands.{Did, IsStanding, live_in}
-use Rattle.tenant.specs.Represents.{AreLast, IsCompact, IsMember}
+use Rattle.tenant.specs.Represents.{IsReleased, AreLast, IsCompact, IsMember}
 use Rattle.tenant.proofs.Follow.{KeepsUnit, is_up, keeps, leaves, not_up}
 use Rattle.tenant.proofs.Lasts.{last_more}
 use Rattle.tenant.proofs.Places.{own_places, other_places, owns, owns_not, places_behind, left_length}
@@ -228,7 +228,7 @@ module _ {S : Type 0} (M : Meaning S) (name : List ℕ) (t : TenantState S) (w :
         low f n l b c i j h e g o q = omega (arith, h, e, g, o, q)
 
     gone : (a : ℕ) (n : Member S) (z : Unit S) → slice_get v.members a ≡ Some n → IsKept n.recovering → IsSeen n.recovering z → n.unit ≡ a → z.hold ≡ n.outputs → z.known ≡ n.known → slice_get v.stable_lengths a ≡ Some z.stable
-        → slice_get t.frontiers a ≡ Some z.frontier → IsFrontier (length v.stable_lengths) n.recovering z.frontier → slice_get t.released a ≡ Some z.released → AreLast z.live (live_in name after.records a)
+        → slice_get t.frontiers a ≡ Some z.frontier → IsFrontier (length v.stable_lengths) n.recovering z.frontier → IsReleased (slice_get t.gone a) (slice_get t.released a) z.released → AreLast z.live (live_in name after.records a)
         → IsMember v (live_in name after.records) a n (going_on k.table lengths z)
     gone a n z at kept seen own outputs known stable front is_front released places_live = record {
       kept = kept;
@@ -238,7 +238,7 @@ module _ {S : Type 0} (M : Meaning S) (name : List ℕ) (t : TenantState S) (w :
       known = known;
       stable = stable;
       frontier = f.frontiers a n z.frontier at front is_front ∙ ap (λ c. Some c) (sym (frontiers_go_on M n.recovering z kept seen k.table lengths ∙ (λ i. frontier_of (is.table i) (lengths_are i) n.recovering z.frontier)));
-      released = ap (λ ls. slice_get ls a) f.released ∙ released;
+      released = (released.0, released.1, ap (λ ns. slice_get ns a) f.gone ∙ released.2, ap (λ ls. slice_get ls a) f.released ∙ released.3, released.4);
       places = places_live;
     }
 
@@ -250,6 +250,7 @@ module _ {S : Type 0} (M : Meaning S) (name : List ℕ) (t : TenantState S) (w :
       width = ap length f.members ∙ length-set t.members u (flushed_member m said.appended) ∙ is.width ∙ sym width_is;
       stables = sym (ap length lengths_are) ∙ length-map units (λ (z : Unit S). z.stable) ∙ length-set k.units u y ∙ sym width_is;
       fronts = f.fronts ∙ is.fronts ∙ sym width_is;
+      counts = ap length f.gone ∙ is.counts ∙ sym width_is;
       lines = ap length f.released ∙ is.lines ∙ sym width_is;
       members = λ a n z atn atz.
           let h = map_at (going_on k.table lengths) units a z atz in

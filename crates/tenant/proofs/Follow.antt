@@ -97,7 +97,7 @@ module _ {S : Type 0} (t : TenantState S) (live : ℕ → List ℕ) (k : Compact
 
   -- what a unit keeps is the same beside other units and where as much is released of it
   beside : (members : List (Member S)) (released : List (List (List ℕ))) (v : ℕ) (m : Member S) (x : Unit S) → slice_get released v ≡ slice_get t.released v → IsMember t live v m x → IsMember (record t { members = members; released = released }) live v m x
-  beside members released v m x same i = record { kept = i.kept; seen = i.seen; own = i.own; outputs = i.outputs; known = i.known; stable = i.stable; frontier = i.frontier; released = same ∙ i.released; places = i.places }
+  beside members released v m x same i = record { kept = i.kept; seen = i.seen; own = i.own; outputs = i.outputs; known = i.known; stable = i.stable; frontier = i.frontier; released = (i.released.0, i.released.1, i.released.2, same ∙ i.released.3, i.released.4); places = i.places }
 
   -- one unit changes, and what it released
   pub with_one_out : (m : Member S) (x : Unit S) (texts : List (List ℕ)) → IsMember (record t { members = slice_set t.members u m; released = slice_set t.released u texts }) live u m x
@@ -109,6 +109,7 @@ module _ {S : Type 0} (t : TenantState S) (live : ℕ → List ℕ) (k : Compact
     width = length-set t.members u m ∙ is.width ∙ sym (length-set k.units u x);
     stables = is.stables ∙ sym (length-set k.units u x);
     fronts = is.fronts ∙ sym (length-set k.units u x);
+    counts = is.counts ∙ sym (length-set k.units u x);
     lines = length-set t.released u texts ∙ is.lines ∙ sym (length-set k.units u x);
     members = λ v n y atn aty. elim (get_set t.members u v m n atn) [
       | inl a ↦ elim (get_set k.units u v x y aty) [
@@ -132,6 +133,7 @@ module _ {S : Type 0} (t : TenantState S) (live : ℕ → List ℕ) (k : Compact
     width = length-set t.members u m ∙ is.width ∙ sym (length-set k.units u x);
     stables = is.stables ∙ sym (length-set k.units u x);
     fronts = is.fronts ∙ sym (length-set k.units u x);
+    counts = is.counts ∙ sym (length-set k.units u x);
     lines = is.lines ∙ sym (length-set k.units u x);
     members = λ v n y atn aty. beside (slice_set t.members u m) t.released v n y refl (elim (get_set t.members u v m n atn) [
       | inl a ↦ elim (get_set k.units u v x y aty) [

@@ -56,6 +56,7 @@ module _ {S : Type 0} (v : TenantState S) (u count at : ℕ) (same : at ≡ u) (
     stable_lengths = longer m there_too ∙ ap (λ n. slice_set v.stable_lengths n (stable_places (flushed_member m count).recovering)) same;
     fronts = long;
     frontiers = subst (λ (ls : List ℕ). GoOn v.table ls members v.frontiers fronts) b (subst (λ (ms : List (Member S)). GoOn v.table seen_lengths ms v.frontiers fronts) a go);
+    gone = refl;
     released = refl;
     letters = refl;
   }

@@ -24,7 +24,7 @@ use Rattle.compact.specs.Steps.{first_unit, fitted_unit, join_kind_of, joined_st
 use Rattle.compact.proofs.Joins.{joins_follow}
 use Rattle.rollback.specs.Units.{IsKept, Recovering, widened_to}
 use Rattle.rollback_laws.proofs.Joins.{beginnings_are_seen, joins_are_seen}
-use Rattle.tenant.specs.Kept.{TenantState, Member, begun_member, fitted_from, fitted_member, joined_kept, released_of}
+use Rattle.tenant.specs.Kept.{TenantState, Member, begun_member, fitted_from, fitted_member, gone_of, joined_kept, released_of}
 use Rattle.tenant.specs.Represents.{IsCompact, IsMember, Leaves, StandsFor}
 use Rattle.tenant.proofs.Lasts.{last_none}
 use Rattle.tenant.proofs.Beginning.{kept_begun}
@@ -54,18 +54,18 @@ fitted_one {S} n members mid after at last sessions within made so_far fit =
     ∙ fit_one n members at m.0 last m.1
 
 -- one unit more, by what the calls give
-pub entered : {S : Type 0} (M : Meaning S) (t u : TenantState S) (lines : List Line) (kind count unit home rows : ℕ) (first : Member S) (members : List (Member S)) (stables fronts : List ℕ) (released : List (List (List ℕ)))
-    → u ≡ t → u.released ≡ released_of lines → length t.released ≡ length t.members → count ≡ length t.members → unit ≡ count → home ≡ count + 1 → rows ≡ length u.table
+pub entered : {S : Type 0} (M : Meaning S) (t u : TenantState S) (lines : List Line) (kind count unit home rows : ℕ) (first : Member S) (members : List (Member S)) (stables fronts gone : List ℕ) (released : List (List (List ℕ)))
+    → u ≡ t → u.gone ≡ gone_of lines → u.released ≡ released_of lines → length t.released ≡ length t.members → count ≡ length t.members → unit ≡ count → home ≡ count + 1 → rows ≡ length u.table
     → first ≡ begun_member M (count + 1) (record { unit = unit; kind = kind; home = home }) rows
-    → members ≡ fitted_from (count + 1) u.members 0 ++ first ∷ [] → stables ≡ u.stable_lengths ++ 1 ∷ [] → fronts ≡ u.frontiers ++ 1 ∷ [] → (length lines + 1 ≡ count + 1 → released ≡ released_of lines ++ [] ∷ [])
-    → record u { members = members; stable_lengths = stables; frontiers = fronts; released = released } ≡ joined_kept M t kind
-entered {S} M t u lines kind count unit home rows first members stables fronts released same out long counted own wide known begun a b c d =
+    → members ≡ fitted_from (count + 1) u.members 0 ++ first ∷ [] → stables ≡ u.stable_lengths ++ 1 ∷ [] → fronts ≡ u.frontiers ++ 1 ∷ [] → (length lines + 1 ≡ count + 1 → gone ≡ gone_of lines ++ 0 ∷ []) → (length lines + 1 ≡ count + 1 → released ≡ released_of lines ++ [] ∷ [])
+    → record u { members = members; stable_lengths = stables; frontiers = fronts; gone = gone; released = released } ≡ joined_kept M t kind
+entered {S} M t u lines kind count unit home rows first members stables fronts gone released same less out long counted own wide known begun a b c e d =
     let line : length lines + 1 ≡ count + 1 =
     (let e : length lines ≡ length t.released = sym (length-map lines (λ l. l.texts)) ∙ ap length (sym out) ∙ ap (λ (v : TenantState S). length v.released) same in omega (arith, e, long, counted)) in
     let n : count ≡ length u.members = counted ∙ ap (λ (v : TenantState S). length v.members) (sym same) in
     let last : first ≡ begun_member M (length u.members + 1) (record { unit = length u.members; kind = kind; home = length u.members + 1 }) (length u.table) =
     begun ∙ (λ i. begun_member M (n i + 1) (record { unit = (own ∙ n) i; kind = kind; home = (wide ∙ ap (λ k. k + 1) n) i }) (known i)) in
-    (λ i. record u { members = (a ∙ (λ j. fitted_from (n j + 1) u.members 0 ++ last j ∷ [])) i; stable_lengths = b i; frontiers = c i; released = (d line ∙ ap (λ xs. xs ++ [] ∷ []) (sym out)) i })
+    (λ i. record u { members = (a ∙ (λ j. fitted_from (n j + 1) u.members 0 ++ last j ∷ [])) i; stable_lengths = b i; frontiers = c i; gone = (e line ∙ ap (λ xs. xs ++ 0 ∷ []) (sym less)) i; released = (d line ∙ ap (λ xs. xs ++ [] ∷ []) (sym out)) i })
     ∙ ap (λ (v : TenantState S). joined_kept M v kind) same
 
 -- ---- what is kept
@@ -126,7 +126,7 @@ module _ {S : Type 0} (M : Meaning S) (name : List ℕ) (live : ℕ → List ℕ
       known = i.known;
       stable = append_get t.stable_lengths (1 ∷ []) u x.stable i.stable;
       frontier = append_get t.frontiers (1 ∷ []) u x.frontier i.frontier;
-      released = append_get t.released ([] ∷ []) u x.released i.released;
+      released = (i.released.0, i.released.1, append_get t.gone (0 ∷ []) u (length i.released.0) i.released.2, append_get t.released ([] ∷ []) u i.released.1 i.released.3, i.released.4);
       places = i.places;
     }
 
@@ -137,6 +137,7 @@ module _ {S : Type 0} (M : Meaning S) (name : List ℕ) (live : ℕ → List ℕ
         let stables : length t.stable_lengths ≡ length t.members = i.stables ∙ sym i.width in
         let fronts : length t.frontiers ≡ length t.members = i.fronts ∙ sym i.width in
         let lines : length t.released ≡ length t.members = i.lines ∙ sym i.width in
+        let counts : length t.gone ≡ length t.members = i.counts ∙ sym i.width in
         record {
           kept = kept_begun M width seat;
           seen = beginnings_are_seen M width (length t.table) seat;
@@ -145,7 +146,13 @@ module _ {S : Type 0} (M : Meaning S) (name : List ℕ) (live : ℕ → List ℕ
           known = refl;
           stable = subst (λ (u : ℕ). slice_get (t.stable_lengths ++ 1 ∷ []) u ≡ Some 1) stables (append_get_last t.stable_lengths 1);
           frontier = subst (λ (u : ℕ). slice_get (t.frontiers ++ 1 ∷ []) u ≡ Some 1) fronts (append_get_last t.frontiers 1);
-          released = subst (λ (u : ℕ). slice_get (t.released ++ [] ∷ []) u ≡ Some []) lines (append_get_last t.released []);
+          released = (
+            [],
+            [],
+            subst (λ (u : ℕ). slice_get (t.gone ++ 0 ∷ []) u ≡ Some 0) counts (append_get_last t.gone 0),
+            subst (λ (u : ℕ). slice_get (t.released ++ [] ∷ []) u ≡ Some []) lines (append_get_last t.released []),
+            refl,
+          );
           places = last_none (live (length t.members));
         }
 
@@ -164,6 +171,7 @@ module _ {S : Type 0} (M : Meaning S) (name : List ℕ) (live : ℕ → List ℕ
           width = length_push (map (fitted_member width) t.members) (begun_member M width seat (length t.table)) ∙ ap (λ n. n + 1) (length-map t.members (fitted_member width) ∙ e) ∙ sym count;
           stables = length_push t.stable_lengths 1 ∙ ap (λ n. n + 1) i.stables ∙ sym count;
           fronts = length_push t.frontiers 1 ∙ ap (λ n. n + 1) i.fronts ∙ sym count;
+          counts = length_push t.gone 0 ∙ ap (λ n. n + 1) i.counts ∙ sym count;
           lines = length_push t.released [] ∙ ap (λ n. n + 1) i.lines ∙ sym count;
           members = λ u m x atm atx. elim (get_append (map (fitted_member width) t.members) (begun_member M width seat (length t.table)) m u atm) [
             | inl a ↦ elim (get_append (map (fitted_unit (length k.units + 1)) k.units) first x u atx) [

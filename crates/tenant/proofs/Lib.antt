@@ -37,3 +37,4 @@ pub mod Certifying
 pub mod Standing
 mod Counted
 mod Touching
+pub mod Giving

@@ -1,10 +1,10 @@
 -- What the units released, as lists.
 use Rattle.std.proofs.Common.{◌≡◌, ◌≢◌, refl, sym, ◌∙◌, ap, ℕ, zero, suc, ◌+◌, ◌<◌, List, [], ◌∷◌, ◌++◌, length, replicate, arith}
-use Rattle.std.specs.Prelude.{Some, slice_get, slice_index, slice_set}
+use Rattle.std.specs.Prelude.{Some, slice_get, slice_index, slice_index_or, slice_set}
 use Rattle.std.proofs.lemmas.List.{nil_from_length}
 use Rattle.std.proofs.lemmas.Option.{get_or_from_slice_get, same_Some}
-use Rattle.output_commit.specs.Holds.{Line, line_texts}
-use Rattle.tenant.specs.Kept.{Member, firm_of, firm_texts, released_member, released_of, with_firm_out}
+use Rattle.output_commit.specs.Holds.{Line, gone_of as count_of, line_texts}
+use Rattle.tenant.specs.Kept.{Member, NoneGone, firm_of, firm_texts, gone_of, released_member, released_of, with_firm_out}
 
 -- a unit that has a line has texts
 pub texts_there : (lines : List Line) (u : ℕ) → u < length lines → slice_get (released_of lines) u ≡ Some (line_texts lines u)
@@ -85,3 +85,64 @@ none_out (l ∷ lines) (suc n) e none =
     let head : l.texts ≡ [] = none 0 in
     let tail = none_out lines n (omega (arith, e)) (λ u. none (suc u)) in
     λ i. head i ∷ tail i
+
+-- ---- how many texts were given up
+
+pub count_there : (lines : List Line) (u : ℕ) → u < length lines → slice_get (gone_of lines) u ≡ Some (count_of lines u)
+count_there [] u h = absurd (omega (arith, h))
+count_there (l ∷ lines) zero h = refl
+count_there (l ∷ lines) (suc u) h = count_there lines u (omega (arith, h))
+
+pub same_counts : (lines others : List Line) → length lines ≡ length others → ((u : ℕ) → count_of lines u ≡ count_of others u) → gone_of lines ≡ gone_of others
+same_counts [] [] h same = refl
+same_counts [] (l ∷ others) h same = absurd (omega (arith, h))
+same_counts (l ∷ lines) [] h same = absurd (omega (arith, h))
+same_counts (l ∷ lines) (m ∷ others) h same =
+    let head : l.gone ≡ m.gone = same 0 in
+    let tail = same_counts lines others (omega (arith, h)) (λ u. same (suc u)) in
+    λ i. head i ∷ tail i
+
+pub none_gone : (lines : List Line) (n : ℕ) → length lines ≡ n → ((u : ℕ) → count_of lines u ≡ 0) → gone_of lines ≡ replicate n 0
+none_gone [] zero e none = refl
+none_gone [] (suc n) e none = absurd (omega (arith, e))
+none_gone (l ∷ lines) zero e none = absurd (omega (arith, e))
+none_gone (l ∷ lines) (suc n) e none =
+    let head : l.gone ≡ 0 = none 0 in
+    let tail = none_gone lines n (omega (arith, e)) (λ u. none (suc u)) in
+    λ i. head i ∷ tail i
+
+pub one_gone_more : (lines others : List Line) → length lines ≡ length others + 1 → ((u : ℕ) → count_of lines u ≡ count_of others u) → gone_of lines ≡ gone_of others ++ 0 ∷ []
+one_gone_more [] others h same = absurd (omega (arith, h))
+one_gone_more (l ∷ lines) [] h same =
+    let head : l.gone ≡ 0 = same 0 in
+    let none = nil_from_length lines (omega (arith, h)) in
+    λ i. head i ∷ gone_of (none i)
+one_gone_more (l ∷ lines) (m ∷ others) h same =
+    let head : l.gone ≡ m.gone = same 0 in
+    let tail = one_gone_more lines others (omega (arith, h)) (λ u. same (suc u)) in
+    λ i. head i ∷ tail i
+
+-- ---- that none was
+
+read_count : (lines : List Line) (k d : ℕ) → k < length (gone_of lines) → slice_index_or (gone_of lines) k d ≡ count_of lines k
+read_count [] k d h = absurd (omega (arith, h))
+read_count (l ∷ lines) zero d h = refl
+read_count (l ∷ lines) (suc k) d h = read_count lines k d (omega (arith, h))
+
+zero_at : (lines : List Line) (u : ℕ) → NoneGone (gone_of lines) → count_of lines u ≡ 0
+zero_at [] u none = refl
+zero_at (l ∷ lines) zero none = none 0 0 (omega arith)
+zero_at (l ∷ lines) (suc u) none = zero_at lines u (λ k d h. none (suc k) d (omega (arith, h)))
+
+-- where each count is what it was
+pub still_none : (lines others : List Line) → ((u : ℕ) → count_of lines u ≡ count_of others u) → NoneGone (gone_of others) → NoneGone (gone_of lines)
+still_none lines others same none = λ k d h. read_count lines k d h ∙ same k ∙ zero_at others k none
+
+read_zero : (n k d : ℕ) → k < length {A = ℕ} (replicate n 0) → slice_index_or (replicate n 0) k d ≡ 0
+read_zero zero k d h = absurd (omega (arith, h))
+read_zero (suc n) zero d h = refl
+read_zero (suc n) (suc k) d h = read_zero n k d (omega (arith, h))
+
+-- at the beginning
+pub none_at_first : (n : ℕ) → NoneGone (replicate n 0)
+none_at_first n = λ k d h. read_zero n k d h

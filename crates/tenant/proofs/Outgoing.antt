@@ -1,5 +1,5 @@
 -- The step `release`.
-use Rattle.std.proofs.Common.{◌≡◌, sym, ◌∙◌, ap, subst, ℕ, true, List, ◌++◌, map}
+use Rattle.std.proofs.Common.{◌≡◌, sym, ◌∙◌, ap, append_assoc, subst, ℕ, true, List, ◌++◌, map}
 use Rattle.std.specs.Prelude.{Some, slice_get}
 use Rattle.std.specs.Option.{is_some}
 use Rattle.model.specs.declared.records.Record.{Record}
@@ -44,10 +44,11 @@ module _ {S : Type 0} (M : Meaning S) (name : List ℕ) (live : ℕ → List ℕ
         let x = keeps t live k s.1 u m found in
         let i = x.is in
         let f = x.unit.frontier in
-        let had = x.unit.released in
-        let same : v ≡ after f had = is f had i.own i.frontier i.released in
+        let out = i.released in
+        let had = out.1 in
+        let same : v ≡ after f had = is f had i.own i.frontier out.3 in
         let all : List (List ℕ) = had ++ firm_texts m.outputs f in
-        let put : slice_get (firm_of t.released u m f had) u ≡ Some all = set_get_same t.released u all had i.released in
+        let put : slice_get (firm_of t.released u m f had) u ≡ Some all = set_get_same t.released u all had out.3 in
         let given : Done S = record { reply = Released texts; state = (release_of k u x.unit).state } in
         let reply : map (λ (h : Held). h.text) (held_below x.unit.hold f) ≡ texts = ap (λ os. firm_texts os f) i.outputs ∙ sym (are f i.frontier) in
         let one : IsMember (after f had) live u (released_member m f) (released_unit x.unit) = record {
@@ -58,7 +59,13 @@ module _ {S : Type 0} (M : Meaning S) (name : List ℕ) (live : ℕ → List ℕ
           known = i.known;
           stable = i.stable;
           frontier = i.frontier;
-          released = put ∙ ap (λ os. Some (had ++ firm_texts os f)) (sym i.outputs);
+          released = (
+            out.0,
+            all,
+            out.2,
+            put,
+            (λ j. out.4 j ++ firm_texts (i.outputs j) f) ∙ append_assoc out.0 had (firm_texts m.outputs f),
+          );
           places = i.places;
         } in
         leaves M name live log (release M w u) reach _ given (releases_follow M name k w log s.2 u)

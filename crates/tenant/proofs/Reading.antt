@@ -1,5 +1,9 @@
 -- What is read off a tenant is that of the world that it stands for.
-use Rattle.std.proofs.Common.{◌≡◌, refl, sym, ◌∙◌, ap, ℕ, ◌+◌, ◌<◌, List, [], ◌∷◌, ◌++◌, length, take, drop, map, get_or, add-one, append_assoc, arith}
+use Rattle.std.specs.Prelude.{All}
+use Rattle.std.proofs.lemmas.List.{nil_from_length}
+use Rattle.std.proofs.lemmas.List.Elements.{All-get_or}
+use Rattle.std.proofs.lemmas.Option.{get_or_from_slice_get}
+use Rattle.std.proofs.Common.{◌≡◌, refl, subst, sym, ◌∙◌, ap, ℕ, ◌+◌, ◌<◌, List, [], ◌∷◌, ◌++◌, length, take, drop, map, get_or, add-one, append_assoc, arith}
 use Rattle.std.specs.Prelude.{Some, option_map, slice_get}
 use Rattle.std.proofs.Math.Seq.{drop-cons}
 use Rattle.std.proofs.lemmas.Option.{slice_get_past, slice_get_within}
@@ -35,6 +39,10 @@ more_seats {S} members i m before after seat within at so_far is made =
     ∙ ap (λ ms. before ++ seats_of ms) (sym next)
     ∙ so_far
 
+-- what holds of each element holds of this one
+All-at : {X : Type 0} (P : X → Type 0) (xs : List X) (u : ℕ) (x : X) → All P xs → slice_get xs u ≡ Some x → P x
+All-at P xs u x all at = subst P (get_or_from_slice_get xs u x x at) (All-get_or P xs u x (slice_get_within xs u x at) all)
+
 module _ {S : Type 0} (M : Meaning S) (name : List ℕ) (live : ℕ → List ℕ) (t : TenantState S) (w : World) (log : List Record) (s : StandsFor M name live t w log) where
   -- the unit of the tenant, and that of the compact state, which stand for a member of the world
   pub record StandsAt (u : ℕ) (m : InWorld) : Type 0 where
@@ -57,12 +65,14 @@ module _ {S : Type 0} (M : Meaning S) (name : List ℕ) (live : ℕ → List ℕ
   pub table_same : t.table ≡ w.table
   table_same = sym s.1.table ∙ s.2.represents.table
 
-  pub released_same : (u : ℕ) → slice_get t.released u ≡ released_in w u
-  released_same u = elim (dec_lt u (length w.members)) [
+  -- where no text was given up
+  pub released_same : All (λ n. n ≡ 0) t.gone → (u : ℕ) → slice_get t.released u ≡ released_in w u
+  released_same none u = elim (dec_lt u (length w.members)) [
     | yes q ↦
         let m = get_below w.members u q in
         let x = stands_at u m.0 m.1 in
-        x.kept.released ∙ ap (λ (r : List (List ℕ)). Some r) x.stands.released ∙ ap (option_map (λ (m : InWorld). m.released)) (sym m.1)
+        let out = x.kept.released in
+        out.3 ∙ ap (λ (r : List (List ℕ)). Some r) (ap (λ (r : List (List ℕ)). r ++ out.1) (sym (nil_from_length out.0 (All-at (λ n. n ≡ 0) t.gone u (length out.0) none out.2))) ∙ sym out.4 ∙ x.stands.released) ∙ ap (option_map (λ (m : InWorld). m.released)) (sym m.1)
     | no q ↦
         let units = s.2.represents.width in
         let lines = s.1.lines in

@@ -36,6 +36,7 @@ with_letters t live k is letters others same = record {
   width = is.width;
   stables = is.stables;
   fronts = is.fronts;
+  counts = is.counts;
   lines = is.lines;
   members = λ u m x e f. let i = is.members u m x e f in record { kept = i.kept; seen = i.seen; own = i.own; outputs = i.outputs; known = i.known; stable = i.stable; frontier = i.frontier; released = i.released; places = i.places };
   letters = same;

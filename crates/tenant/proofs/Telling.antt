@@ -1,5 +1,5 @@
 -- The step `status`.
-use Rattle.std.proofs.Common.{◌≡◌, sym, ◌∙◌, ap, ℕ, ◌-◌, Bool, List, length}
+use Rattle.std.proofs.Common.{◌≡◌, sym, ◌∙◌, ap, ℕ, ◌+◌, ◌-◌, Bool, List, length, length-append}
 use Rattle.std.specs.Prelude.{Some, None, slice_get}
 use Rattle.std.specs.Option.{is_some}
 use Rattle.model.specs.declared.names.Mark.{Mark}
@@ -32,7 +32,7 @@ module _ {S : Type 0} (M : Meaning S) (name : List ℕ) (live : ℕ → List ℕ
 
   pub status_done : (m : Member S) → slice_get t.members u ≡ Some m → (at : Mark) (held known outside released rows stable : ℕ) (up : Bool) (volatile : ℕ)
       → ((x : Unit S) → IsKept m.recovering → IsSeen m.recovering x → at ≡ last_mark u x) → held ≡ length m.outputs → known ≡ m.known → outside ≡ m.recovering.outside
-      → ((texts : List (List ℕ)) → slice_get t.released u ≡ Some texts → released ≡ length texts) → rows ≡ length t.table → stable ≡ stable_places m.recovering - 1 → up ≡ is_some m.recovering.progress → volatile ≡ length m.recovering.volatile
+      → ((gone : ℕ) (texts : List (List ℕ)) → slice_get t.gone u ≡ Some gone → slice_get t.released u ≡ Some texts → released ≡ gone + length texts) → rows ≡ length t.table → stable ≡ stable_places m.recovering - 1 → up ≡ is_some m.recovering.progress → volatile ≡ length m.recovering.volatile
       → Leaves M name live (status M w u) (Status up at held known outside released rows stable volatile) t log
   status_done m found at held known outside released rows stable up volatile a b c d e f g h v =
       let x = keeps t live k s.1 u m found in
@@ -42,7 +42,8 @@ module _ {S : Type 0} (M : Meaning S) (name : List ℕ) (live : ℕ → List ℕ
       let b' : length x.unit.hold ≡ held = ap length i.outputs ∙ sym b in
       let c' : x.unit.known ≡ known = i.known ∙ sym c in
       let d' : x.unit.outside ≡ outside = i.seen.outside ∙ sym d in
-      let e' : length x.unit.released ≡ released = sym (e x.unit.released i.released) in
+      let out = i.released in
+      let e' : length x.unit.released ≡ released = ap length out.4 ∙ length-append out.0 out.1 ∙ sym (e (length out.0) out.1 out.2 out.3) in
       let f' : length k.table ≡ rows = ap length s.1.table ∙ sym f in
       let g' : x.unit.stable - 1 ≡ stable = ap (λ n. n - 1) i.seen.stable ∙ sym g in
       let h' : x.unit.up ≡ up = i.seen.up ∙ sym h in

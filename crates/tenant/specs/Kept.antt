@@ -1,5 +1,5 @@
 -- What a tenant keeps, by lists.
-use Rattle.std.specs.Prelude.{◌≡◌, [], ◌∷◌, replicate, length, ◌++◌, ◌-◌, min, option_map, drop, map, slice_get, slice_set, ℕ, cond, nat_le, nat_lt, List, Option, Some, None, ◌+◌, take, ◌<◌, ◌^◌}
+use Rattle.std.specs.Prelude.{◌≡◌, All, [], ◌∷◌, replicate, length, ◌++◌, ◌-◌, min, option_map, drop, map, slice_get, slice_set, ℕ, cond, nat_le, nat_lt, List, Option, Some, None, ◌+◌, take, ◌<◌, ◌^◌}
 use Rattle.std.specs.List.{fold, position}
 use Rattle.std.specs.Option.{is_some}
 use Rattle.model.specs.declared.limits.TheConstants.{MAX_INCARNATION}
@@ -38,7 +38,7 @@ pub record Member (S : Type 0) : Type 0 where
   pub outputs : List Held
   pub known : ℕ
 
--- An open tenant. For each unit it keeps how many of its intervals are stable and how many are firm, and what it released.
+-- An open tenant. For each unit it keeps how many of its intervals are stable and how many are firm, how many of the texts that it released were given up, and those behind them.
 pub record TenantState (S : Type 0) : Type 0 where
   pub quota : Quota
   pub optimism : ℕ
@@ -46,8 +46,17 @@ pub record TenantState (S : Type 0) : Type 0 where
   pub members : List (Member S)
   pub stable_lengths : List ℕ
   pub frontiers : List ℕ
+  pub gone : List ℕ
   pub released : List (List (List ℕ))
   pub letters : List Letter
+
+-- these counts are of texts that were given up, and none was
+abbrev pub NoneGone : List ℕ → Type 0
+NoneGone gone = All (λ n. n ≡ 0) gone
+
+-- no unit gave up a text
+abbrev pub KeepsTexts : {S : Type 0} → TenantState S → Type 0
+KeepsTexts t = NoneGone t.gone
 
 -- ---- a unit that is there and up
 
@@ -58,7 +67,11 @@ up_refusal (Some m) = cond (is_some m.recovering.progress) None (Some Down)
 
 -- ---- release
 
--- what the units released
+-- how many texts the units gave up
+abbrev pub gone_of : List Line → List ℕ
+gone_of lines = map (λ l. l.gone) lines
+
+-- what the units released behind those
 abbrev pub released_of : List Line → List (List (List ℕ))
 released_of lines = map (λ l. l.texts) lines
 
@@ -135,6 +148,7 @@ opened_kept M kinds quota optimism = record {
   members = fold (λ ms n. with_begun M (length kinds) ms (kind_or_0 (M.kind n))) [] kinds;
   stable_lengths = replicate (length kinds) 1;
   frontiers = replicate (length kinds) 1;
+  gone = replicate (length kinds) 0;
   released = replicate (length kinds) [];
   letters = [];
 }
@@ -163,6 +177,7 @@ pub record MakesStable {S : Type 0} (before : TenantState S) (u count : ℕ) (m 
       ≡ slice_set before.stable_lengths u (stable_places (flushed_member m count).recovering)
   pub fronts : length after.frontiers ≡ length before.frontiers
   pub frontiers : GoOn before.table after.stable_lengths after.members before.frontiers after.frontiers
+  pub gone : after.gone ≡ before.gone
   pub released : after.released ≡ before.released
   pub letters : after.letters ≡ before.letters
 
@@ -186,6 +201,7 @@ joined_kept M t kind =
           ∷ [];
       stable_lengths = t.stable_lengths ++ 1 ∷ [];
       frontiers = t.frontiers ++ 1 ∷ [];
+      gone = t.gone ++ 0 ∷ [];
       released = t.released ++ [] ∷ [];
     }
 

@@ -1,5 +1,5 @@
 -- Which world a tenant stands for over a whole log, and what each step does whatever that log.
-use Rattle.std.specs.Prelude.{◌≡◌, ◌-◌, drop, ℕ, List, length, Option, Some, None, slice_get}
+use Rattle.std.specs.Prelude.{◌≡◌, ◌++◌, ◌-◌, drop, ℕ, List, length, Option, Some, None, slice_get}
 use Rattle.model.specs.declared.names.Quota.{Quota}
 use Rattle.model.specs.declared.records.Record.{Record}
 use Rattle.model.specs.declared.replies.Reply.{Reply}
@@ -16,6 +16,12 @@ use Rattle.tenant.specs.Kept.{TenantState, Member}
 abbrev pub AreLast : List ℕ → List ℕ → Type 0
 AreLast own live = own ≡ drop (length live - length own) live
 
+-- All that a unit released: as many texts as were given up, and those behind them.
+abbrev pub IsReleased : Option ℕ → Option (List (List ℕ)) → List (List ℕ) → Type 0
+IsReleased gone kept all =
+    (front : List (List ℕ)) × (texts : List (List ℕ)) × (gone ≡ Some (length front)) × (kept ≡ Some texts)
+    × (all ≡ front ++ texts)
+
 -- The tenant keeps this unit of the compact state as its u-th. `live` tells the places in the log of each unit's live records.
 pub record IsMember {S : Type 0} (t : TenantState S) (live : ℕ → List ℕ) (u : ℕ) (m : Member S)
     (x : Unit S) : Type 0 where
@@ -26,7 +32,7 @@ pub record IsMember {S : Type 0} (t : TenantState S) (live : ℕ → List ℕ) (
   pub known : x.known ≡ m.known
   pub stable : slice_get t.stable_lengths u ≡ Some x.stable
   pub frontier : slice_get t.frontiers u ≡ Some x.frontier
-  pub released : slice_get t.released u ≡ Some x.released
+  pub released : IsReleased (slice_get t.gone u) (slice_get t.released u) x.released
   pub places : AreLast x.live (live u)
 
 -- the tenant keeps this compact state
@@ -37,6 +43,7 @@ pub record IsCompact {S : Type 0} (t : TenantState S) (live : ℕ → List ℕ) 
   pub width : length t.members ≡ length k.units
   pub stables : length t.stable_lengths ≡ length k.units
   pub fronts : length t.frontiers ≡ length k.units
+  pub counts : length t.gone ≡ length k.units
   pub lines : length t.released ≡ length k.units
   pub members : (u : ℕ) (m : Member S) (x : Unit S) → slice_get t.members u ≡ Some m → slice_get k.units u ≡ Some x
       → IsMember t live u m x

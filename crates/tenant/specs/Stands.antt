@@ -13,7 +13,7 @@ use Rattle.model.specs.Records.{IsHonest}
 use Rattle.model.specs.Steps.{open_new}
 use Rattle.model.specs.World.{World}
 use Rattle.shared_log.specs.Logged.{Grows, IsLeftOf, Logged, places_from}
-pub use Rattle.tenant.specs.Kept.{TenantState}
+pub use Rattle.tenant.specs.Kept.{KeepsTexts, TenantState}
 use Rattle.tenant.specs.Outcomes.{done}
 use Rattle.tenant.specs.Represents.{StandsFor}
 

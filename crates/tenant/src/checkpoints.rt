@@ -43,6 +43,7 @@ impl<H: Handler> Tenant<H> {
         ensures ok { IfOk result (λ _. (m : MemberOf H.State) → slice_get self.old.members unit ≡ Some m
             → self.new ≡ record self.old { members = slice_set self.old.members unit (checkpointed_member m) }) }
         ensures err { OnErr result (self.new ≡ self.old) }
+        ensures gone { self.new.gone ≡ self.old.gone }
     {
         checkpoint_member(
             alloc,
@@ -78,6 +79,7 @@ impl<H: Handler> Tenant<H> {
         ensures up { log.old.failures ≤ log.new.failures }
         ensures err { OnErr result (self.new ≡ self.old) }
         ensures err_log { OnErr result (log.new.records ≡ log.old.records) }
+        ensures gone { self.new.gone ≡ self.old.gone }
     {
         let member = match self.up_member(unit) {
             Ok(member) => member,

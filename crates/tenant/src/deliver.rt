@@ -110,6 +110,7 @@ impl<H: Handler> Tenant<H> {
         ensures plain { IfOk result IsPlain }
         ensures shelves { IfOk result (λ _. SameShelves self.old self.new) }
         ensures err { OnErr result (self.new ≡ self.old) }
+        ensures gone { self.new.gone ≡ self.old.gone }
     {
         let sent = match self.letter(letter) {
             Some(sent) => sent,
@@ -164,6 +165,7 @@ impl<H: Handler> Tenant<H> {
         ensures plain { IfOk result IsPlain }
         ensures shelves { IfOk result (λ _. SameShelves self.old self.new) }
         ensures err { OnErr result (self.new ≡ self.old) }
+        ensures gone { self.new.gone ≡ self.old.gone }
     {
         match self.ask_letter(alloc, handler, letter)? {
             Err(refusal) => Ok(Answer::refused(refusal)),

@@ -179,8 +179,9 @@ impl<H: Handler> Tenant<H> {
         requires within { unit < length self.old.members }
         requires few { (m : MemberOf H.State) → slice_get self.old.members unit ≡ Some m
             → count ≤ length m.recovering.volatile }
-        ensures { (m : MemberOf H.State) → slice_get self.old.members unit ≡ Some m
+        ensures makes { (m : MemberOf H.State) → slice_get self.old.members unit ≡ Some m
             → MakesStable self.old unit count m self.new }
+        ensures gone { self.new.gone ≡ self.old.gone }
     {
         mark_stable(
             &mut self.members,
@@ -219,6 +220,7 @@ impl<H: Handler> Tenant<H> {
         ensures up { log.old.failures ≤ log.new.failures }
         ensures err { OnErr result (self.new ≡ self.old) }
         ensures err_log { OnErr result (log.new.records ≡ log.old.records) }
+        ensures gone { self.new.gone ≡ self.old.gone }
     {
         let member = match self.up_member(unit) {
             Ok(member) => member,

@@ -108,6 +108,7 @@ impl<H: Handler> Tenant<H> {
             → self.new ≡ moved_kept self.old at m (next_base m.recovering frontier) }
         ensures log { (m : MemberOf H.State) → slice_get self.old.members at ≡ Some m
             → LetsGo tenant.now m.unit (given_up m.recovering (next_base m.recovering frontier)) log.old log.new }
+        ensures gone { self.new.gone ≡ self.old.gone }
     {
         forget_at(
             tenant,
@@ -126,6 +127,7 @@ impl<H: Handler> Tenant<H> {
         ensures beside { IsBeside tenant.now log.old log.new }
         ensures bases { (w : World) (shelves : List Shelf) → Stands H.meaning tenant.now self.old w log.old.records
             → KeepsPast self.old w shelves → KeepsPast self.new w (based_one w at (slice_get w.members at) shelves) }
+        ensures gone { self.new.gone ≡ self.old.gone }
     {
         if at < self.members.len() && at < self.frontiers.len() {
             let frontier = self.frontiers[at];
@@ -139,6 +141,7 @@ impl<H: Handler> Tenant<H> {
             → Stands H.meaning tenant.now self.new w log.new.records }
         ensures beside { IsBeside tenant.now log.old log.new }
         ensures bases { Bases H.meaning tenant.now self.old log.old.records self.new }
+        ensures gone { self.new.gone ≡ self.old.gone }
     {
         for at in 0..self.member_count() {
             self.forget_one(tenant, at, log);
@@ -157,6 +160,7 @@ impl<H: Handler> Tenant<H> {
         ensures beside { IsBeside tenant.now log.old log.new }
         ensures bases { (w : World) (shelves : List Shelf) → Stands H.meaning tenant.now self.old w log.old.records
             → KeepsPast self.old w shelves → KeepsPast self.new w (where_added w added shelves) }
+        ensures gone { self.new.gone ≡ self.old.gone }
     {
         if added > 0 {
             self.forget_firm(tenant, log);

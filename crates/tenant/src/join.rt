@@ -5,7 +5,7 @@ ghost use Rattle.session.specs.Counts.{widened_counts};
 ghost use Rattle.model.specs.Steps.{join as join_of};
 ghost use Rattle.model.specs.Keeping.{after_join};
 ghost use Rattle.tenant.specs.Keeping.{Shelves};
-ghost use Rattle.tenant.specs.Kept.{Member as MemberOf, fitted_from, fitted_member, joined_kept, released_of};
+ghost use Rattle.tenant.specs.Kept.{KeepsTexts, Member as MemberOf, NoneGone, fitted_from, fitted_member, gone_of, joined_kept, released_of};
 ghost use Rattle.tenant.specs.Outcomes.{IsPlain};
 ghost use Rattle.tenant.specs.Represents.{Does};
 
@@ -52,8 +52,11 @@ fn add_unit<H: Handler>(
     ensures members { OnOk result (members.new.items ≡ members.old.items ++ member ∷ []) }
     ensures lines { OnOk result (length outlet.old + 1 ≡ width
         → released_of outlet.new ≡ released_of outlet.old ++ [] ∷ []) }
+    ensures gone { OnOk result (length outlet.old + 1 ≡ width → gone_of outlet.new ≡ gone_of outlet.old ++ 0 ∷ []) }
     ensures err_members { OnErr result (members.new.items ≡ members.old.items) }
     ensures err_lines { OnErr result (released_of outlet.new ≡ released_of outlet.old) }
+    ensures err_gone { OnErr result (gone_of outlet.new ≡ gone_of outlet.old) }
+    ensures texts { NoneGone (gone_of outlet.old) → NoneGone (gone_of outlet.new) }
 {
     members.reserve(1)?;
     outlet.widen(width)?;
@@ -73,8 +76,11 @@ fn widen_from<H: Handler>(
     ensures members { OnOk result (members.new.items ≡ fitted_from width members.old.items at ++ member ∷ []) }
     ensures lines { OnOk result (length outlet.old + 1 ≡ width
         → released_of outlet.new ≡ released_of outlet.old ++ [] ∷ []) }
+    ensures gone { OnOk result (length outlet.old + 1 ≡ width → gone_of outlet.new ≡ gone_of outlet.old ++ 0 ∷ []) }
     ensures err_members { OnErr result (members.new.items ≡ members.old.items) }
     ensures err_lines { OnErr result (released_of outlet.new ≡ released_of outlet.old) }
+    ensures err_gone { OnErr result (gone_of outlet.new ≡ gone_of outlet.old) }
+    ensures texts { NoneGone (gone_of outlet.old) → NoneGone (gone_of outlet.new) }
 {
     if at >= members.len() {
         return add_unit(members, outlet, member, width);
@@ -92,6 +98,7 @@ impl<H: Handler> Tenant<H> {
         ensures ok { OnOk result (length self.old.released ≡ length self.old.members
             → self.new ≡ joined_kept H.meaning self.old kind) }
         ensures err { OnErr result (self.new ≡ self.old) }
+        ensures texts { KeepsTexts self.old → KeepsTexts self.new }
     {
         let count = self.member_count();
         let width = count + 1;
@@ -126,6 +133,7 @@ impl<H: Handler> Tenant<H> {
         ensures shelves { IfOk result (λ a. length self.old.released ≡ length self.old.members
             → Shelves (after_join a.reply) self.old self.new) }
         ensures err { OnErr result (self.new ≡ self.old) }
+        ensures texts { KeepsTexts self.old → KeepsTexts self.new }
     {
         let kind = match handler.kind(name) {
             Some(kind) => kind,

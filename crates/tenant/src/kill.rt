@@ -33,6 +33,7 @@ impl<H: Handler> Tenant<H> {
             → result ≡ length m.recovering.volatile }
         ensures tenant { (m : MemberOf H.State) → slice_get self.old.members unit ≡ Some m
             → self.new ≡ record self.old { members = slice_set self.old.members unit (killed_member m) } }
+        ensures gone { self.new.gone ≡ self.old.gone }
     {
         kill_member(&mut self.members, usize::from(unit.number()))
     }
@@ -42,6 +43,7 @@ impl<H: Handler> Tenant<H> {
         ensures done { Does H.meaning (λ w. kill_of w unit) self.old result.reply self.new }
         ensures plain { IsPlain result }
         ensures shelves { SameShelves self.old self.new }
+        ensures gone { self.new.gone ≡ self.old.gone }
     {
         match self.up_member(unit) {
             Ok(_) => {}

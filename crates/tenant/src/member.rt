@@ -2,7 +2,7 @@
 
 ghost use Rattle.std.specs.Prelude.{◌≡◌, ◌≢◌, ◌++◌, ◌+◌, ◌-◌, ◌<◌, ◌≤◌, ℕ, IfOk, IfSome, OnErr, Some, min, length, option_map, slice_index, true};
 ghost use Rattle.std.specs.Option.{is_some};
-ghost use Rattle.output_commit.specs.Holds.{room_of, line_texts};
+ghost use Rattle.output_commit.specs.Holds.{gone_of as count_of, room_of, line_texts};
 ghost use Rattle.compact.specs.Compact.{Unit as UnitOf};
 ghost use Rattle.compact.specs.Steps.{last_mark as last_mark_of};
 ghost use Rattle.checkpoint.specs.declared.snapshot.Snapshot.{Snapshot as SnapshotOf};
@@ -238,6 +238,7 @@ impl<H: Handler> Member<H> {
         ensures texts { line_texts outlet.new self.old.unit ≡ line_texts outlet.old self.old.unit
             ++ firm_texts self.old.outputs (slice_index frontiers.now self.old.unit) }
         ensures others { (u : ℕ) → u ≢ self.old.unit → line_texts outlet.new u ≡ line_texts outlet.old u }
+        ensures gone { (u : ℕ) → count_of outlet.new u ≡ count_of outlet.old u }
         ensures len { length outlet.new ≡ length outlet.old }
     {
         releasing::release_all(&mut self.hold, outlet, frontiers);

@@ -31,11 +31,12 @@ impl<H: Handler> Tenant<H> {
     /// The unit, which is there, knows all rows.
     fn learn_rows(&mut self, unit: Unit)
         requires { unit < length self.old.members }
-        ensures { (m : MemberOf H.State) → slice_get self.old.members unit ≡ Some m
+        ensures learned { (m : MemberOf H.State) → slice_get self.old.members unit ≡ Some m
             → self.new ≡ record self.old {
               members = slice_set self.old.members unit
                   (record m { known = length self.old.table });
             } }
+        ensures gone { self.new.gone ≡ self.old.gone }
     {
         let known = self.table.len();
         learn(&mut self.members, usize::from(unit.number()), known);
@@ -75,6 +76,7 @@ impl<H: Handler> Tenant<H> {
         ensures up { log.old.failures ≤ log.new.failures }
         ensures err { OnErr result (self.new ≡ self.old) }
         ensures err_log { OnErr result (log.new.records ≡ log.old.records) }
+        ensures gone { self.new.gone ≡ self.old.gone }
     {
         match self.up_member(unit) {
             Ok(_) => {}

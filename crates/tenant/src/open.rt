@@ -5,7 +5,7 @@ ghost use Rattle.std.specs.List.{list_any, fold};
 ghost use Rattle.std.specs.Option.{is_none};
 ghost use Rattle.model.specs.Steps.{can_open as can_open_with, is_quota as is_quota_of, within as is_within, kind_or_0};
 ghost use Rattle.tenant.specs.Keeping.{OpensPast};
-ghost use Rattle.tenant.specs.Kept.{opened_kept, released_of, with_begun};
+ghost use Rattle.tenant.specs.Kept.{KeepsTexts, gone_of, opened_kept, released_of, with_begun};
 ghost use Rattle.tenant.specs.Outcomes.{IsPlain};
 ghost use Rattle.tenant.specs.Represents.{OpensAs};
 ghost use Rattle.tenant.specs.Stands.{IsOpened};
@@ -103,7 +103,8 @@ fn begin_all<H: Handler>(
 
 /// Lines for so many units, none of which released anything.
 fn empty_outlet(alloc: Global, width: usize) -> Result<Outlet, NoMemory>
-    ensures { IfOk result (λ o. released_of o ≡ replicate width []) }
+    ensures gone { IfOk result (λ o. gone_of o ≡ replicate width 0) }
+    ensures texts { IfOk result (λ o. released_of o ≡ replicate width []) }
 {
     let outlet = Outlet::new(alloc, width)?;
     Ok(outlet)
@@ -147,6 +148,7 @@ impl<H: Handler> Tenant<H> {
     ) -> Result<(Reply, Option<Tenant<H>>), NoMemory>
         ensures opens { IfOk result (λ p. OpensAs H.meaning kinds.now quota optimism p.0 p.1) }
         ensures past { IfOk result (λ p. IfSome p.1 (OpensPast p.0)) }
+        ensures texts { IfOk result (λ p. IfSome p.1 KeepsTexts) }
     {
         let names = kinds.as_slice();
         if can_open(handler, names, quota, optimism) {
@@ -177,6 +179,7 @@ impl<H: Handler> Tenant<H> {
     ) -> Result<(Answer, Option<Tenant<H>>), NoMemory>
         ensures opened { IfOk result (λ p. IsOpened H.meaning kinds.now quota optimism p.0.reply p.1) }
         ensures past { IfOk result (λ p. IfSome p.1 (OpensPast p.0.reply)) }
+        ensures texts { IfOk result (λ p. IfSome p.1 KeepsTexts) }
         ensures plain { IfOk result (λ p. IsPlain p.0) }
     {
         let (reply, tenant) = Tenant::opening(alloc, handler, kinds, quota, optimism)?;

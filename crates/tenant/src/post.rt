@@ -76,6 +76,7 @@ impl<H: Handler> Tenant<H> {
         ensures plain { IfOk result IsPlain }
         ensures shelves { IfOk result (λ _. SameShelves self.old self.new) }
         ensures err { OnErr result (self.new ≡ self.old) }
+        ensures gone { self.new.gone ≡ self.old.gone }
     {
         let member = match self.member(unit) {
             Some(member) => member,
@@ -119,6 +120,7 @@ impl<H: Handler> Tenant<H> {
         ensures plain { IfOk result IsPlain }
         ensures shelves { IfOk result (λ _. SameShelves self.old self.new) }
         ensures err { OnErr result (self.new ≡ self.old) }
+        ensures gone { self.new.gone ≡ self.old.gone }
     {
         match self.ask_post(alloc, handler, unit, number, &text)? {
             Err(refusal) => Ok(Answer::refused(refusal)),

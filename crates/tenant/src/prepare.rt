@@ -81,6 +81,7 @@ impl<H: Handler> Tenant<H> {
         ensures shelves { IfOk result (λ o. IfSome o (λ _. SameShelves self.old self.new)) }
         ensures stale { IfOk result (λ o. IfNone o (self.new ≡ self.old)) }
         ensures err { OnErr result (self.new ≡ self.old) }
+        ensures gone { self.new.gone ≡ self.old.gone }
     {
         match self.ask_post(alloc, handler, unit, number, &text)? {
             Err(refusal) => Ok(Some(Answer::refused(refusal))),
@@ -114,6 +115,7 @@ impl<H: Handler> Tenant<H> {
         ensures shelves { IfOk result (λ o. IfSome o (λ _. SameShelves self.old self.new)) }
         ensures stale { IfOk result (λ o. IfNone o (self.new ≡ self.old)) }
         ensures err { OnErr result (self.new ≡ self.old) }
+        ensures gone { self.new.gone ≡ self.old.gone }
     {
         match self.ask_letter(alloc, handler, letter)? {
             Err(refusal) => Ok(Some(Answer::refused(refusal))),

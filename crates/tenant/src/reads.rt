@@ -5,6 +5,9 @@ ghost use Rattle.model.specs.FailureFree.{opening_seats as opening_seats_of};
 ghost use Rattle.model.specs.World.{World};
 ghost use Rattle.model.specs.declared.records.Record.{Record};
 ghost use Rattle.tenant.specs.Reads.{opening_count as opening_count_of, opening_of, seats_of};
+ghost use Rattle.model.specs.Keeping.{Shelf};
+ghost use Rattle.tenant.specs.Keeping.{KeepsPast};
+ghost use Rattle.tenant.specs.Kept.{KeepsTexts};
 ghost use Rattle.tenant.specs.Stands.{Stands, released_in};
 
 use crate::member::Member;
@@ -56,13 +59,24 @@ impl<H: Handler> Tenant<H> {
         }
     }
 
-    /// The outputs that the unit has released so far, if the unit is there. Takes no memory.
+    /// The outputs that the unit has released so far, if the unit is there, and no text was given up. Takes no memory.
     pub fn released(&self, unit: Unit) -> Option<&[Text]>
         ensures { (name : List ℕ) (w : World) (records : List (Option Record))
-            → Stands H.meaning name self.now w records
+            → Stands H.meaning name self.now w records → KeepsTexts self.now
             → MatchOption result (released_in w unit ≡ None) (λ texts. released_in w unit ≡ Some texts.now) }
     {
         self.released_texts(unit)
+    }
+
+    /// Gives up the texts that the unit released, if it is there. Their count stays. Takes no memory.
+    pub fn give_up(&mut self, unit: Unit)
+        ensures stands { (name : List ℕ) (w : World) (records : List (Option Record))
+            → Stands H.meaning name self.old w records → Stands H.meaning name self.new w records }
+        ensures past { (w : World) (shelves : List Shelf) → KeepsPast self.old w shelves → KeepsPast self.new w shelves }
+    {
+        if usize::from(unit.number()) < self.outlet.len() {
+            self.outlet.give_up(unit);
+        }
     }
 
     /// The rows of the table: where units went back to, in order. Takes no memory.

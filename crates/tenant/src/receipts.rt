@@ -261,6 +261,7 @@ impl<H: Handler> Tenant<H> {
             → self.new ≡ received_kept H.meaning self.old unit m plan.logged
             (turn_upon_input H.meaning worked.input).outputs plan.made.items) }
         ensures err { OnErr result (self.new ≡ self.old) }
+        ensures gone { self.new.gone ≡ self.old.gone }
     {
         let Plan {
             logged,

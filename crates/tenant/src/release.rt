@@ -6,7 +6,7 @@ ghost use Rattle.model.specs.World.{World};
 ghost use Rattle.model.specs.declared.records.Record.{Record};
 ghost use Rattle.tenant.specs.Keeping.{SameShelves};
 ghost use Rattle.tenant.specs.Stands.{Stands};
-ghost use Rattle.tenant.specs.Kept.{AreOut, Member as MemberOf, firm_texts, released_of, with_firm_released};
+ghost use Rattle.tenant.specs.Kept.{AreOut, Member as MemberOf, firm_texts, gone_of, released_of, with_firm_released};
 ghost use Rattle.tenant.specs.Outcomes.{IsPlain};
 ghost use Rattle.tenant.specs.Represents.{Does};
 
@@ -33,6 +33,7 @@ fn release_member<H: Handler>(
         → AreOut unit m frontier texts members.old.items (released_of outlet.old)
         members.new.items (released_of outlet.new)) }
     ensures err_members { OnErr result (members.new.items ≡ members.old.items) }
+    ensures gone { gone_of outlet.new ≡ gone_of outlet.old }
     ensures err_outlet { OnErr result (released_of outlet.new ≡ released_of outlet.old) }
 {
     let at = usize::from(unit.number());
@@ -53,6 +54,7 @@ impl<H: Handler> Tenant<H> {
             → slice_get self.old.frontiers unit ≡ Some frontier → slice_get self.old.released unit ≡ Some texts
             → self.new ≡ with_firm_released self.old unit m frontier texts) }
         ensures err { OnErr result (self.new ≡ self.old) }
+        ensures gone { self.new.gone ≡ self.old.gone }
     {
         release_member(
             &mut self.members,
@@ -90,6 +92,7 @@ impl<H: Handler> Tenant<H> {
         ensures shelves { IfOk result (λ _. (name : List ℕ) (w : World) (records : List (Option Record))
             → Stands H.meaning name self.old w records → SameShelves self.old self.new) }
         ensures err { OnErr result (self.new ≡ self.old) }
+        ensures gone { self.new.gone ≡ self.old.gone }
     {
         match self.up_member(unit) {
             Ok(_) => {}

@@ -1,7 +1,7 @@
 //! The firm outputs of one unit, on their way out.
 
 ghost use Rattle.std.specs.Prelude.{◌≡◌, ◌≢◌, ◌++◌, ◌∷◌, [], ◌<◌, ◌≤◌, ◌+◌, ◌-◌, ℕ, IfOk, MatchBool, MatchOption, drop, length, slice_index, false};
-ghost use Rattle.output_commit.specs.Holds.{front_is_firm, room_of, line_texts};
+ghost use Rattle.output_commit.specs.Holds.{front_is_firm, gone_of as count_of, room_of, line_texts};
 ghost use Rattle.tenant.specs.Kept.{AreMoved, firm_texts, unfirm};
 
 use model::{NoMemory, Text};
@@ -47,6 +47,7 @@ fn release_one(hold: &mut Hold, outlet: &mut Outlet, frontiers: &[u64]) -> bool
     ensures fewer { MatchBool result (length hold.new.outputs + 1 ≡ length hold.old.outputs)
         (front_is_firm hold.new frontiers.now ≡ false) }
     ensures others { (u : ℕ) → u ≢ hold.old.unit → line_texts outlet.new u ≡ line_texts outlet.old u }
+    ensures gone { (u : ℕ) → count_of outlet.new u ≡ count_of outlet.old u }
     ensures len { length outlet.new ≡ length outlet.old }
     ensures left { length hold.new.outputs ≤ room_of outlet.new hold.old.unit }
 {
@@ -74,6 +75,7 @@ pub(crate) fn release_all(hold: &mut Hold, outlet: &mut Outlet, frontiers: &[u64
     ensures texts { line_texts outlet.new hold.old.unit ≡ line_texts outlet.old hold.old.unit
         ++ firm_texts hold.old.outputs (slice_index frontiers.now hold.old.unit) }
     ensures others { (u : ℕ) → u ≢ hold.old.unit → line_texts outlet.new u ≡ line_texts outlet.old u }
+    ensures gone { (u : ℕ) → count_of outlet.new u ≡ count_of outlet.old u }
     ensures len { length outlet.new ≡ length outlet.old }
 {
     for _ in 0..hold.len() {

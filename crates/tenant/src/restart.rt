@@ -59,6 +59,7 @@ impl<H: Handler> Tenant<H> {
         ensures up { log.old.failures ≤ log.new.failures }
         ensures err { OnErr result (self.new ≡ self.old) }
         ensures err_log { OnErr result (log.new.records ≡ log.old.records) }
+        ensures gone { self.new.gone ≡ self.old.gone }
     {
         match self.restart_refusal(unit) {
             Some(refusal) => return Ok(Answer::refused(refusal)),

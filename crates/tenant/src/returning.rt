@@ -193,6 +193,7 @@ impl<H: Handler> Tenant<H> {
         ensures ok { OnOk result ((m : MemberOf H.State) → slice_get self.old.members unit ≡ Some m
             → self.new ≡ returned_kept self.old unit m target (incarnation_of self.old.table unit + 1) progress) }
         ensures err { OnErr result (self.new ≡ self.old) }
+        ensures gone { self.new.gone ≡ self.old.gone }
     {
         self.table.append(Row {
             unit,
@@ -243,6 +244,7 @@ impl<H: Handler> Tenant<H> {
         ensures up { log.old.failures ≤ log.new.failures }
         ensures err { OnErr result (self.new ≡ self.old) }
         ensures err_log { OnErr result (log.new.records ≡ log.old.records) }
+        ensures gone { self.new.gone ≡ self.old.gone }
     {
         let member = self.member_there(unit);
         let keep = member.positions_to(target);

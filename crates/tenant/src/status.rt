@@ -70,7 +70,7 @@ impl<H: Handler> Tenant<H> {
             held: member.held_count() as u64,
             known: member.known() as u64,
             outside: member.outside(),
-            released: self.released_count(unit) as u64,
+            released: self.released_count(unit),
             rows: self.rows() as u64,
             stable: member.stable_count().saturating_sub(1),
             up: member.is_up(),

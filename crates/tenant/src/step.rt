@@ -3,7 +3,7 @@
 ghost use Rattle.std.specs.Prelude.{◌≡◌, ◌≤◌, IfNone, IfOk, IfSome, OnErr, List, ℕ, false, bytes_eq};
 ghost use Rattle.model.specs.World.{World};
 ghost use Rattle.tenant.specs.Keeping.{KeepsOn};
-ghost use Rattle.tenant.specs.Kept.{TenantState};
+ghost use Rattle.tenant.specs.Kept.{KeepsTexts, TenantState};
 ghost use Rattle.tenant.specs.Needs.{WasFresh, needs};
 ghost use Rattle.tenant.specs.Stands.{Did, Stands};
 
@@ -38,6 +38,8 @@ impl<H: Handler> Tenant<H> {
         ensures up { log.old.failures ≤ log.new.failures }
         ensures err { OnErr result (self.new ≡ self.old) }
         ensures err_log { OnErr result (log.new.records ≡ log.old.records) }
+        // A unit that gave up no text still has all of them.
+        ensures texts { KeepsTexts self.old → KeepsTexts self.new }
     {
         match step {
             TenantStep::Open { .. } => Ok(Answer::refused(Refusal::AlreadyOpen)),
@@ -85,6 +87,8 @@ impl<H: Handler> Tenant<H> {
         ensures up { log.old.failures ≤ log.new.failures }
         ensures err { OnErr result (self.new ≡ self.old) }
         ensures err_log { OnErr result (log.new.records ≡ log.old.records) }
+        // A unit that gave up no text still has all of them.
+        ensures texts { KeepsTexts self.old → KeepsTexts self.new }
     {
         match step {
             TenantStep::Post { unit, number, text } => {

@@ -1,6 +1,6 @@
 //! An open tenant.
 
-ghost use Rattle.std.specs.Prelude.{◌≡◌, ℕ, List, IfOk, IfErr, MatchOption, None, Some, length, slice_get, true};
+ghost use Rattle.std.specs.Prelude.{◌≡◌, ◌+◌, ℕ, List, IfOk, IfErr, MatchOption, None, Some, length, slice_get, true};
 ghost use Rattle.std.specs.Option.{is_some};
 ghost use Rattle.tenant.specs.Kept.{up_refusal};
 
@@ -27,7 +27,7 @@ pub struct Tenant<H: Handler> {
 }
 
 impl<H: Handler> Model for Tenant<H> {
-    ghost use Rattle.tenant.specs.Kept.{TenantState, released_of};
+    ghost use Rattle.tenant.specs.Kept.{TenantState, gone_of, released_of};
 
     ghost Value = { TenantState H.State };
 
@@ -38,6 +38,7 @@ impl<H: Handler> Model for Tenant<H> {
       members = t.members.items;
       stable_lengths = t.stable_lengths.items;
       frontiers = t.frontiers.items;
+      gone = gone_of t.outlet;
       released = released_of t.outlet;
       letters = t.letters.items;
     } };
@@ -85,11 +86,12 @@ impl<H: Handler> Tenant<H> {
     }
 
     /// How many outputs the unit released.
-    pub(crate) fn released_count(&self, unit: Unit) -> usize
-        ensures { (texts : List (List ℕ)) → slice_get self.now.released unit ≡ Some texts → result ≡ length texts }
+    pub(crate) fn released_count(&self, unit: Unit) -> u64
+        ensures { (gone : ℕ) (texts : List (List ℕ)) → slice_get self.now.gone unit ≡ Some gone
+            → slice_get self.now.released unit ≡ Some texts → result ≡ gone + length texts }
     {
         if usize::from(unit.number()) < self.outlet.len() {
-            self.outlet.released(unit).len()
+            self.outlet.count(unit)
         } else {
             0
         }

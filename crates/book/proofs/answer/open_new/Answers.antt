@@ -4,7 +4,8 @@ use Rattle.std.specs.Prelude.{IfSome, None, Some}
 use Rattle.std.specs.Map.{keys_of, lookup}
 use Rattle.indexmap.specs.IndexMap.{get, keys}
 use Rattle.tenant.specs.Keeping.{OpensPast}
-use Rattle.tenant.specs.Stands.{IsOpened}
+use Rattle.tenant.specs.Stands.{IsOpened, KeepsTexts}
+use Rattle.book.proofs.Standing.{texts_more}
 use Rattle.model.specs.declared.steps.TenantStep.TheVariants.{Open}
 use Rattle.book.specs.Keeping.{KeepsOnAt}
 use Rattle.book.proofs.Answers.{opened-none, opened-some}
@@ -52,3 +53,15 @@ returns-in_ok-put-in-Some-clause-keeps g c =
     let here : get bytes_eq c.put.new.tenants a.name.now ≡ Some c.in-Some.tenant = rw c.copy-own_name.ensures at c.in_ok-put-in-Some.ensures.here in
     subst (KeepsOnAt M None None (record { step = Open a.kinds.now a.quota a.optimism; said = answer.said })) (sym here)
     (keeps_opened M a.kinds.now a.quota a.optimism answer.reply (Some c.in-Some.tenant) answer.said is past)
+
+pub returns-in_ok-put-in-Some-clause-texts : goal.returns-in_ok-put-in-Some-clause-texts
+returns-in_ok-put-in-Some-clause-texts g c =
+    let a = c.args in
+    let here : get bytes_eq c.put.new.tenants a.name.now ≡ Some c.in-Some.tenant = rw c.copy-own_name.ensures at c.in_ok-put-in-Some.ensures.here in
+    let whole = subst (λ t. IfSome t KeepsTexts) c.in-Some.is c.in_ok-answer.ensures.texts in
+    texts_more (get bytes_eq a.tenants.now) (get bytes_eq c.put.new.tenants) a.name.now (Some c.in-Some.tenant) here whole
+    (λ t apart. c.put.ensures.others t (subst (λ n. bytes_eq t n ≡ false) (sym c.copy-own_name.ensures) apart) ∙ ap (lookup (bytes_eq t)) c.reserve.ensures.entries)
+
+pub returns-in_err-put-in-Some-clause-texts : goal.returns-in_err-put-in-Some-clause-texts
+returns-in_err-put-in-Some-clause-texts g c = λ kept name k there.
+    kept name k (sym (ap (lookup (bytes_eq name)) (c.in_err-put-in-Some.ensures.err ∙ c.reserve.ensures.entries)) ∙ there)

@@ -2,7 +2,7 @@ use Rattle.std.proofs.Common.{◌≡◌, ◌∙◌, ap, arith}
 use Rattle.std.specs.Prelude.{slice_get}
 use Rattle.std.proofs.lemmas.Option.{get_or_from_slice_get}
 use Rattle.tenant.specs.Kept.{Member}
-use Rattle.tenant.proofs.Lines.{member_out, same_texts, texts_out}
+use Rattle.tenant.proofs.Lines.{member_out, same_counts, same_texts, texts_out}
 use Rattle.tenant.proofs.Results.{whatever}
 use Rattle.tenant.proofs.release.release_member.Goals as goal
 
@@ -20,3 +20,9 @@ returns-clause-ok g c = λ m frontier texts found own front was.
       texts_out c.args.outlet.now c.reserve.new.self c.release.new.outlet c.args.unit m q c.args.frontiers.now frontier texts same own front was (omega (arith, at, len, long))
           c.reserve.ensures.len c.reserve.ensures.texts c.release.ensures.len c.release.ensures.texts c.release.ensures.others,
     )
+
+pub returns-in_err-reserve-clause-gone : goal.returns-in_err-reserve-clause-gone
+returns-in_err-reserve-clause-gone g c = same_counts c.reserve.new.self c.args.outlet.now c.reserve.ensures.len c.reserve.ensures.gone
+
+pub returns-clause-gone : goal.returns-clause-gone
+returns-clause-gone g c = same_counts c.release.new.outlet c.args.outlet.now (c.release.ensures.len ∙ c.reserve.ensures.len) (λ u. c.release.ensures.gone u ∙ c.reserve.ensures.gone u)

@@ -16,4 +16,4 @@ returns-in-Some g c =
     (sym c.in-Some.ensures)
     (λ w stands. ap Some (sym (c.rollbacks.ensures name w now.host.log.records stands)))
     (world_of M name now.history.items)
-    (c.self.invariant.stands name))
+    (c.self.invariant.replay.stands name))

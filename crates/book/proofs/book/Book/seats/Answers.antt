@@ -17,4 +17,4 @@ returns-in-Some g c =
     (sym c.in-Some.ensures)
     (λ w stands. if_ok c.opening_seats.result (λ found h. h name w now.host.log.records stands) c.opening_seats.ensures)
     (world_of M name now.history.items)
-    (c.self.invariant.stands name))
+    (c.self.invariant.replay.stands name))

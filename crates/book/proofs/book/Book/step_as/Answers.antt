@@ -8,10 +8,12 @@ invariant_of-self-in-Ok g c =
     let now = c.self.inside in
     let next = c.answer-done.new in
     let a = c.in-Ok.answer in
-    rw (c.enter.ensures.entered, c.reserve_place.ensures.same, c.in-Ok.ensures.kept) (
-    entered g.H.Handler.meaning (held_by now.host) (held_by next.self) now.history.items
-    (record { who = c.args.who; step = c.args.step; said = a.said; reply = a.reply })
-    c.self.invariant c.in-Ok.ensures.answered)
+    rw (c.enter.ensures.entered, c.reserve_place.ensures.same, c.in-Ok.ensures.kept) (record {
+      replay = entered g.H.Handler.meaning (held_by now.host) (held_by next.self) now.history.items
+          (record { who = c.args.who; step = c.args.step; said = a.said; reply = a.reply })
+          c.self.invariant.replay c.in-Ok.ensures.answered;
+      texts = c.answer-done.ensures.texts c.self.invariant.texts;
+    })
 
 pub returns-in-Ok-clause-honest : goal.returns-in-Ok-clause-honest
 returns-in-Ok-clause-honest g c =
@@ -21,7 +23,7 @@ returns-in-Ok-clause-honest g c =
     rw (← c.self.view_is, c.enter.ensures.entered, c.reserve_place.ensures.same, c.in-Ok.ensures.kept) (
     said_honestly g.H.Handler.meaning (held_by now.host) (held_by next.self) now.history.items
     (record { who = c.args.who; step = c.args.step; said = a.said; reply = a.reply })
-    c.self.invariant c.in-Ok.ensures.answered)
+    c.self.invariant.replay c.in-Ok.ensures.answered)
 
 pub returns-in-Ok-clause-entered : goal.returns-in-Ok-clause-entered
 returns-in-Ok-clause-entered g c =
@@ -31,4 +33,4 @@ returns-in-Ok-clause-entered g c =
     rw (← c.self.view_is, c.enter.ensures.entered, c.enter.ensures.reply, c.reserve_place.ensures.same, c.in-Ok.ensures.kept) (inl (
     is_added g.H.Handler.meaning (held_by now.host) (held_by next.self) now.history.items
     (record { who = c.args.who; step = c.args.step; said = a.said; reply = a.reply })
-    c.self.invariant c.in-Ok.ensures.answered))
+    c.self.invariant.replay c.in-Ok.ensures.answered))

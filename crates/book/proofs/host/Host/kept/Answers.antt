@@ -1,6 +1,5 @@
-use Rattle.std.proofs.Common.{◌≡◌, bytes_eq}
+use Rattle.std.proofs.Common.{bytes_eq}
 use Rattle.indexmap.specs.IndexMap.{get}
-use Rattle.book.specs.Keeping.{kept_after}
 use Rattle.book.proofs.Keeping.{kept_none, kept_open}
 use Rattle.book.proofs.host.Host.kept.Goals as goal
 

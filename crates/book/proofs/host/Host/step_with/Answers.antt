@@ -1,7 +1,4 @@
-use Rattle.std.proofs.Common.{◌≡◌, inl, inr, refl, sym, subst}
-use Rattle.model.specs.Addresses.{addressed}
-use Rattle.book.specs.History.{world_of}
-use Rattle.book.proofs.Standing.{commits, forgoes_worked, gives_back}
+use Rattle.book.proofs.Standing.{carries_on, commits, forgoes_worked, gives_back}
 use Rattle.book.proofs.host.Host.step_with.Goals as goal
 
 pub returns-in-Ok-Some : goal.returns-in-Ok-Some
@@ -9,8 +6,9 @@ returns-in-Ok-Some g c = λ who.
     let a = c.in-Ok-Some.answer in
     let is = c.in-Ok-Some.field-0-is in
     rw c.reply_of.ensures
+    (carries_on g.H.Handler.meaning c.args.self.now c.answer_with.new.self c.give_up_after.new.self c.give_up_after.ensures.log c.give_up_after.ensures.replay
     (commits g.H.Handler.meaning c.args.self.now c.answer_with.new.self who c.args.step a.said a.reply c.args.worked.input
-    (rw is at c.in-Ok-Some.ensures.answered) (rw is at c.in-Ok-Some.ensures.fresh))
+    (rw is at c.in-Ok-Some.ensures.answered) (rw is at c.in-Ok-Some.ensures.fresh)))
 
 pub returns-in-Err : goal.returns-in-Err
 returns-in-Err g c = λ who.

@@ -33,7 +33,7 @@ returns-clause-did g c = λ w s.
     (subst (λ vs. said.appended ≤ length vs) volatile c.append_all-said.ensures.within)
     (subst (λ vs. (said.end ≡ Whole) ↔ (said.appended ≡ length vs)) volatile c.append_all-said.ensures.whole)
     (c.is_forgone.ensures.some c.if-is_forgone.false)
-    (c.enter_stable.ensures m c.in-Ok.ensures.found)
+    (c.enter_stable.ensures.makes m c.in-Ok.ensures.found)
     c.append_all-said.ensures.device)
     c.forget_after.ensures.stands c.forget_after.ensures.beside)
 
@@ -53,12 +53,12 @@ returns-clause-keeps_on g c =
     let said = c.append_all-said.result in
     let same : c.recovering.result.now ≡ m.recovering = c.recovering.ensures in
     let volatile : c.recovering.result.now.volatile ≡ m.recovering.volatile = ap (λ (r : Recovering g.row.H-State.Denot). r.volatile) same in
-    flush_keeps g.H.Handler.meaning c.args.tenant.now c.args.self.now c.enter_stable.new.self c.forget_after.new.self c.args.log.now c.append_all-said.new.log c.args.unit m said c.in-Ok.ensures.found (c.enter_stable.ensures m c.in-Ok.ensures.found)
+    flush_keeps g.H.Handler.meaning c.args.tenant.now c.args.self.now c.enter_stable.new.self c.forget_after.new.self c.args.log.now c.append_all-said.new.log c.args.unit m said c.in-Ok.ensures.found (c.enter_stable.ensures.makes m c.in-Ok.ensures.found)
     (λ w s. flush_done g.H.Handler.meaning c.args.tenant.now c.args.self.now w c.args.log.now (opened s) c.args.unit m c.in-Ok.ensures.found c.in-Ok.ensures.up c.append_all-said.new.log c.enter_stable.new.self said
     (c.append_all-said.ensures.records ∙ ap (λ vs. c.args.log.now.records ++ map Some (take said.appended vs)) volatile)
     (subst (λ vs. said.appended ≤ length vs) volatile c.append_all-said.ensures.within)
     (subst (λ vs. (said.end ≡ Whole) ↔ (said.appended ≡ length vs)) volatile c.append_all-said.ensures.whole)
     (c.is_forgone.ensures.some c.if-is_forgone.false)
-    (c.enter_stable.ensures m c.in-Ok.ensures.found)
+    (c.enter_stable.ensures.makes m c.in-Ok.ensures.found)
     c.append_all-said.ensures.device)
     c.forget_after.ensures.bases c.flush_reply.result c.flush_reply.ensures

@@ -1,5 +1,5 @@
 use Rattle.tenant.proofs.Moving.{beside_same, beside_then}
-use Rattle.std.proofs.Common.{◌≡◌, ◌≤◌, ◌+◌, ◌∙◌, suc, sym, ap, subst, arith, length, take}
+use Rattle.std.proofs.Common.{◌≡◌, ◌≤◌, ◌+◌, ◌∙◌, suc, refl, sym, ap, subst, arith, length, take}
 use Rattle.std.proofs.lemmas.List.{take_all}
 use Rattle.model.specs.Keeping.{Shelf, all_based}
 use Rattle.std.specs.Prelude.{List}
@@ -9,10 +9,11 @@ use Rattle.tenant.proofs.Standing.{opened}
 use Rattle.tenant.proofs.tenant.Tenant.forget_firm.Goals as goal
 
 pub loop-at-init : goal.loop-at-init
-loop-at-init g c = record { stands = λ w s. s; beside = beside_same c.args.tenant.now c.args.log.now; bases = λ w shelves s kept. kept }
+loop-at-init g c = record { gone = refl; stands = λ w s. s; beside = beside_same c.args.tenant.now c.args.log.now; bases = λ w shelves s kept. kept }
 
 pub loop-at-preserved : goal.loop-at-preserved
 loop-at-preserved g c = record {
+  gone = c.forget_one.ensures.gone ∙ c.loop-at.invariant.gone;
   stands = λ w s. c.forget_one.ensures.stands w (c.loop-at.invariant.stands w s);
   beside = beside_then c.args.tenant.now c.args.log.now c.loop-at.log c.forget_one.new.log c.loop-at.invariant.beside c.forget_one.ensures.beside;
   bases = λ w shelves s kept.

@@ -28,7 +28,7 @@ returns-then-is_last-clause-did g c = λ w s.
     let m : Member g.row.H-State.Denot = c.in-Ok.field-0.now in
     let found = c.in-Ok.ensures.found in
     let target = c.in-Some.target in
-    rw (c.learn_rows.ensures m found, c.twice.ensures.reply, c.twice.ensures.plain.1)
+    rw (c.learn_rows.ensures.learned m found, c.twice.ensures.reply, c.twice.ensures.plain.1)
     (notice_learns g.H.Handler.meaning c.args.tenant.now c.args.self.now w c.args.log.now (opened s) c.args.unit m found target (c.in-Some.ensures.target m found) (c.in-Some.ensures.kept m found) c.in-Ok.ensures.up
     (le_true (places m.recovering) (target + 1) (sym (c.is_last.ensures m found) ∙ c.if-is_last.true)))
 
@@ -64,7 +64,7 @@ returns-then-is_last-clause-shelves g c =
     let found = c.in-Ok.ensures.found in
     let t : TenantState g.row.H-State.Denot = c.args.self.now in
     let v : TenantState g.row.H-State.Denot = c.learn_rows.new.self in
-    let new = c.learn_rows.ensures m found in
+    let new = c.learn_rows.ensures.learned m found in
     rw (c.twice.ensures.reply) (one_same t c.args.unit m found (record m { known = length t.table }) v (ap (λ (z : TenantState g.row.H-State.Denot). z.members) new) refl (no_letters t v (ap (λ (z : TenantState g.row.H-State.Denot). z.letters) new)))
 
 pub returns-clause-shelves : goal.returns-clause-shelves

@@ -1,6 +1,7 @@
-use Rattle.std.proofs.Common.{◌∙◌, ap, length}
+use Rattle.std.proofs.Common.{◌∙◌, ap, sym, subst, length}
 use Rattle.model.specs.declared.replies.Reply.TheVariants.{Opened}
-use Rattle.tenant.specs.Kept.{opened_kept}
+use Rattle.tenant.specs.Kept.{KeepsTexts, opened_kept}
+use Rattle.tenant.proofs.Lines.{none_at_first}
 use Rattle.tenant.proofs.Beginning.{open_is}
 use Rattle.tenant.proofs.Keeping.{opens_past}
 use Rattle.tenant.proofs.tenant.Tenant.opening.Goals as goal
@@ -11,4 +12,5 @@ returns-then-can_open g c = record {
   past =
       let same = c.as_slice-names.ensures in
       opens_past g.H.Handler.meaning c.args.kinds.now c.args.quota c.args.optimism _ c.in_ok-tenant.tenant (c.in_ok-tenant.ensures ∙ ap (λ ns. opened_kept g.H.Handler.meaning ns c.args.quota c.args.optimism) same) (ap (λ ns. Opened (length ns)) same);
+  texts = subst KeepsTexts (sym c.in_ok-tenant.ensures) (none_at_first (length c.as_slice-names.result.now));
 }

@@ -34,5 +34,5 @@ returns-clause-shelves g c = λ name w records s.
     let t : TenantState g.row.H-State.Denot = c.args.self.now in
     let v : TenantState g.row.H-State.Denot = c.release_at.new.self in
     let x = keeps t (live_in name records) (opened s).stands.0 (opened s).stands.1 c.args.unit m found in
-    let new = c.in_ok-release_at.ensures.ok m x.unit.frontier x.unit.released found x.is.own x.is.frontier x.is.released in
+    let new = c.in_ok-release_at.ensures.ok m x.unit.frontier x.is.released.1 found x.is.own x.is.frontier x.is.released.3 in
     one_same t c.args.unit m found (released_member m x.unit.frontier) v (ap (λ (z : TenantState g.row.H-State.Denot). z.members) new) refl (no_letters t v (ap (λ (z : TenantState g.row.H-State.Denot). z.letters) new))
