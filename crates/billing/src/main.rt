@@ -36,6 +36,7 @@ const BILLING: Program<'static> = Program {
     handler: "billing",
     handler_version: "1",
     kinds: &["ledger", "card"],
+    programs: None,
     example: r#"{"do":"open","tenant":"shop","units":["ledger","card"]}"#,
 };
 

@@ -1,10 +1,11 @@
-//! The program `recall`: step lines in, reply lines out, with the sample handler.
+//! The program `recall`: step lines in, reply lines out, with the sample handler, or with units that run programs too.
 //!
 //! All of it stands in `host_cli`, which has the words, streams and files of any handler.
 #![tactic(auto)]
 
 use handler::Sample;
-use host_cli::{Program, Terminals, run_program};
+use host_cli::{Hosting, Program, Terminals, run_either};
+use programs::Programs;
 use std::io::IsTerminal;
 use std::process::ExitCode;
 
@@ -16,6 +17,11 @@ const RECALL: Program<'static> = Program {
     handler: "sample",
     handler_version: "1",
     kinds: &["echo", "relay", "count", "adder", "tee"],
+    programs: Some(Hosting {
+        handler: "programs",
+        handler_version: "1",
+        kinds: &["echo", "relay", "count", "adder", "tee", "rv32-1"],
+    }),
     example: r#"{"do":"open","tenant":"a","units":["echo"]}"#,
 };
 
@@ -24,5 +30,5 @@ fn main(rt: HostRuntime) -> ExitCode {
         input: rt.stdin().is_terminal(),
         errors: rt.stderr().is_terminal(),
     };
-    ExitCode::from(run_program(&rt, Sample, &RECALL, terminals))
+    ExitCode::from(run_either(&rt, Sample, Programs, &RECALL, terminals))
 }

@@ -1,9 +1,9 @@
 //! The whole command line of a program that hosts a handler: a `main` of a few lines over it is one.
 //!
-//! - `run_program` (`program_run`): reads the words and does what they ask for;
+//! - `run_program` (`program_run`): reads the words and does what they ask for; `run_either`: so with a second handler;
 //! - `journals`: `journal`, thin over `files`.
 //!
-//! `run`, `feeds` and `draw` stand in `runs`, `feed_runs` and `drawings`.
+//! `run`, `feeds`, `draw` and `load` stand in `runs`, `feed_runs`, `drawings` and `images`.
 //!
 //! For whoever has a handler and wants a program. A caller:
 //!
@@ -21,5 +21,5 @@
 mod journals;
 mod program_run;
 
-pub use program_run::{Terminals, run_program};
-pub use words::Program;
+pub use program_run::{Terminals, run_either, run_program};
+pub use words::{Hosting, Program};

@@ -5,6 +5,7 @@ use drawings::draw_on;
 use feed_runs::feeds_on;
 use files::{LogFile, Owner, fill_descriptors, make_log, open_journal};
 use handler::Handler;
+use images::load_on;
 use log::{LevelFilter, Log, Logged, error, warn};
 use runs::{Hosted, run_journaled, run_on};
 use shared_log::MemoryStore;
@@ -41,6 +42,24 @@ pub fn run_program<
         + AllocGlobal,
     H: Handler + Copy + Send + Sync,
 >(rt: &R, handler: H, program: &Program<'_>, terminals: Terminals) -> u8 {
+    run_either(rt, handler, handler, program, terminals)
+}
+
+/// The same for a program with a second handler, which the word `--programs` chooses.
+pub fn run_either<
+    R: Threads
+        + Wait
+        + Sync
+        + Files<File = File>
+        + Env
+        + Clock
+        + Print
+        + Eprint
+        + Input
+        + AllocGlobal,
+    H: Handler + Copy + Send + Sync,
+    P: Handler + Copy + Send + Sync,
+>(rt: &R, handler: H, programs: P, program: &Program<'_>, terminals: Terminals) -> u8 {
     let complaints = Complaints {
         rt,
         name: program.name,
@@ -60,9 +79,29 @@ pub fn run_program<
         return 1;
     };
     match read_words(rt, &pages, words.as_slice()) {
-        Asked::Run(run) => run_as_asked(rt, handler, program, terminals, &run),
-        Asked::Feeds(feeds) => feeds_as_asked(rt, handler, program, terminals, &feeds),
-        Asked::Draw(draw) => draw_on(rt, &told, handler, &draw),
+        Asked::Run(run) => {
+            let hosting = program.hosting(run.programs);
+            if run.programs {
+                run_as_asked(rt, programs, &hosting, terminals, &run)
+            } else {
+                run_as_asked(rt, handler, &hosting, terminals, &run)
+            }
+        }
+        Asked::Feeds(feeds) => {
+            if feeds.programs {
+                feeds_as_asked(rt, programs, program, terminals, &feeds)
+            } else {
+                feeds_as_asked(rt, handler, program, terminals, &feeds)
+            }
+        }
+        Asked::Draw(draw) => {
+            if draw.programs {
+                draw_on(rt, &told, programs, &draw)
+            } else {
+                draw_on(rt, &told, handler, &draw)
+            }
+        }
+        Asked::Load(load) => load_on(rt, &told, &load),
         Asked::Journal(journal) => journal_as_asked(rt, &told, rt.alloc(), &journal),
         Asked::Ended(status) => status,
     }

@@ -13,6 +13,8 @@ pub enum Asked<'a> {
     Draw(DrawWords<'a>),
     /// `journal`.
     Journal(JournalWords<'a>),
+    /// `load`.
+    Load(LoadWords<'a>),
     /// Help was printed, or the words were bad: the status to end with.
     Ended(u8),
 }
@@ -20,6 +22,8 @@ pub enum Asked<'a> {
 /// What `run` is to do beside answering lines.
 #[derive(Clone, Copy, Debug)]
 pub struct RunWords<'a> {
+    /// Host programs, by the second handler.
+    pub programs: bool,
     /// Audit the tenants after the last line.
     pub audit: bool,
     /// Tell why each line was refused.
@@ -41,6 +45,8 @@ pub struct RunWords<'a> {
 /// What `feeds` is to do.
 #[derive(Debug, Drop)]
 pub struct FeedsWords<'a> {
+    /// Host programs, by the second handler.
+    pub programs: bool,
     /// Audit the tenants after the last reply.
     pub audit: bool,
     /// The files of the feeds, in order.
@@ -52,6 +58,8 @@ pub struct FeedsWords<'a> {
 /// What `draw` is to draw, and where to.
 #[derive(Clone, Copy, Debug)]
 pub struct DrawWords<'a> {
+    /// Host programs, by the second handler.
+    pub programs: bool,
     /// The tenant, or else the first one opened.
     pub tenant: Option<&'a str>,
     /// The file, or else the output.
@@ -67,4 +75,17 @@ pub struct JournalWords<'a> {
     pub file: &'a str,
     /// Tell it as JSON.
     pub json: bool,
+}
+
+/// What `load` is to write lines for.
+#[derive(Clone, Copy, Debug)]
+pub struct LoadWords<'a> {
+    /// The file of the image.
+    pub image: &'a str,
+    /// The tenant.
+    pub tenant: &'a str,
+    /// The number of the unit.
+    pub unit: u64,
+    /// The number of the first line among those from outside to the unit.
+    pub number: u64,
 }

@@ -1,6 +1,6 @@
 //! The words, read with `clap`.
 
-use crate::asked::{Asked, DrawWords, FeedsWords, JournalWords, RunWords};
+use crate::asked::{Asked, DrawWords, FeedsWords, JournalWords, LoadWords, RunWords};
 use crate::pages::Pages;
 use crate::talk::Talk;
 use clap::error::ErrorKind;
@@ -50,6 +50,18 @@ const FROM: &str = "from";
 
 /// The option that has how many last columns.
 const LAST: &str = "last";
+
+/// The flag that asks for the second handler.
+const PROGRAMS: &str = "programs";
+
+/// The file of an image.
+const IMAGE: &str = "IMAGE";
+
+/// The option that has a unit's number.
+const UNIT: &str = "unit";
+
+/// The option that has the number of a line from outside.
+const NUMBER: &str = "number";
 
 /// Reads the words, and prints help or what is wrong with them. Help that can't be written is an output
 /// fault, which is told, of status 1.
@@ -205,6 +217,22 @@ fn strict_flag<'a>(alloc: Global) -> Arg<'a> {
         .help("Ends with status 3 where a line was refused; each line is answered all the same")
 }
 
+/// The command with the flag that asks for the second handler, where there is one.
+fn with_programs<'a>(
+    alloc: Global,
+    pages: &'a Pages,
+    command: Result<Command<'a>, Error>,
+) -> Result<Command<'a>, Error> {
+    if !pages.has_programs {
+        return command;
+    }
+    let flag = Arg::new(alloc, PROGRAMS)
+        .long(PROGRAMS)
+        .action(ArgAction::SetTrue)
+        .help("Hosts units that run programs of RV32IM too (kind rv32-1): see `load`");
+    with(command, Ok(flag))
+}
+
 /// The command `run`.
 fn run_command<'a>(alloc: Global, pages: &'a Pages) -> Result<Command<'a>, Error> {
     let run = Command::new(alloc, "run")
@@ -216,7 +244,7 @@ fn run_command<'a>(alloc: Global, pages: &'a Pages) -> Result<Command<'a>, Error
     let run = with(run, adopt_flag(alloc));
     let run = with(run, Ok(explain_flag(alloc)));
     let run = with(run, Ok(strict_flag(alloc)));
-    with_common(alloc, run)
+    with_common(alloc, with_programs(alloc, pages, run))
 }
 
 /// The command with the flags that `run` and `feeds` share.
@@ -243,7 +271,7 @@ fn journal_command<'a>(alloc: Global) -> Result<Command<'a>, Error> {
 }
 
 /// The command `feeds`.
-fn feeds_command<'a>(alloc: Global) -> Result<Command<'a>, Error> {
+fn feeds_command<'a>(alloc: Global, pages: &'a Pages) -> Result<Command<'a>, Error> {
     let feeds = Command::new(alloc, "feeds").about(
         "Runs the step lines of 1 to 64 files as feeds, all at once, and then writes the reply lines, file by file",
     );
@@ -251,18 +279,52 @@ fn feeds_command<'a>(alloc: Global) -> Result<Command<'a>, Error> {
         .required(true)
         .num_args(1..=MAX_FEEDS)
         .help("The step lines of a feed");
-    with_common(alloc, with(Ok(feeds), Ok(files)))
+    with_common(
+        alloc,
+        with_programs(alloc, pages, with(Ok(feeds), Ok(files))),
+    )
 }
 
 /// The command `draw`.
-fn draw_command<'a>(alloc: Global) -> Result<Command<'a>, Error> {
+fn draw_command<'a>(alloc: Global, pages: &'a Pages) -> Result<Command<'a>, Error> {
     let draw = Command::new(alloc, "draw").about(
         "Runs the step lines of standard input, and draws a tenant's space-time diagram as SVG",
     );
     let draw = with(Ok(draw), Ok(tenant_option(alloc)));
     let draw = with(draw, Ok(to_option(alloc)));
     let draw = with(draw, Ok(first_option(alloc)));
-    with(draw, last_option(alloc))
+    with_programs(alloc, pages, with(draw, last_option(alloc)))
+}
+
+/// The command `load`.
+fn load_command<'a>(alloc: Global) -> Result<Command<'a>, Error> {
+    let load = Command::new(alloc, "load").about(
+        "Writes the step lines that load the image of a program into a unit of kind rv32-1",
+    );
+    let image = Arg::new(alloc, IMAGE)
+        .required(true)
+        .help("An ELF file for RV32IM, or an image as it lies in memory");
+    let tenant = Arg::new(alloc, TENANT)
+        .long(TENANT)
+        .value_name("NAME")
+        .required(true)
+        .help("The tenant");
+    let unit = whole_number(alloc, UNIT)
+        .required(true)
+        .help("The unit's number, 0 to 255");
+    let number = whole_number(alloc, NUMBER).help(
+        "How many lines from outside the unit has received before; without it none",
+    );
+    let load = with(with(Ok(load), Ok(image)), Ok(tenant));
+    with(with(load, Ok(unit)), Ok(number))
+}
+
+/// An option that has a whole number.
+fn whole_number<'a>(alloc: Global, name: &'a str) -> Arg<'a> {
+    Arg::new(alloc, name)
+        .long(name)
+        .value_name("N")
+        .value_parser(value_parser!(u64))
 }
 
 /// The option of `draw` that names the tenant.
@@ -302,13 +364,14 @@ fn column_count<'a>(alloc: Global, name: &'a str) -> Arg<'a> {
 }
 
 /// What `recall draw` is to draw, and where to.
-fn draw_words<'a>(draw: &ArgMatches<'a>) -> DrawWords<'a> {
+fn draw_words<'a>(pages: &Pages, draw: &ArgMatches<'a>) -> DrawWords<'a> {
     let window = match (draw.get_one::<usize>(FROM), draw.get_one::<usize>(LAST)) {
         (Some(first), _) => Window::From(first),
         (None, Some(count)) => Window::Last(count),
         (None, None) => Window::Latest,
     };
     DrawWords {
+        programs: asks_programs(pages, draw),
         tenant: draw.get_str(TENANT),
         to: draw.get_str(TO),
         window,
@@ -325,8 +388,9 @@ fn files_of<'a>(alloc: Global, feeds: &ArgMatches<'a>) -> Result<Vec<&'a str>, E
 }
 
 /// What `run` is to do.
-fn run_words<'a>(run: &ArgMatches<'a>) -> RunWords<'a> {
+fn run_words<'a>(pages: &Pages, run: &ArgMatches<'a>) -> RunWords<'a> {
     RunWords {
+        programs: asks_programs(pages, run),
         audit: run.get_flag(AUDIT),
         explain: run.get_flag(EXPLAIN),
         strict: run.get_flag(STRICT),
@@ -348,9 +412,14 @@ fn command_of<'a>(alloc: Global, pages: &'a Pages) -> Result<Command<'a>, Error>
         .after_help(pages.whole.as_str())
         .subcommand_required(true);
     let command = with_command(Ok(command), run_command(alloc, pages));
-    let command = with_command(command, feeds_command(alloc));
-    let command = with_command(command, draw_command(alloc));
-    with_command(command, journal_command(alloc))
+    let command = with_command(command, feeds_command(alloc, pages));
+    let command = with_command(command, draw_command(alloc, pages));
+    let command = with_command(command, journal_command(alloc));
+    if pages.has_programs {
+        with_command(command, load_command(alloc))
+    } else {
+        command
+    }
 }
 
 /// What the words ask for.
@@ -363,29 +432,41 @@ fn read_command<'a, R: AllocGlobal>(
     // The words' first is the name of the file that runs, which need not be the program's.
     let words = words.get(1..).unwrap_or(&[]);
     let matches = command_of(alloc, pages)?.try_get_matches_from(words)?;
-    asked_by(alloc, &matches)
+    asked_by(alloc, pages, &matches)
 }
 
 /// What the command asks for that was found.
-fn asked_by<'a>(alloc: Global, matches: &ArgMatches<'a>) -> Result<Asked<'a>, Error> {
+fn asked_by<'a>(
+    alloc: Global,
+    pages: &Pages,
+    matches: &ArgMatches<'a>,
+) -> Result<Asked<'a>, Error> {
     if let Some(run) = matches.subcommand_matches("run") {
-        return Ok(Asked::Run(run_words(run)));
+        return Ok(Asked::Run(run_words(pages, run)));
     }
     if let Some(feeds) = matches.subcommand_matches("feeds") {
-        return Ok(Asked::Feeds(feeds_words(alloc, feeds)?));
+        return Ok(Asked::Feeds(feeds_words(alloc, pages, feeds)?));
     }
     if let Some(draw) = matches.subcommand_matches("draw") {
-        return Ok(Asked::Draw(draw_words(draw)));
+        return Ok(Asked::Draw(draw_words(pages, draw)));
     }
     if let Some(journal) = matches.subcommand_matches("journal") {
         return Ok(Asked::Journal(journal_words(journal)));
+    }
+    if let Some(load) = matches.subcommand_matches("load") {
+        return Ok(Asked::Load(load_words(load)));
     }
     Ok(Asked::Ended(2))
 }
 
 /// What `feeds` is to do.
-fn feeds_words<'a>(alloc: Global, feeds: &ArgMatches<'a>) -> Result<FeedsWords<'a>, Error> {
+fn feeds_words<'a>(
+    alloc: Global,
+    pages: &Pages,
+    feeds: &ArgMatches<'a>,
+) -> Result<FeedsWords<'a>, Error> {
     Ok(FeedsWords {
+        programs: asks_programs(pages, feeds),
         audit: feeds.get_flag(AUDIT),
         files: files_of(alloc, feeds)?,
         talk: talk_of(feeds),
@@ -397,5 +478,20 @@ fn journal_words<'a>(journal: &ArgMatches<'a>) -> JournalWords<'a> {
     JournalWords {
         file: journal.get_str(FILE).unwrap_or(""),
         json: journal.get_flag(JSON),
+    }
+}
+
+/// Whether the second handler is asked for, where there is one.
+fn asks_programs(pages: &Pages, words: &ArgMatches<'_>) -> bool {
+    pages.has_programs && words.get_flag(PROGRAMS)
+}
+
+/// What `load` is to write lines for.
+fn load_words<'a>(load: &ArgMatches<'a>) -> LoadWords<'a> {
+    LoadWords {
+        image: load.get_str(IMAGE).unwrap_or(""),
+        tenant: load.get_str(TENANT).unwrap_or(""),
+        unit: load.get_one::<u64>(UNIT).unwrap_or(0),
+        number: load.get_one::<u64>(NUMBER).unwrap_or(0),
     }
 }

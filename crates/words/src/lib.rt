@@ -1,6 +1,6 @@
 //! The words of the command line of a program that hosts a handler.
 //!
-//! - `Program`: what such a program tells of itself, its handler's kinds among them;
+//! - `Program`: what such a program tells of itself, its handler's kinds among them; `Hosting`: the same of a second handler;
 //! - `Pages`: the texts of it that are longer than a line;
 //! - `read_words` (`command`): reads the words with `clap`, and prints help or what is wrong with them;
 //! - `Asked` and the words of each command (`asked`): what is asked for; `Talk`: how much is told.
@@ -21,8 +21,8 @@ mod pages;
 mod program;
 mod talk;
 
-pub use asked::{Asked, DrawWords, FeedsWords, JournalWords, RunWords};
+pub use asked::{Asked, DrawWords, FeedsWords, JournalWords, LoadWords, RunWords};
 pub use command::read_words;
 pub use pages::Pages;
-pub use program::Program;
+pub use program::{Hosting, Program};
 pub use talk::Talk;

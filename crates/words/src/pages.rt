@@ -1,6 +1,6 @@
 //! The texts of a program that are longer than a line.
 
-use crate::program::Program;
+use crate::program::{Hosting, Program};
 use std::alloc::{AllocError, Global};
 
 /// The toolchain by which the program was proved.
@@ -39,6 +39,8 @@ pub struct Pages {
     pub run: String,
     /// What stands behind the help of the whole.
     pub whole: String,
+    /// Whether there is a second handler, and the words for it.
+    pub has_programs: bool,
 }
 
 impl Pages {
@@ -48,7 +50,8 @@ impl Pages {
         let example = program.example;
         let whole = format!(in alloc; "Example:\n  printf '%s\\n' '{example}' | {name} run")?;
         let kinds = kinds_of(alloc, program.kinds)?;
-        let run = format!(in alloc; "{STEPS}\nKinds: {kinds}\n\n{STATUSES}\n{whole}")?;
+        let more = programs_of(alloc, program.programs)?;
+        let run = format!(in alloc; "{STEPS}\nKinds: {kinds}\n{more}\n{STATUSES}\n{whole}")?;
         let version = format!(in alloc; "{}\nproved with {KIT}", program.version)?;
         Ok(Pages {
             name: String::from_str(alloc, name)?,
@@ -56,7 +59,19 @@ impl Pages {
             version,
             run,
             whole,
+            has_programs: program.programs.is_some(),
         })
+    }
+}
+
+/// The line on the kinds of the second handler, where there is one.
+fn programs_of(alloc: Global, programs: Option<Hosting<'_>>) -> Result<String, AllocError> {
+    match programs {
+        Some(hosting) => {
+            let kinds = kinds_of(alloc, hosting.kinds)?;
+            format!(in alloc; "With --programs: {kinds}\n")
+        }
+        None => Ok(String::new(alloc)),
     }
 }
 

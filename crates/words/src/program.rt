@@ -15,6 +15,35 @@ pub struct Program<'a> {
     pub handler_version: &'a str,
     /// The names of the kinds that its handler knows, in the order of their numbers.
     pub kinds: &'a [&'a str],
+    /// What the word `--programs` has it host in place of that. Where there is nothing, there is neither this word nor
+    /// `load`.
+    pub programs: Option<Hosting<'a>>,
     /// A line of an example.
     pub example: &'a str,
+}
+
+/// A handler, as the program tells of it.
+#[derive(Clone, Copy, Debug)]
+pub struct Hosting<'a> {
+    /// Its name, which is written beside each journal.
+    pub handler: &'a str,
+    /// Its version: another one where the same texts may have other turns.
+    pub handler_version: &'a str,
+    /// The names of the kinds that it knows, in the order of their numbers.
+    pub kinds: &'a [&'a str],
+}
+
+impl<'a> Program<'a> {
+    /// The program as `--programs` has it, if that was said.
+    pub fn hosting(&self, programs: bool) -> Program<'a> {
+        match self.programs {
+            Some(hosting) if programs => Program {
+                handler: hosting.handler,
+                handler_version: hosting.handler_version,
+                kinds: hosting.kinds,
+                ..*self
+            },
+            _ => *self,
+        }
+    }
 }

@@ -1,0 +1,9 @@
+pub mod Decoding
+pub mod Arithmetic
+pub mod Bytes
+pub mod Storages
+pub mod Pages
+pub mod Memories
+pub mod Machines
+pub mod Predecoding
+pub mod Laws

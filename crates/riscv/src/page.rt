@@ -1,0 +1,186 @@
+//! One page of memory.
+
+ghost use Rattle.std.specs.Prelude.{◌≡◌, ◌<◌, IfOk, IfSome, OnOk, OnErr, slice_index, slice_set};
+ghost use Rattle.std.specs.Str.{bytes_eq};
+ghost use Rattle.std.proofs.Common.{rules};
+ghost use Rattle.std.specs.Cmp.Rules.{comparing};
+ghost use Rattle.riscv.specs.Storages.{words_of};
+ghost use Rattle.riscv.specs.Memories.{zero_page};
+ghost use Rattle.riscv.specs.Decoding.{instruction_of};
+ghost use Rattle.riscv.specs.Predecoding.{meaning};
+
+use crate::predecoded::{Predecoded, predecode, predecode_all};
+use crate::storage::Storage;
+use std::alloc::{AllocError, Global};
+use std::marker::Model;
+
+/// Words of a page.
+const PAGE_WORDS: usize = 1024;
+
+/// What is read of a page that was never written.
+static ZEROS: [u32; PAGE_WORDS] = [0; PAGE_WORDS];
+
+fn zeros() -> &'static [u32]
+    ensures { result.now ≡ zero_page }
+{
+    &ZEROS
+}
+
+/// 1,024 words, seen as their list. Copies share one place, until one of them is written; a page that was
+/// never written has none.
+///
+/// Beside the words it keeps what they say, from the first time on that it is asked for. A word that is
+/// written over is decoded anew, and the others stay, since data and code may lie in one page.
+#[derive(Debug, Drop)]
+pub(crate) struct Page {
+    words: Storage<u32>,
+    code: Storage<Predecoded>,
+}
+
+impl Model for Page {
+    ghost use Rattle.std.specs.Prelude.{List, ℕ};
+    ghost use Rattle.riscv.specs.Storages.{words_of};
+    ghost use Rattle.riscv.specs.Predecoding.{IsPage};
+
+    ghost Value = { List ℕ };
+
+    ghost view = { λ p. words_of p.words };
+
+    ghost invariant = { λ p. IsPage p.words p.code };
+}
+
+impl PartialEq for Page {
+    ghost eq = { bytes_eq };
+
+    ghost laws = { Prim.search (comparing, rules) };
+
+    fn eq(&self, other: &Page) -> bool {
+        match (&self.words, &other.words) {
+            (Storage::Nowhere, Storage::Nowhere) => true,
+            _ => self.as_slice() == other.as_slice(),
+        }
+    }
+}
+
+impl Eq for Page {
+    ghost laws = { Prim.search (comparing, rules) };
+}
+
+impl Page {
+    /// Zeros, which lie nowhere.
+    #[tactic(auto, using(crate::proofs::Pages::length_zero_page))]
+    pub(crate) fn zero() -> Page
+        ensures { result ≡ zero_page }
+    {
+        Page {
+            words: Storage::Nowhere,
+            code: Storage::Nowhere,
+        }
+    }
+
+    /// An equal page, which shares the place where that was shared.
+    pub(crate) fn copy(&self, alloc: Global) -> Result<Page, AllocError>
+        ensures { IfOk result (λ p. p ≡ self.now) }
+    {
+        let words = self.words.copy(alloc)?;
+        let code = self.code.copy(alloc)?;
+        Ok(Page { words, code })
+    }
+
+    /// Lets copies share the place: it stays the same page.
+    pub(crate) fn share(&mut self, alloc: Global) -> Result<(), AllocError>
+        ensures { self.new ≡ self.old }
+    {
+        self.words.share(alloc)?;
+        self.code.share(alloc)
+    }
+
+    /// Whether all words are zeros.
+    pub(crate) fn is_zero(&self) -> bool
+        ensures { result ≡ bytes_eq self.now zero_page }
+    {
+        match self.words {
+            Storage::Nowhere => true,
+            _ => self.as_slice() == zeros(),
+        }
+    }
+
+    fn as_slice(&self) -> &[u32]
+        ensures { result.now ≡ self.now }
+    {
+        match &self.words {
+            Storage::Nowhere => zeros(),
+            Storage::Own(words) => words.as_slice(),
+            Storage::Shared(words) => words.as_slice(),
+        }
+    }
+
+    #[tactic(auto, using(crate::proofs::Pages::zero_page_read))]
+    #[inline]
+    pub(crate) fn word(&self, at: usize) -> u32
+        requires { at < 1024 }
+        ensures { result ≡ slice_index self.now at }
+    {
+        match &self.words {
+            Storage::Own(words) => words[at],
+            Storage::Shared(words) => words.as_slice()[at],
+            Storage::Nowhere => 0,
+        }
+    }
+
+    #[inline]
+    pub(crate) fn set_word(&mut self, alloc: Global, at: usize, n: u32) -> Result<(), AllocError>
+        requires { at < 1024 }
+        ensures ok { OnOk result (self.new ≡ slice_set self.old at n) }
+        ensures err { OnErr result (self.new ≡ self.old) }
+    {
+        if let Storage::Nowhere = self.code
+            && let Storage::Own(words) = &mut self.words
+        {
+            words[at] = n;
+            return Ok(());
+        }
+        self.set_word_apart(alloc, at, n)
+    }
+
+    /// The same, where the page has no place of its own yet or keeps what the words say.
+    #[tactic(auto, using(crate::proofs::KeptCode::decodes_set, crate::proofs::KeptCode::code_within))]
+    #[inline(never)]
+    fn set_word_apart(&mut self, alloc: Global, at: usize, n: u32) -> Result<(), AllocError>
+        requires { at < 1024 }
+        ensures ok { OnOk result (self.new ≡ slice_set self.old at n) }
+        ensures err { OnErr result (self.new ≡ self.old) }
+    {
+        self.words.own(alloc, zeros())?;
+        self.code.part(alloc)?;
+        self.words.put(at, n);
+        self.code.put(at, predecode(n));
+        Ok(())
+    }
+
+    /// What the word at a place says, where that is kept.
+    #[tactic(auto, using(crate::proofs::KeptCode::decoded_at, crate::proofs::KeptCode::code_within))]
+    #[inline(always)]
+    pub(crate) fn predecoded(&self, at: usize) -> Option<&Predecoded>
+        requires { at < 1024 }
+        ensures { IfSome result (λ p. meaning p.now ≡ instruction_of (slice_index self.now at)) }
+    {
+        match &self.code {
+            Storage::Own(code) => Some(&code[at]),
+            Storage::Shared(code) => Some(&code.as_slice()[at]),
+            Storage::Nowhere => None,
+        }
+    }
+
+    /// Keeps what the words say, unless they were never written: then no word is an instruction.
+    pub(crate) fn predecode(&mut self, alloc: Global) -> Result<(), AllocError>
+        ensures { self.new ≡ self.old }
+    {
+        if let Storage::Nowhere = self.words {
+            return Ok(());
+        }
+        let code = predecode_all(alloc, self.as_slice())?;
+        self.code = Storage::Own(code);
+        Ok(())
+    }
+}
