@@ -29,6 +29,7 @@ UNSEEN = {
 OPEN = b'{"do":"open","tenant":"a","units":["echo"]}\n'
 POST = b'{"do":"post","number":0,"tenant":"a","text":"a text of more than sixteen bytes","unit":0}\n'
 FLUSH = b'{"do":"flush","tenant":"a","unit":0}\n'
+IMAGE = b"RV1\1" + bytes(4000)
 LINES = OPEN + POST + FLUSH + b'{"do":"release","tenant":"a","unit":0}\n'
 
 
@@ -173,6 +174,17 @@ def streams(runs):
     runs.run(LINES, "feeds", "given", threads=1)
 
 
+def images(runs):
+    """Images that can't be loaded, and words that name no unit."""
+    unit = ("--tenant", "a", "--unit", "0")
+    runs.run(b"", "load", "none", *unit)
+    runs.run(b"milk\n", "load", "given", *unit)
+    runs.run(IMAGE, "load", "given", *unit, write=0)
+    runs.run(IMAGE, "load", "given", "--tenant", "A", "--unit", "0")
+    runs.run(IMAGE, "load", "given", "--tenant", "a", "--unit", "256")
+    runs.run(IMAGE, "load", "given", *unit, "--number", "4294967295")
+
+
 def memory(runs):
     """Each request for memory refused in turn."""
     runs.refused(LINES, "run")
@@ -181,13 +193,14 @@ def memory(runs):
     runs.refused(LINES, "feeds", "--audit", "-v", "given")
     runs.refused(LINES, "run", "--journal", "small", fresh=("small",))
     runs.refused(b"", "journal", "whole")
+    runs.refused(IMAGE, "load", "given", "--tenant", "a", "--unit", "0")
 
 
 def each_text(program):
     """Whether each text was seen."""
     with tempfile.TemporaryDirectory(dir=program.room) as room:
         runs = Runs(program, room)
-        for scene in (files, journals, streams, memory):
+        for scene in (files, journals, streams, images, memory):
             scene(runs)
     wanted = texts()
     wrong = [f"{text!r} is no text of the sources" for text in UNSEEN if text not in wanted]
