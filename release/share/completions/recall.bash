@@ -3,7 +3,7 @@ _recall() {
     local now=${COMP_WORDS[COMP_CWORD]} before=${COMP_WORDS[COMP_CWORD-1]} command=${COMP_WORDS[1]:-}
     COMPREPLY=()
     if [ "$COMP_CWORD" = 1 ]; then
-        COMPREPLY=($(compgen -W 'run feeds draw journal --help --version' -- "$now"))
+        COMPREPLY=($(compgen -W 'run feeds draw journal load --help --version' -- "$now"))
         return
     fi
     case "$command $before" in
@@ -14,12 +14,16 @@ _recall() {
     'draw --to') COMPREPLY=($(compgen -f -- "$now")) && return ;;
     'draw --from') return ;;
     'draw --last') return ;;
+    'load --tenant') return ;;
+    'load --unit') return ;;
+    'load --number') return ;;
     esac
     case "$command" in
-    run) COMPREPLY=($(compgen -W '--log --journal --from --adopt --explain --strict --audit -q --quiet -v --verbose -h --help' -- "$now")) ;;
-    feeds) COMPREPLY=($(compgen -W '--audit -q --quiet -v --verbose -h --help' -- "$now") $(compgen -f -- "$now")) ;;
-    draw) COMPREPLY=($(compgen -W '--tenant --to --from --last -h --help' -- "$now")) ;;
+    run) COMPREPLY=($(compgen -W '--log --journal --from --adopt --explain --strict --programs --audit -q --quiet -v --verbose -h --help' -- "$now")) ;;
+    feeds) COMPREPLY=($(compgen -W '--programs --audit -q --quiet -v --verbose -h --help' -- "$now") $(compgen -f -- "$now")) ;;
+    draw) COMPREPLY=($(compgen -W '--tenant --to --from --last --programs -h --help' -- "$now")) ;;
     journal) COMPREPLY=($(compgen -W '--json -h --help' -- "$now") $(compgen -f -- "$now")) ;;
+    load) COMPREPLY=($(compgen -W '--tenant --unit --number -h --help' -- "$now") $(compgen -f -- "$now")) ;;
     esac
 }
 complete -o filenames -F _recall recall
