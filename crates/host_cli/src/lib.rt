@@ -13,7 +13,7 @@
 //!         input: rt.stdin().is_terminal(),
 //!         errors: rt.stderr().is_terminal(),
 //!     };
-//!     ExitCode::from(run_program(&rt, Sample, &RECALL, terminals))
+//!     ExitCode::from(run_either(&rt, Sample, Programs, &RECALL, terminals))
 //! }
 //! ```
 #![tactic(auto)]
