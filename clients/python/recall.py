@@ -24,13 +24,23 @@ The outputs of a `release` that was interrupted have left, and aren't given agai
 
 Steps can be sent ahead of their replies: `Host.ask_all` takes any number of them. Neither a `Host` nor a `Tenant` is to
 be used by two threads at once.
+
+Who has inputs and wants outputs takes a `Flow`, which delivers, logs and releases by itself (`recall drive`):
+
+    with recall.Flow("path/to/recall") as flow:
+        flow.open("a", ["tee", "echo"])
+        flow.post("a", 0, "x")
+    for output in flow:
+        print(output.unit, output.text)  # 0 x, then 1 x
 """
 
+import collections
 import json
 import os
 import select
 import subprocess
 import threading
+from typing import NamedTuple
 
 PIECE = 1 << 16  # (bytes that are read at once, at most)
 INTERRUPTED = "a call of it was interrupted before it had read its replies (or is under way in another thread)"
@@ -303,3 +313,133 @@ class Tenant:
     def join(self, kind):
         """Adds a unit of this kind; gives its number."""
         return self._ask("join", kind=kind)["unit"]
+
+
+class Output(NamedTuple):
+    """A text that left. It is never taken back, nor given again by the same run."""
+
+    tenant: str
+    unit: int
+    text: str
+
+
+class Flow:
+    """A flow that runs itself: one run of the program, from `program` with the words `drive` and `words` (as
+    `["--journal", "file"]`; `--from` is none of them, as of `Host`). Its calls raise what those of a `Host` raise, and may
+    be made by several threads. It is iterated for the outputs: by one thread, which waits for the next one, up to the end."""
+
+    def __init__(self, program="recall", words=()):
+        words, pipe = list(words), subprocess.PIPE
+        if any(str(word).split("=")[0] == "--from" for word in words):
+            raise ValueError("a flow takes no --from: read what was missed by a run of its own")
+        self._process = subprocess.Popen([program, "drive", *words], stdin=pipe, stdout=pipe, stderr=pipe)
+        self._writing, self._news = threading.Lock(), threading.Condition()
+        self._asked, self._answered, self._replies = 0, 0, {}  # (the replies that nobody took yet, by their number)
+        self._outputs, self._is_over = collections.deque(), False
+        self._numbers = {}  # (by tenant and unit: the number of the next post, where it is known)
+        self._complaint = []
+        self._threads = [threading.Thread(target=work, daemon=True) for work in (self._read, self._listen)]
+        for thread in self._threads:
+            thread.start()
+
+    def _listen(self):
+        for line in self._process.stderr:
+            self._complaint.append(line.decode(errors="replace"))
+
+    def _read(self):
+        for line in self._process.stdout:
+            told = json.loads(line) if line.endswith(b"\n") else {}
+            with self._news:
+                if "output" in told:
+                    self._outputs.append(Output(told["tenant"], told["unit"], told["output"]))
+                elif told and "audit" not in told:
+                    self._replies[self._answered] = told
+                    self._answered += 1
+                self._news.notify_all()
+        with self._news:
+            self._is_over = True
+            self._news.notify_all()
+
+    def __enter__(self):
+        return self
+
+    def __exit__(self, *_):
+        self.close()
+
+    def close(self):
+        """Ends the input, waits for the program's end, and gives its exit status. Outputs that nobody took stay there."""
+        with self._writing:
+            if not self._process.stdin.closed:
+                try:
+                    self._process.stdin.close()
+                except BrokenPipeError:
+                    pass
+        self._process.wait()
+        for thread in self._threads:
+            thread.join()
+        return self._process.returncode
+
+    def __iter__(self):
+        return self
+
+    def __next__(self):
+        with self._news:
+            self._news.wait_for(lambda: self._outputs or self._is_over)
+            if self._outputs:
+                return self._outputs.popleft()
+        raise StopIteration
+
+    def ask(self, step):
+        """The reply to one step, a dict with the keys of its line; `Refused` where it was refused. A call that is interrupted
+        leaves the flow as it is: the step may have been done."""
+        number = self._send(_line_of(step))
+        with self._news:
+            self._news.wait_for(lambda: number in self._replies or self._is_over)
+            reply = self._replies.pop(number, None)
+        if reply is None:
+            raise Ended(self.close(), "".join(self._complaint), total=self._answered)
+        if "no" in reply:
+            raise Refused(step, reply)
+        return reply
+
+    def _send(self, line):
+        """Writes a line, and gives the number of its reply."""
+        with self._writing:
+            number, self._asked = self._asked, self._asked + 1
+            try:
+                self._process.stdin.write(line)
+                self._process.stdin.flush()
+            except (BrokenPipeError, ValueError):
+                pass  # (the reply that is missing tells of it)
+            return number
+
+    def open(self, tenant, kinds, quota=None, optimism=None):
+        """Opens a tenant with a unit of each of these kinds, unit 0 first, as `Host.open` does."""
+        limits = {"quota": quota, "optimism": optimism}
+        return self.ask({"do": "open", "tenant": tenant, "units": list(kinds), **{key: value for key, value in limits.items() if value is not None}})
+
+    def post(self, tenant, unit, text, number=None):
+        """Gives the unit a text from outside. Without `number` it is the next one, which is asked for where it isn't known."""
+        if number is None:
+            number = self._numbers.get((tenant, unit))
+        if number is None:
+            number = self.status(tenant, unit)["outside"]
+        self._numbers.pop((tenant, unit), None)
+        reply = self.ask({"do": "post", "tenant": tenant, "unit": unit, "number": number, "text": text})
+        self._numbers[tenant, unit] = number + 1
+        return reply
+
+    def kill(self, tenant, unit):
+        """Takes the unit down, as a crash would. What was taken is logged already, so nothing is lost."""
+        return self._do("kill", tenant, unit)["lost"]
+
+    def restart(self, tenant, unit):
+        """Brings the unit up again; what waited for it is delivered."""
+        return self._do("restart", tenant, unit)["row"]
+
+    def status(self, tenant, unit):
+        """How the unit stands: the reply to `status`, whose keys docs/FORMATS.md tells."""
+        return self._do("status", tenant, unit)
+
+    def _do(self, do, tenant, unit):
+        return self.ask({"do": do, "tenant": tenant, "unit": unit})

@@ -9,6 +9,7 @@ import subprocess
 import sys
 import tempfile
 import termios
+import threading
 import time
 import unittest
 
@@ -457,6 +458,94 @@ class Ends(unittest.TestCase):
                 host.open("a", ["echo"])
         self.assertEqual(ended.exception.status, 2)
         self.assertIn("--no-such-word", ended.exception.complaint)
+
+
+class Flows(unittest.TestCase):
+    def flow(self, *words):
+        flow = recall.Flow(PROGRAM, words)
+        self.addCleanup(flow.close)
+        return flow
+
+    def test_outputs_come_in_order(self):
+        with self.flow() as flow:
+            flow.open("a", ["tee", "echo"])
+            self.assertEqual(flow.post("a", 0, "x")["letters"], [0])
+            self.assertEqual([next(flow), next(flow)], [("a", 0, "x"), ("a", 1, "x")])
+            flow.post("a", 0, "y")
+        self.assertEqual(list(flow), [("a", 0, "y"), ("a", 1, "y")])
+
+    def test_an_output_comes_while_the_flow_goes_on(self):
+        flow = self.flow()
+        flow.open("a", ["echo"])
+        for number in range(100):
+            flow.post("a", 0, str(number))
+            self.assertEqual(next(flow).text, str(number))
+
+    def test_a_letter_waits_for_a_restart(self):
+        with self.flow() as flow:
+            flow.open("a", ["relay", "echo"])
+            self.assertEqual(flow.kill("a", 1), 0)
+            flow.post("a", 0, "x")
+            flow.restart("a", 1)
+        self.assertEqual([output.text for output in flow], ["x"])
+
+    def test_a_refusal_is_raised_and_leaves_the_next_number(self):
+        flow = self.flow()
+        flow.open("a", ["echo"])
+        flow.post("a", 0, "x")
+        flow.kill("a", 0)
+        with self.assertRaises(recall.Refused) as refused:
+            flow.post("a", 0, "y")
+        self.assertEqual(refused.exception.name, "down")
+        flow.restart("a", 0)
+        flow.post("a", 0, "y")
+        self.assertEqual([next(flow).text, next(flow).text], ["x", "y"])
+
+    def test_two_threads_have_their_own_replies(self):
+        flow, wrong = self.flow(), []
+        for name in "ab":
+            flow.open(name, ["echo"])
+
+        def give(name, first):
+            for number in range(first, first + 200):
+                if flow.post(name, 0, "x", number - first)["at"] != [0, number - first + 1]:
+                    wrong.append((name, number))
+
+        threads = [threading.Thread(target=give, args=("a", 0)), threading.Thread(target=give, args=("b", 7))]
+        for thread in threads:
+            thread.start()
+        for thread in threads:
+            thread.join()
+        flow.close()
+        self.assertEqual((wrong, len(list(flow))), ([], 400))
+
+    def test_the_end_is_told(self):
+        flow = self.flow()
+        flow.open("a", ["echo"])
+        os.kill(flow._process.pid, signal.SIGKILL)
+        with self.assertRaises(recall.Ended) as ended:
+            flow.post("a", 0, "x", number=0)
+        self.assertEqual(ended.exception.status, -signal.SIGKILL)
+        self.assertEqual(list(flow), [])
+        self.assertRaises(recall.Ended, flow.status, "a", 0)
+
+    def test_bad_words_are_told(self):
+        flow = self.flow("--no-such-word")
+        with self.assertRaises(recall.Ended) as ended:
+            flow.open("a", ["echo"])
+        self.assertEqual(ended.exception.status, 2)
+        self.assertIn("--no-such-word", ended.exception.complaint)
+        self.assertRaises(ValueError, recall.Flow, PROGRAM, ["--from=3"])
+
+    def test_a_journal_is_gone_on_with(self):
+        with tempfile.TemporaryDirectory() as room:
+            words = ["--journal", os.path.join(room, "journal")]
+            with self.flow(*words) as flow:
+                flow.open("a", ["echo"])
+                flow.post("a", 0, "x")
+            with self.flow(*words) as later:
+                later.post("a", 0, "y")
+            self.assertEqual([list(flow), list(later)], [[("a", 0, "x")], [("a", 0, "y")]])
 
 
 class Example(unittest.TestCase):

@@ -132,6 +132,15 @@ module _ {S : Type 0} (M : Meaning S) where
   of_open name k at records F here f None stands = absurd (subst (λ t. StandsAt M name t None records) (sym here) stands)
   of_open name k at records F here f (Some w) stands = f w (subst (λ t. StandsAt M name t (Some w) records) (sym here) stands)
 
+-- where the tenant isn't open there is no world
+pub of_closed : {S : Type 0} (M : Meaning S) (name : List ℕ) (at : Option (TenantState S)) (records : List (Option Record)) (w : Option World) (F : Option World → Type 0)
+    → F None → None ≡ at → StandsAt M name at w records → F w
+of_closed {S} M name at records w F f here stands = go w (subst (λ t. StandsAt M name t w records) (sym here) stands)
+  where
+    go : (z : Option World) → StandsAt M name None z records → F z
+    go None s = f
+    go (Some z) s = absurd s
+
 -- so it is where more is known of that world
 pub of_open_known : {S : Type 0} (M : Meaning S) (name : List ℕ) (k : TenantState S) (at : Option (TenantState S)) (records : List (Option Record)) (w : Option World) (F : Option World → Type 0)
     → Some k ≡ at → ((z : World) → Stands M name k z records → w ≡ Some z → F (Some z))

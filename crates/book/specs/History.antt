@@ -21,7 +21,7 @@ use Rattle.model.specs.declared.steps.Step.{Step}
 use Rattle.model.specs.declared.steps.TenantStep.{TenantStep}
 use Rattle.model.specs.declared.steps.TenantStep.TheVariants.{Open}
 use Rattle.shared_log.specs.Logged.{Grows, IsLeftOf, Logged}
-use Rattle.tenant.specs.Stands.{TenantState, StandsAt, released_in}
+use Rattle.tenant.specs.Stands.{TenantState, StandsAt, receiver_in, released_in}
 use Rattle.book.specs.Entries.{CountsDevice, Ledger, IsEntered}
 use Rattle.book.specs.Keeping.{KeepsAt, KeepsOnAt, keeping_after}
 
@@ -39,6 +39,11 @@ entries_of tenant history = filter (λ e. names tenant e.step) history
 abbrev pub released_at : Option World → ℕ → Option (List (List ℕ))
 released_at None unit = None
 released_at (Some w) unit = released_in w unit
+
+-- whom a letter of the world is to, if both are there
+abbrev pub receiver_at : {S : Type 0} → Meaning S → Option World → ℕ → Option ℕ
+receiver_at M None letter = None
+receiver_at M (Some w) letter = receiver_in M w letter
 
 -- the rows of the world's table, if it is there
 abbrev pub table_at : Option World → Option (List Row)

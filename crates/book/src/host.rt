@@ -9,7 +9,7 @@ ghost use Rattle.tenant.specs.Stands.{StandsAt};
 ghost use Rattle.model.specs.World.{World};
 ghost use Rattle.std.specs.Prelude.{Option};
 ghost use Rattle.book.specs.Commits.{needed, needs_at};
-ghost use Rattle.book.specs.History.{HoldsAsBefore, IsAnswered, opened};
+ghost use Rattle.book.specs.History.{HoldsAsBefore, IsAnswered, opened, receiver_at, world_of};
 ghost use Rattle.book.specs.Keeping.{kept_after};
 ghost use Rattle.book.specs.Standing.{Carries, KeepTexts, ReplaysAsWell, CommitsHonestly, EntersHonestly, HostReplays, IsHostOf, held_by};
 
@@ -17,7 +17,7 @@ use crate::answer::{Tenants, answer, answer_with, ask, give_up, memory_reply};
 use crate::committed::Committed;
 use handler::{Ask, Done, Handler};
 use indexmap::IndexMap;
-use model::{Kept, NoMemory, Reply, Step, TenantName, Unit};
+use model::{Kept, Letter, NoMemory, Reply, Step, TenantName, Unit};
 use shared_log::{SharedLog, Store};
 use std::alloc::Global;
 use std::marker::Model;
@@ -197,6 +197,17 @@ impl<H: Handler, S: Store> Host<H, S> {
     {
         match self.tenants.get(tenant) {
             Some(open) => open.kept(unit),
+            None => None,
+        }
+    }
+
+    /// The unit that a letter of the tenant is to, if the tenant is open and made the letter. Takes no memory.
+    pub fn receiver(&self, tenant: &TenantName, letter: Letter) -> Option<Unit>
+        ensures { (history : List Entry) → HostReplays H.meaning self.now history
+            → result ≡ receiver_at H.meaning (world_of H.meaning tenant.now history) letter }
+    {
+        match self.tenants.get(tenant) {
+            Some(open) => open.receiver(letter),
             None => None,
         }
     }

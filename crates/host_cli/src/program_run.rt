@@ -129,8 +129,8 @@ fn shows_bar(terminals: Terminals, talk: Talk) -> bool {
     talk != Talk::Quiet && terminals.errors
 }
 
-/// `run`: with a log that is written, where a file is named for it, or with one in memory. Reasons are told to a terminal
-/// unasked.
+/// `run` or `drive`: with a log that is written, where a file is named for it, or with one in memory. Reasons are told to a
+/// terminal unasked.
 fn run_as_asked<
     R: Files<File = File> + Clock + Print + Eprint + Input + AllocGlobal,
     H: Handler + Copy,
@@ -150,7 +150,8 @@ fn run_as_asked<
     let told = Logged::new(rt, run.talk.level(), complaints);
     if terminals.input {
         let name = program.name;
-        warn!(&told; "waiting for step lines from the terminal, up to Ctrl-D: `{name} run --help` lists them");
+        let command = if run.drives { "drive" } else { "run" };
+        warn!(&told; "waiting for step lines from the terminal, up to Ctrl-D: `{name} {command} --help` lists them");
     }
     let host = Hosted {
         handler,
@@ -179,7 +180,9 @@ fn run_watched<
     let output = Patient::new(rt, io::writer(rt));
     if let Some(path) = run.journal {
         let owner = owner_of(program);
-        return match open_journal(rt, told, alloc, path, &owner, run.from, run.adopt) {
+        // What a driver writes is counted by its own lines, so that all of the journal's are answered.
+        let from = if run.drives { run.from.map(|_| 0) } else { run.from };
+        return match open_journal(rt, told, alloc, path, &owner, from, run.adopt) {
             Ok(journal) => run_journaled(told, alloc, host, input, output, journal, run),
             Err(status) => status,
         };

@@ -6,11 +6,11 @@ use Rattle.model.specs.declared.steps.Step.{Step}
 use Rattle.forms.specs.Reading.{Gives, step_of_line}
 use Rattle.forms.specs.declared.fault.LineFault.{LineFault}
 use Rattle.lines.specs.Lines.{LinesRead}
-use Rattle.lines.specs.Parts.{Hears}
+use Rattle.lines.specs.Parts.{IsLineRead}
 use Rattle.lines.specs.Serving.{line_step}
 use Rattle.lines.specs.Feeds.{AreReadings, IsReading, ReadingOf}
-use Rattle.lines.specs.declared.input.Heard.{Heard}
-use Rattle.lines.specs.declared.input.Heard.TheVariants.{Line, Long, End}
+use Rattle.lines.specs.declared.input.LineRead.{LineRead}
+use Rattle.lines.specs.declared.input.LineRead.TheVariants.{Line, Long, End}
 use Rattle.lines.proofs.Parts.{LinesRead-more}
 use Rattle.lines.proofs.Runs.{line_step-held, line_step-long}
 
@@ -22,8 +22,8 @@ AreReadings-more (l ∷ ls) [] line step p q = absurd p
 AreReadings-more (l ∷ ls) (s ∷ found) line step p q = (p.0, AreReadings-more ls found line step p.1 q)
 
 -- what was heard is one line more
-pub feed_goes_on : (kind : Heard) (held : List ℕ) (step : Result Step LineFault) (a b c : Option (List ℕ)) (lines : List (List ℕ)) (found : List (Result Step LineFault))
-    → kind ≢ End → Hears kind held b c → IsReading kind held step → LinesRead a b lines → AreReadings lines found
+pub feed_goes_on : (kind : LineRead) (held : List ℕ) (step : Result Step LineFault) (a b c : Option (List ℕ)) (lines : List (List ℕ)) (found : List (Result Step LineFault))
+    → kind ≢ End → IsLineRead kind held b c → IsReading kind held step → LinesRead a b lines → AreReadings lines found
     → (lines' : List (List ℕ)) × LinesRead a c lines' × AreReadings lines' (found ++ step ∷ [])
 feed_goes_on Line held step a b c lines found more heard is read so_far = (
   lines ++ held ∷ [],

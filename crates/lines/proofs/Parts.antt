@@ -6,8 +6,8 @@ use Rattle.std.specs.Prelude.{IfSome}
 use Rattle.std.specs.Io.KnownBytes.{Consumes, Keeps, IsAtEnd}
 use Rattle.model.specs.declared.limits.TheConstants.{MAX_LINE_BYTES}
 use Rattle.lines.specs.Lines.{onto_first, lines_of, IsPart, Holds, LinesRead}
-use Rattle.lines.specs.Parts.{TakesPart, Hears}
-use Rattle.lines.specs.declared.input.Heard.TheVariants.{Line, Long, End}
+use Rattle.lines.specs.Parts.{TakesPart, IsLineRead}
+use Rattle.lines.specs.declared.input.LineRead.TheVariants.{Line, Long, End}
 
 pub at_end : (a : Option (List ℕ)) (shown : List ℕ) → length shown ≡ 0 → IfSome a (λ xs. length shown ≡ 0 → xs ≡ []) → IsAtEnd a
 at_end None shown none h = tt
@@ -80,12 +80,12 @@ TakesPart-kept (Some x) None c p k = absurd p.2
 TakesPart-kept (Some x) (Some y) None p k = absurd k
 TakesPart-kept (Some x) (Some y) (Some z) p k = (p.0, p.1, p.2 ∙ ap (λ l. p.0 ++ l) (sym k))
 
-pub heard_line : (is_long : Bool) (held text : List ℕ) (a c : Option (List ℕ)) → Holds held is_long text → LinesRead a c (text ∷ []) → Hears (cond is_long Long Line) held a c
+pub heard_line : (is_long : Bool) (held text : List ℕ) (a c : Option (List ℕ)) → Holds held is_long text → LinesRead a c (text ∷ []) → IsLineRead (cond is_long Long Line) held a c
 heard_line true held text a c h read = (text, h, read)
 heard_line false held text a c h read =
     (subst (λ t. length t ≤ MAX_LINE_BYTES) (sym h.0) h.1, subst (λ t. LinesRead a c (t ∷ [])) (sym h.0) read)
 
-heard_none : (none : Bool) (held : List ℕ) (a b c : Option (List ℕ)) → eqb (length held) 0 ≡ none → length held ≤ MAX_LINE_BYTES → IsPart held → Consumes a b held → IsAtEnd b → Keeps b c → Hears (cond none End Line) held a c
+heard_none : (none : Bool) (held : List ℕ) (a b c : Option (List ℕ)) → eqb (length held) 0 ≡ none → length held ≤ MAX_LINE_BYTES → IsPart held → Consumes a b held → IsAtEnd b → Keeps b c → IsLineRead (cond none End Line) held a c
 heard_none true held a b c is fits part taken ended kept =
     let unread = subst (Consumes a b) (nil_from_length held (eqb-true _ _ is)) taken in
     (IsAtEnd-unread a b unread ended, Keeps-unread a b c unread kept)
@@ -96,7 +96,7 @@ heard_none false held a b c is fits part taken ended kept = (fits, LinesRead-las
     some (x ∷ xs) e = omega arith
 
 pub heard_last : (is_long : Bool) (held text : List ℕ) (a b c : Option (List ℕ)) → Holds held is_long text → IsPart text → Consumes a b text → IsAtEnd b → Keeps b c
-    → Hears (cond is_long Long (cond (eqb (length held) 0) End Line)) held a c
+    → IsLineRead (cond is_long Long (cond (eqb (length held) 0) End Line)) held a c
 heard_last true held text a b c h part taken ended kept = (text, h, LinesRead-last a b c text part (omega arith) taken ended kept)
 heard_last false held text a b c h part taken ended kept =
     let is = sym h.0 in

@@ -7,8 +7,8 @@ use Rattle.forms.specs.declared.fault.LineFault.{LineFault}
 use Rattle.forms.specs.declared.fault.LineFault.TheVariants.{Bad}
 use Rattle.lines.specs.Lines.{lines_of}
 use Rattle.lines.specs.Serving.{line_step}
-use Rattle.lines.specs.declared.input.Heard.{Heard}
-use Rattle.lines.specs.declared.input.Heard.TheVariants.{Line, Long, End}
+use Rattle.lines.specs.declared.input.LineRead.{LineRead}
+use Rattle.lines.specs.declared.input.LineRead.TheVariants.{Line, Long, End}
 
 -- a line's step, or that it is none, or that there was no memory to read it; one that is too long is none whatever memory there was
 abbrev pub ReadingOf : List ℕ → Result Step LineFault → Type 0
@@ -25,7 +25,7 @@ abbrev pub FeedOf : Option (List ℕ) → List (Result Step LineFault) → Type 
 FeedOf input found = IfSome input (λ all. AreReadings (lines_of all) found)
 
 -- the reading of what was heard
-abbrev pub IsReading : Heard → List ℕ → Result Step LineFault → Type 0
+abbrev pub IsReading : LineRead → List ℕ → Result Step LineFault → Type 0
 IsReading Line held step = Gives (λ s. s) step (step_of_line held)
 IsReading Long held step = step ≡ Err Bad
 IsReading End held step = step ≡ Err Bad

@@ -3,8 +3,8 @@ use Rattle.std.specs.Prelude.{◌≡◌, ◌<◌, ◌≤◌, length, ℕ, List, 
 use Rattle.std.specs.Io.KnownBytes.{Consumes, Keeps, IsAtEnd}
 use Rattle.model.specs.declared.limits.TheConstants.{MAX_LINE_BYTES}
 use Rattle.lines.specs.Lines.{IsPart, Holds, LinesRead}
-use Rattle.lines.specs.declared.input.Heard.{Heard}
-use Rattle.lines.specs.declared.input.Heard.TheVariants.{Line, Long, End}
+use Rattle.lines.specs.declared.input.LineRead.{LineRead}
+use Rattle.lines.specs.declared.input.LineRead.TheVariants.{Line, Long, End}
 use Rattle.lines.specs.declared.part.Part.{Part}
 use Rattle.lines.specs.declared.part.Part.TheVariants.{More, Ended, AtEnd}
 
@@ -26,7 +26,7 @@ Takes (Ended ahead) old new held is_long held' is_long' =
 Takes AtEnd old new held is_long held' is_long' = IsAtEnd old × Keeps old new × (held' ≡ held) × (is_long' ≡ is_long)
 
 -- What was heard, where held is the line. A line that is too long isn't held.
-abbrev pub Hears : Heard → List ℕ → Option (List ℕ) → Option (List ℕ) → Type 0
-Hears Line held old new = (length held ≤ MAX_LINE_BYTES) × LinesRead old new (held ∷ [])
-Hears Long held old new = (text : List ℕ) × (MAX_LINE_BYTES < length text) × LinesRead old new (text ∷ [])
-Hears End held old new = IsAtEnd old × Keeps old new
+abbrev pub IsLineRead : LineRead → List ℕ → Option (List ℕ) → Option (List ℕ) → Type 0
+IsLineRead Line held old new = (length held ≤ MAX_LINE_BYTES) × LinesRead old new (held ∷ [])
+IsLineRead Long held old new = (text : List ℕ) × (MAX_LINE_BYTES < length text) × LinesRead old new (text ∷ [])
+IsLineRead End held old new = IsAtEnd old × Keeps old new

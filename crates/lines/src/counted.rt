@@ -55,7 +55,7 @@ impl<T> Counted<T> {
     }
 
     /// How many more calls may be made of a reader.
-    pub(crate) fn calls_left(&self) -> u64
+    pub fn calls_left(&self) -> u64
         ensures { result ≡ self.now.left }
     {
         self.left

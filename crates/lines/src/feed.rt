@@ -2,12 +2,12 @@
 
 ghost use Rattle.std.specs.Prelude.{◌≡◌, ◌≢◌, ◌<◌, ◌≤◌, IfOk, IfErr, OnOk, vec_capacity};
 ghost use Rattle.model.specs.Failures.{HasRisen};
-ghost use Rattle.lines.specs.Parts.{Hears};
+ghost use Rattle.lines.specs.Parts.{IsLineRead};
 ghost use Rattle.lines.specs.Feeds.{IsReading, FeedOf};
 
 use crate::counted::Counted;
 use crate::fault::ServeFault;
-use crate::input::{Heard, fill, heard_at_end, line_kind};
+use crate::input::{LineRead, fill, heard_at_end, line_kind};
 use crate::part::Part;
 use forms::LineFault;
 use json::Scratch;
@@ -38,7 +38,7 @@ pub fn read_feed<R: BufRead>(
     let mut found = Vec::new(alloc);
     loop {
         match feed_line(reader, &mut held)? {
-            Heard::End => return Ok(found),
+            LineRead::End => return Ok(found),
             kind => {
                 let step = step_of(alloc, &mut scratch, kind, held.as_slice());
                 if found.push(step).is_err() {
@@ -52,21 +52,24 @@ pub fn read_feed<R: BufRead>(
 fn step_of(
     alloc: Global,
     scratch: &mut Scratch,
-    kind: Heard,
+    kind: LineRead,
     held: &[u8],
 ) -> Result<Step, LineFault>
     ensures { IsReading kind held.now result }
 {
     match kind {
-        Heard::Line => read_step(alloc, scratch, held),
-        Heard::Long | Heard::End => Err(LineFault::Bad),
+        LineRead::Line => read_step(alloc, scratch, held),
+        LineRead::Long | LineRead::End => Err(LineFault::Bad),
     }
 }
 
-fn feed_line<R: BufRead>(reader: &mut Counted<R>, held: &mut Vec<u8>) -> Result<Heard, ServeFault>
+fn feed_line<R: BufRead>(
+    reader: &mut Counted<R>,
+    held: &mut Vec<u8>,
+) -> Result<LineRead, ServeFault>
     requires { MAX_LINE_BYTES ≤ vec_capacity held.old }
     ensures room { MAX_LINE_BYTES ≤ vec_capacity held.new }
-    ensures heard { IfOk result (λ heard. Hears heard held.new.items
+    ensures heard { IfOk result (λ heard. IsLineRead heard held.new.items
         (R.remaining reader.old.inner) (R.remaining reader.new.inner)) }
     ensures err { IfErr result (λ e. (e ≡ ServeFault.Read) × HasRisen reader.old.failed reader.new.failed) }
     ensures same { OnOk result (reader.new.failed ≡ reader.old.failed) }

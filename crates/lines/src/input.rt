@@ -3,7 +3,7 @@
 ghost use Rattle.std.specs.Prelude.{◌≡◌, ◌≢◌, ◌<◌, ◌≤◌, ◌==◌, IfOk, IfErr, OnOk, OnErr, if◌then◌else◌, length, vec_capacity};
 ghost use Rattle.std.specs.Io.KnownBytes.{Keeps};
 ghost use Rattle.model.specs.Failures.{HasRisen};
-ghost use Rattle.lines.specs.Parts.{Takes, TakesPart, Hears};
+ghost use Rattle.lines.specs.Parts.{Takes, TakesPart, IsLineRead};
 
 use crate::counted::Counted;
 use crate::fault::ServeFault;
@@ -13,26 +13,29 @@ use std::io::{BufRead, Write};
 
 /// What was read.
 #[derive(Clone, Copy, Debug, PartialEq, Eq)]
-pub(crate) enum Heard {
-    // A line, which is held.
+pub enum LineRead {
+    /// A line, which is held.
     Line,
-    // A line that is too long to hold.
+    /// A line that is too long to hold.
     Long,
-    // No line was left.
+    /// No line was left.
     End,
 }
 
-/// Reads a line. Before each read that may wait, what was written is flushed: that is where the
-/// last read didn't show that there is more.
-pub(crate) fn read_line<R: BufRead, W: Write>(
+/// Reads a line, of which `held` has all bytes then, unless it is too long. Before each read that may wait, what was
+/// written is flushed: that is where the last read didn't show that there is more, as `ahead` tells.
+///
+/// `Read` comes only where the reader failed, and `Write` only where the writer failed. At most a part of a line is taken
+/// then.
+pub fn read_line<R: BufRead, W: Write>(
     reader: &mut Counted<R>,
     writer: &mut Counted<W>,
     held: &mut Vec<u8>,
     ahead: &mut bool,
-) -> Result<Heard, ServeFault>
+) -> Result<LineRead, ServeFault>
     requires { MAX_LINE_BYTES ≤ vec_capacity held.old }
     ensures room { MAX_LINE_BYTES ≤ vec_capacity held.new }
-    ensures heard { IfOk result (λ heard. Hears heard held.new.items
+    ensures heard { IfOk result (λ heard. IsLineRead heard held.new.items
         (R.remaining reader.old.inner) (R.remaining reader.new.inner)) }
     ensures part { OnErr result (TakesPart (R.remaining reader.old.inner) (R.remaining reader.new.inner)) }
     ensures keeps { Keeps (W.contents writer.old.inner) (W.contents writer.new.inner) }
@@ -59,25 +62,30 @@ pub(crate) fn read_line<R: BufRead, W: Write>(
     }
 }
 
-pub(crate) fn line_kind(is_long: bool) -> Heard
-    ensures { result ≡ (if is_long then Heard.Long else Heard.Line) }
-{
-    if is_long { Heard::Long } else { Heard::Line }
-}
-
-pub(crate) fn heard_at_end(held: &[u8], is_long: bool) -> Heard
-    ensures { result ≡ (if is_long then Heard.Long else if length held.now == 0 then Heard.End else Heard.Line) }
+pub(crate) fn line_kind(is_long: bool) -> LineRead
+    ensures { result ≡ (if is_long then LineRead.Long else LineRead.Line) }
 {
     if is_long {
-        Heard::Long
-    } else if held.is_empty() {
-        Heard::End
+        LineRead::Long
     } else {
-        Heard::Line
+        LineRead::Line
     }
 }
 
-pub(crate) fn flush_unless<W: Write>(writer: &mut Counted<W>, ahead: bool) -> Result<(), ServeFault>
+pub(crate) fn heard_at_end(held: &[u8], is_long: bool) -> LineRead
+    ensures { result ≡ (if is_long then LineRead.Long else if length held.now == 0 then LineRead.End else LineRead.Line) }
+{
+    if is_long {
+        LineRead::Long
+    } else if held.is_empty() {
+        LineRead::End
+    } else {
+        LineRead::Line
+    }
+}
+
+/// Flushes what was written, unless there is more to read without waiting. `Write` comes only where the writer failed.
+pub fn flush_unless<W: Write>(writer: &mut Counted<W>, ahead: bool) -> Result<(), ServeFault>
     ensures keeps { Keeps (W.contents writer.old.inner) (W.contents writer.new.inner) }
     ensures err { IfErr result (λ e. (e ≡ ServeFault.Write) × HasRisen writer.old.failed writer.new.failed) }
     ensures same { OnOk result (writer.new.failed ≡ writer.old.failed) }

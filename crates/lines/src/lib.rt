@@ -7,6 +7,7 @@
 //!   which end failed. What raises the count is private to the module `counted`.
 //! - `FuseReader`: a reader for tests, which fails before a line.
 //! - `part` and `input`: a line is read a part at a time, in one buffer whatever its length.
+//! - `read_line`, `put_reply`, `put_bytes`, `flush_unless`: what another loop over lines is made of, as `driver` has one.
 //! - `read_step`, `write_reply` and `LineFault` are those of `forms`: what one line means.
 //!
 //! A line ends at a line feed, which is no part of it; what follows the last line feed is a line
@@ -39,4 +40,5 @@ pub use fault::ServeFault;
 pub use feed::read_feed;
 pub use forms::{LineFault, read_step, write_reply};
 pub use fuse_reader::FuseReader;
-pub use serving::{fault_reply, memory_aside, put_reply, serve, serve_host};
+pub use input::{LineRead, flush_unless, read_line};
+pub use serving::{fault_reply, memory_aside, put_bytes, put_reply, serve, serve_host};

@@ -1,6 +1,6 @@
 //! Serving.
 
-ghost use Rattle.std.specs.Prelude.{◌≡◌, ◌≢◌, ◌<◌, ◌≤◌, ℕ, List, [], IfOk, OnOk, OnErr, All, length, vec_capacity, Some};
+ghost use Rattle.std.specs.Prelude.{◌≡◌, ◌≢◌, ◌<◌, ◌≤◌, ℕ, List, [], IfErr, IfOk, OnOk, OnErr, All, length, vec_capacity, Some};
 ghost use Rattle.std.specs.Io.KnownBytes.{Appends};
 ghost use Rattle.model.specs.Failures.{HasRisen};
 ghost use Rattle.model.specs.declared.replies.Reply.{Reply as ReplyOf};
@@ -15,7 +15,7 @@ ghost use Rattle.lines.specs.Serving.{AnsweredLineBy, Serves, EntersEach, HostSe
 
 use crate::counted::Counted;
 use crate::fault::ServeFault;
-use crate::input::{Heard, flush_unless, read_line};
+use crate::input::{LineRead, flush_unless, read_line};
 use book::{Book, Host};
 use forms::LineFault;
 use handler::Handler;
@@ -166,18 +166,18 @@ fn serve_line<R: BufRead, W: Write, B, F: Fn(&mut B, Step) -> Reply>(
     ensures fewer { OnOk result (reader.new.left < reader.old.left) }
 {
     match read_line(reader, writer, held, ahead)? {
-        Heard::End => {
+        LineRead::End => {
             flush_unless(writer, false)?;
             Ok(false)
         }
-        Heard::Long => {
+        LineRead::Long => {
             let reply = Reply::Refused {
                 refusal: Refusal::BadLine,
             };
             put_reply(alloc, writer, text, &reply)?;
             Ok(true)
         }
-        Heard::Line => {
+        LineRead::Line => {
             let reply = answer_line(alloc, book, step, scratch, held.as_slice());
             put_reply(alloc, writer, text, &reply)?;
             Ok(true)
@@ -217,9 +217,20 @@ pub fn put_reply<W: Write>(
     let Ok(line) = line_of(room, reply) else {
         return Err(ServeFault::NoMemory);
     };
-    let put = writer.put(line.as_slice());
+    let put = put_bytes(writer, line.as_slice());
     *text = line;
-    match put {
+    put
+}
+
+/// Writes these bytes. `Write` comes only where the writer failed; a beginning of them may be written then.
+pub fn put_bytes<W: Write>(writer: &mut Counted<W>, bytes: &[u8]) -> Result<(), ServeFault>
+    ensures ok { OnOk result (Appends (W.contents writer.old.inner) (W.contents writer.new.inner) bytes.now) }
+    ensures err { OnErr result
+        (AppendsBeginning (W.contents writer.old.inner) (W.contents writer.new.inner) bytes.now) }
+    ensures fault { IfErr result (λ e. (e ≡ ServeFault.Write) × HasRisen writer.old.failed writer.new.failed) }
+    ensures same { OnOk result (writer.new.failed ≡ writer.old.failed) }
+{
+    match writer.put(bytes) {
         Ok(()) => Ok(()),
         Err(_) => Err(ServeFault::Write),
     }

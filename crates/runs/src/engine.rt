@@ -5,7 +5,9 @@ ghost use Rattle.std.specs.Prelude.{◌≡◌, []};
 use crate::explained::serve_explained;
 use crate::hosted::Hosted;
 use crate::judged::Judged;
+use crate::waits::tell_driven;
 use book::{Book, Host};
+use driver::{Driver, drive, drive_host};
 use handler::Handler;
 use lines::{Counted, ServeFault, serve, serve_host};
 use log::{Log, error};
@@ -20,13 +22,20 @@ use words::RunWords;
 /// The status of a run that refused a line, where that is asked for.
 const REFUSED: u8 = 3;
 
-/// A host, which stores no history, or a book where the run asks for what needs one: audits, and the reasons of refusals.
+/// What steps are done on: a host, which stores no history, or a book where the run asks for what needs one: audits, and
+/// the reasons of refusals.
+enum Stepped<H: Handler, S: Store> {
+    Host(Host<H, S>),
+    Book(Book<H, S>),
+}
+
+/// What answers lines, and carries on behind each where that is asked for.
 ///
 /// It isn't let go of by itself: the process ends with the run, and to let go of each text would take a fifth of its time
 /// (`forget`).
-pub(crate) enum Engine<H: Handler, S: Store> {
-    Host(Host<H, S>),
-    Book(Book<H, S>),
+pub(crate) struct Engine<H: Handler, S: Store> {
+    stepped: Stepped<H, S>,
+    driver: Option<Driver>,
 }
 
 impl<H: Handler, S: Store> Engine<H, S> {
@@ -34,26 +43,30 @@ impl<H: Handler, S: Store> Engine<H, S> {
     pub(crate) fn new(alloc: Global, handler: H, store: S, asked: &RunWords<'_>) -> Engine<H, S>
         requires { S.log store ≡ [] }
     {
-        if asked.audit || asked.explain {
-            Engine::Book(Book::new(alloc, handler, store))
+        let stepped = if asked.audit || asked.explain {
+            Stepped::Book(Book::new(alloc, handler, store))
         } else {
-            Engine::Host(Host::new(alloc, handler, store))
-        }
+            Stepped::Host(Host::new(alloc, handler, store))
+        };
+        let driver = asked.drives.then(|| Driver::new(alloc));
+        Engine { stepped, driver }
     }
 
     /// Leaves it as it is, for the process to end with.
     pub(crate) fn forget(self) {
-        match self {
-            Engine::Host(host) => mem::forget(host),
-            Engine::Book(book) => mem::forget(book),
+        let Engine { stepped, driver } = self;
+        mem::forget(driver);
+        match stepped {
+            Stepped::Host(host) => mem::forget(host),
+            Stepped::Book(book) => mem::forget(book),
         }
     }
 
     /// The host, whichever it is.
     fn host(&self) -> &Host<H, S> {
-        match self {
-            Engine::Host(host) => host,
-            Engine::Book(book) => book.host(),
+        match &self.stepped {
+            Stepped::Host(host) => host,
+            Stepped::Book(book) => book.host(),
         }
     }
 
@@ -68,16 +81,23 @@ impl<H: Handler, S: Store> Engine<H, S> {
         writer: &mut Counted<W>,
         explained: Option<u64>,
     ) -> Result<u64, ServeFault> {
-        match (self, explained) {
-            (Engine::Host(host), _) => serve_host(alloc, reader, writer, host),
-            (Engine::Book(book), None) => serve(alloc, reader, writer, book),
-            (Engine::Book(book), Some(before)) => serve_explained(
+        match (&mut self.stepped, explained, &mut self.driver) {
+            (Stepped::Host(host), _, None) => serve_host(alloc, reader, writer, host),
+            (Stepped::Host(host), _, Some(driver)) => {
+                drive_host(alloc, reader, writer, host, driver)
+            }
+            (Stepped::Book(book), None, None) => serve(alloc, reader, writer, book),
+            (Stepped::Book(book), None, Some(driver)) => {
+                drive(alloc, reader, writer, book, driver)
+            }
+            (Stepped::Book(book), Some(before), driver) => serve_explained(
                 told,
                 alloc,
                 hosted,
                 &mut reader.inner,
                 &mut writer.inner,
                 book,
+                driver,
                 before,
             ),
         }
@@ -93,8 +113,11 @@ impl<H: Handler, S: Store> Engine<H, S> {
         asked: &RunWords<'_>,
     ) -> u8 {
         tell_kept(told, self.host(), asked.talk);
-        let audited = match self {
-            Engine::Book(book) if asked.audit => audit_all(
+        if let Some(driver) = &self.driver {
+            tell_driven(told, driver);
+        }
+        let audited = match &self.stepped {
+            Stepped::Book(book) if asked.audit => audit_all(
                 told,
                 alloc,
                 &hosted.handler,

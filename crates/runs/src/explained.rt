@@ -1,8 +1,11 @@
-//! `run --explain`: lines are answered one by one, and each refusal is told with its reason.
+//! `run --explain` and `drive --explain`: lines are answered one by one, and each refusal is told with its reason, and each
+//! letter that waits.
 
 use crate::hosted::Hosted;
+use crate::waits::tell_news;
 use book::Book;
 use diagram::{Untold, why_waits};
+use driver::{Driver, drive};
 use handler::Handler;
 use lines::{Counted, ServeFault, read_step, serve};
 use log::{Log, warn};
@@ -16,7 +19,7 @@ use std::{io, str};
 /// A line that is no longer than it may be, with its line feed.
 const WHOLE_LINE: u64 = MAX_LINE_BYTES as u64 + 1;
 
-/// Answers each line as `serve` answers it, and tells for each that was refused its number, why, and what would help.
+/// Answers each line as `serve` answers it, or as `drive` does where there is a driver, and tells for each that was refused its number, why, and what would help.
 /// Each reply is out before its reason, and before the next line is read. `before` lines came before the first. Tells how
 /// many lines there were.
 pub(crate) fn serve_explained<L: Log, R: BufRead, W: Write, H: Handler, S: Store>(
@@ -26,6 +29,7 @@ pub(crate) fn serve_explained<L: Log, R: BufRead, W: Write, H: Handler, S: Store
     reader: &mut R,
     writer: &mut W,
     book: &mut Book<H, S>,
+    driver: &mut Option<Driver>,
     before: u64,
 ) -> Result<u64, ServeFault> {
     let mut line = Vec::new(alloc);
@@ -34,7 +38,7 @@ pub(crate) fn serve_explained<L: Log, R: BufRead, W: Write, H: Handler, S: Store
         if !read_line(alloc, reader, &mut line)? {
             return Ok(count - 1);
         }
-        let reply = reply_to(alloc, line.as_slice(), book)?;
+        let reply = reply_to(alloc, line.as_slice(), book, driver)?;
         put(writer, reply.as_slice())?;
         let number = before.saturating_add(count);
         explain(
@@ -46,6 +50,9 @@ pub(crate) fn serve_explained<L: Log, R: BufRead, W: Write, H: Handler, S: Store
             line.as_slice(),
             reply.as_slice(),
         );
+        if let Some(driver) = driver {
+            tell_news(told, alloc, driver, line.as_slice());
+        }
     }
     Ok(u64::MAX - 1)
 }
@@ -95,26 +102,37 @@ fn skip_rest<R: BufRead>(alloc: Global, reader: &mut R) -> Result<(), ServeFault
     Ok(())
 }
 
-/// The reply line to a line.
+/// The reply line to a line, and the lines of what left behind it.
 fn reply_to<H: Handler, S: Store>(
     alloc: Global,
     line: &[u8],
     book: &mut Book<H, S>,
+    driver: &mut Option<Driver>,
 ) -> Result<Vec<u8>, ServeFault> {
     let mut reader = Counted::new(line);
     let mut writer = Counted::new(Vec::new(alloc));
-    match serve(alloc, &mut reader, &mut writer, book) {
+    let answered = match driver {
+        Some(driver) => drive(alloc, &mut reader, &mut writer, book, driver),
+        None => serve(alloc, &mut reader, &mut writer, book),
+    };
+    match answered {
         Ok(_) => Ok(writer.inner),
         // A list fails to take bytes for want of memory alone.
         Err(_) => Err(ServeFault::NoMemory),
     }
 }
 
-fn put<W: Write>(writer: &mut W, reply: &[u8]) -> Result<(), ServeFault> {
-    if writer.write_all(reply).is_err() || writer.flush().is_err() {
-        return Err(ServeFault::Write);
+/// Writes these lines, each in one piece.
+fn put<W: Write>(writer: &mut W, lines: &[u8]) -> Result<(), ServeFault> {
+    for line in lines.split_inclusive(|byte| *byte == b'\n') {
+        if writer.write_all(line).is_err() {
+            return Err(ServeFault::Write);
+        }
     }
-    Ok(())
+    match writer.flush() {
+        Ok(()) => Ok(()),
+        Err(_) => Err(ServeFault::Write),
+    }
 }
 
 /// Tells why a line was refused, if it was.

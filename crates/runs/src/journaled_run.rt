@@ -1,10 +1,11 @@
-//! `run --journal`: the lines of the journal are stepped again, and then those of the input, each of which stands in the
-//! journal before it is stepped.
+//! `run --journal` and `drive --journal`: the lines of the journal are stepped again, and then those of the input, each of
+//! which stands in the journal before it is stepped.
 
 use crate::engine::Engine;
 use crate::hosted::Hosted;
 use crate::judged::Judged;
 use crate::no_zeros::NoZeros;
+use crate::skipping::Skipping;
 use durable::{Extent, Journaled};
 use files::{JournalFile, LastingFile, Standing};
 use handler::Handler;
@@ -24,6 +25,8 @@ use words::RunWords;
 enum Place {
     // A line of the journal was read or stepped again.
     Again,
+    // The journal's lines give so many lines fewer than were asked to be left out.
+    Short(u64),
     // A line of the input was read or stepped.
     Input,
     // The input could not be made to last: what became of the journal.
@@ -40,6 +43,9 @@ struct Stop {
 
 /// The reader of a run's input, each block of which stands in the journal first.
 type Input<'a, F, R> = Counted<BufReader<Journaled<NoZeros<R>, LastingFile<'a, F>>>>;
+
+/// What writes the lines of a run.
+type Output<W> = Counted<Promised<Skipping<W>>>;
 
 /// Steps the lines of the journal, answers those that were asked for, and then answers each line of the input. Tells the
 /// status to end with, as `run_on` does; 1 too where the journal fails, or where a step finds no memory: its line stands
@@ -63,7 +69,8 @@ pub fn run_journaled<
         error!(told; "there is no memory for the buffers: free some, and run again");
         return 1;
     };
-    let mut writer = Counted::new(Promised::new(Judged::new(writer)));
+    let skipped = skipped_of(asked);
+    let mut writer = Counted::new(Promised::new(Skipping::new(Judged::new(writer), skipped)));
     let mut engine = Engine::new(alloc, hosted.handler, MemoryStore::new(alloc), asked);
     let gone_on = go_on(
         told,
@@ -76,7 +83,7 @@ pub fn run_journaled<
         asked,
     );
     let status = match gone_on {
-        Ok(()) => engine.end_well(told, alloc, &hosted, &mut writer.inner.inner, asked),
+        Ok(()) => engine.end_well(told, alloc, &hosted, &mut writer.inner.inner.inner, asked),
         Err(stop) => {
             // What was answered goes out, as far as it can.
             let _ = writer.inner.inner.flush();
@@ -88,6 +95,15 @@ pub fn run_journaled<
     status
 }
 
+/// How many lines of what a driver writes whoever goes on has already.
+fn skipped_of(asked: &RunWords<'_>) -> u64 {
+    if asked.drives {
+        asked.from.unwrap_or(0)
+    } else {
+        0
+    }
+}
+
 /// Steps the lines of the journal, and then those of the input.
 fn go_on<L: Log, F: Files<File = File>, R: Read + Drop, W: Write, H: Handler>(
     told: &L,
@@ -95,7 +111,7 @@ fn go_on<L: Log, F: Files<File = File>, R: Read + Drop, W: Write, H: Handler>(
     hosted: &Hosted<'_, H>,
     input: R,
     journal: JournalFile<'_, F>,
-    writer: &mut Counted<Promised<W>>,
+    writer: &mut Output<W>,
     engine: &mut Engine<H, MemoryStore>,
     asked: &RunWords<'_>,
 ) -> Result<(), Stop> {
@@ -103,6 +119,10 @@ fn go_on<L: Log, F: Files<File = File>, R: Read + Drop, W: Write, H: Handler>(
     let lines = extent.lines;
     if let Err(fault) = step_again(told, alloc, hosted, file.file(), &extent, writer, engine) {
         return Err(stop_at(Place::Again, fault, lines));
+    }
+    let left = writer.inner.inner.left;
+    if left > 0 {
+        return Err(stop_at(Place::Short(left), ServeFault::Read, lines));
     }
     let Some(mut reader) = journaling(alloc, input, file) else {
         return Err(stop_at(Place::Input, ServeFault::NoMemory, lines));
@@ -147,7 +167,7 @@ fn step_again<L: Log, W: Write, H: Handler>(
     hosted: &Hosted<'_, H>,
     file: &File,
     extent: &Extent,
-    writer: &mut Counted<Promised<W>>,
+    writer: &mut Output<W>,
     engine: &mut Engine<H, MemoryStore>,
 ) -> Result<(), ServeFault> {
     let Ok(mut reader) = BufReader::with_capacity(alloc, BLOCK, file) else {
@@ -190,6 +210,7 @@ fn tell<L: Log>(told: &L, stop: Stop, is_refused: bool) {
         (_, ServeFault::Write) if is_refused => {
             error!(told; "there is no memory for a step: its line is not answered, and stands in the journal, which has {has}: free some, and go on");
         }
+        (Place::Short(left), _) => tell_short(told, lines, left),
         (Place::Again, ServeFault::Read) => {
             error!(told; "the journal can't be read: nothing of the input is read");
         }
@@ -204,6 +225,12 @@ fn tell<L: Log>(told: &L, stop: Stop, is_refused: bool) {
             error!(told; "there is no memory for a reply: the journal has {has}: free some, and go on");
         }
     }
+}
+
+/// Says that a journal of so many lines gives fewer than are to be left out.
+fn tell_short<L: Log>(told: &L, lines: u64, left: u64) {
+    let (has, fewer) = (Plural(lines, "line"), Plural(left, "line"));
+    error!(told; "the journal, which has {has}, gives {fewer} fewer than are to be left out: nothing of the input is read");
 }
 
 /// Says what became of a journal that can't be written, which has so many lines that last.

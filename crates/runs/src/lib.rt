@@ -1,13 +1,15 @@
-//! `run`, for any handler: step lines in, reply lines out.
+//! `run` and `drive`, for any handler: step lines in, reply lines out, and of `drive` what was released.
 //!
 //! - `run_on` (`run`): reads and writes by blocks;
 //! - `run_journaled` (`journaled_run`): the same behind a journal, thin over `durable` and `journal`, which carry their own
 //!   theorems;
-//! - `Engine`: a host, or a book where the past is asked for, thin over `lines::serve_host` and `lines::serve`, which carry
-//!   the theorem;
-//! - `explained`: each refusal with its reason, thin over `lines::serve` for each line, and over `reasons`;
+//! - `Engine`: a host, or a book where the past is asked for, thin over `serve_host` and `serve` of `lines`, and over
+//!   `drive_host` and `drive` of `driver`, which carry the theorems;
+//! - `explained`: each refusal with its reason, thin over `serve` or `drive` for each line, and over `reasons`;
+//! - `waits`: the letters of a driver that wait, and what it did;
 //! - `Hosted`: a handler, and the names of the kinds that it knows;
-//! - `Judged`: a writer of replies that counts those which refuse; `NoZeros`: a reader without the byte 0.
+//! - `Judged`: a writer of replies that counts those which refuse; `Skipping`: one that leaves out
+//!   the first; `NoZeros`: a reader without the byte 0.
 //!
 //! For `host_cli`, which has the streams and the words. A caller:
 //!
@@ -24,6 +26,8 @@ mod journaled_run;
 mod judged;
 mod no_zeros;
 mod run;
+mod skipping;
+mod waits;
 
 pub use hosted::Hosted;
 pub use journaled_run::run_journaled;

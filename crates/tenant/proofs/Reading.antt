@@ -12,14 +12,15 @@ use Rattle.model.specs.declared.names.Seat.{Seat}
 use Rattle.model.specs.declared.records.Record.{Record}
 use Rattle.model.specs.FailureFree.{opening_seats, opening_units}
 use Rattle.model.specs.Handler.{Meaning}
-use Rattle.model.specs.World.{World, Member as InWorld}
+use Rattle.model.specs.Nodes.{Message}
+use Rattle.model.specs.World.{World, Member as InWorld, executed}
 use Rattle.model.proofs.Places.{get_below}
-use Rattle.compact.specs.Compact.{IsUnit, Unit}
+use Rattle.compact.specs.Compact.{IsUnit, Letter, Unit}
 use Rattle.compact.proofs.Words.{maps_same}
 use Rattle.tenant.specs.Kept.{TenantState, Member}
 use Rattle.tenant.specs.Reads.{opening_count, opening_of, seats_of}
 use Rattle.tenant.specs.Represents.{IsMember, StandsFor}
-use Rattle.tenant.specs.Stands.{released_in}
+use Rattle.tenant.specs.Stands.{receiver_in, released_in}
 
 -- how many units the world was opened with, by their seats
 units_opened : (members : List InWorld) → opening_units members ≡ opening_count (map (λ m. m.seat) members)
@@ -86,3 +87,19 @@ module _ {S : Type 0} (M : Meaning S) (name : List ℕ) (live : ℕ → List ℕ
 
   pub opening_same : opening_of (seats_of t.members) ≡ opening_seats w
   opening_same = ap opening_of seats_same ∙ ap (λ n. take n (map (λ (m : InWorld). m.seat) w.members)) (sym (units_opened w.members))
+
+  -- whom the letter is to
+  pub receiver_same : (l : ℕ) → option_map (λ (c : Letter). c.receiver) (slice_get t.letters l) ≡ receiver_in M w l
+  receiver_same l =
+      let represents = s.2.represents in
+      let sent : length t.letters ≡ length (executed M w).letters = ap length (sym s.1.letters) ∙ represents.sent in
+      elim (dec_lt l (length t.letters)) [
+        | yes q ↦
+            let c = get_below t.letters l q in
+            let received = get_below (executed M w).letters l (omega (arith, q, sent)) in
+            let is = represents.letters l received.0 c.0 received.1 (ap (λ ls. slice_get ls l) s.1.letters ∙ c.1) in
+            ap (option_map (λ (c : Letter). c.receiver)) c.1 ∙ ap Some is.receiver ∙ sym (ap (option_map (λ (m : Message). m.receiver)) received.1)
+        | no q ↦
+            ap (option_map (λ (c : Letter). c.receiver)) (slice_get_past t.letters l (omega (arith, q)))
+            ∙ sym (ap (option_map (λ (m : Message). m.receiver)) (slice_get_past (executed M w).letters l (omega (arith, q, sent))))
+      ]

@@ -11,7 +11,8 @@ use Rattle.model.specs.Failures.{HasRisen}
 use Rattle.model.specs.Handler.{Meaning}
 use Rattle.model.specs.Records.{IsHonest}
 use Rattle.model.specs.Steps.{open_new}
-use Rattle.model.specs.World.{World}
+use Rattle.model.specs.Nodes.{Message}
+use Rattle.model.specs.World.{World, executed}
 use Rattle.shared_log.specs.Logged.{Grows, IsLeftOf, Logged, places_from}
 pub use Rattle.tenant.specs.Kept.{KeepsTexts, TenantState}
 use Rattle.tenant.specs.Outcomes.{done}
@@ -69,3 +70,7 @@ IsOpened M kinds quota optimism answer t =
 -- what a unit of the world has released, if the unit is there
 abbrev pub released_in : World → ℕ → Option (List (List ℕ))
 released_in w u = option_map (λ m. m.released) (slice_get w.members u)
+
+-- whom a letter of the world is to, if it was made
+abbrev pub receiver_in : {S : Type 0} → Meaning S → World → ℕ → Option ℕ
+receiver_in M w letter = option_map (λ (m : Message). m.receiver) (slice_get (executed M w).letters letter)

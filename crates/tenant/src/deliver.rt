@@ -24,7 +24,7 @@ use unit_steps::{Known, SentLetter, letter_refusal};
 
 impl<H: Handler> Tenant<H> {
     /// The letter of this number.
-    fn letter(&self, letter: Letter) -> Option<&SentLetter>
+    pub(crate) fn letter(&self, letter: Letter) -> Option<&SentLetter>
         ensures { MatchOption result (slice_get self.now.letters letter ≡ None) (λ l.
             slice_get self.now.letters letter ≡ Some l.now) }
     {

@@ -8,12 +8,12 @@ ghost use Rattle.tenant.specs.Reads.{opening_count as opening_count_of, opening_
 ghost use Rattle.model.specs.Keeping.{Shelf};
 ghost use Rattle.tenant.specs.Keeping.{KeepsPast};
 ghost use Rattle.tenant.specs.Kept.{KeepsTexts};
-ghost use Rattle.tenant.specs.Stands.{Stands, released_in};
+ghost use Rattle.tenant.specs.Stands.{Stands, receiver_in, released_in};
 
 use crate::member::Member;
 use crate::tenant::Tenant;
 use handler::Handler;
-use model::{NoMemory, Row, Seat, Text, Unit};
+use model::{Letter, NoMemory, Row, Seat, Text, Unit};
 use std::alloc::Global;
 
 /// The seats of all of these.
@@ -66,6 +66,17 @@ impl<H: Handler> Tenant<H> {
             → MatchOption result (released_in w unit ≡ None) (λ texts. released_in w unit ≡ Some texts.now) }
     {
         self.released_texts(unit)
+    }
+
+    /// The unit that the letter is to, if it was made. Takes no memory.
+    pub fn receiver(&self, letter: Letter) -> Option<Unit>
+        ensures { (name : List ℕ) (w : World) (records : List (Option Record))
+            → Stands H.meaning name self.now w records → result ≡ receiver_in H.meaning w letter }
+    {
+        match self.letter(letter) {
+            Some(sent) => Some(sent.receiver),
+            None => None,
+        }
     }
 
     /// Gives up the texts that the unit released, if it is there. Their count stays. Takes no memory.

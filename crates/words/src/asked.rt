@@ -5,7 +5,7 @@ use diagram::Window;
 
 /// What the words ask for.
 pub enum Asked<'a> {
-    /// `run`.
+    /// `run`, or `drive`.
     Run(RunWords<'a>),
     /// `feeds`.
     Feeds(FeedsWords<'a>),
@@ -19,9 +19,11 @@ pub enum Asked<'a> {
     Ended(u8),
 }
 
-/// What `run` is to do beside answering lines.
+/// What `run` or `drive` is to do beside answering lines.
 #[derive(Clone, Copy, Debug)]
 pub struct RunWords<'a> {
+    /// Carry on behind each line, and tell what left.
+    pub drives: bool,
     /// Host programs, by the second handler.
     pub programs: bool,
     /// Audit the tenants after the last line.
@@ -34,7 +36,7 @@ pub struct RunWords<'a> {
     pub log: Option<&'a str>,
     /// The file that the lines are kept in.
     pub journal: Option<&'a str>,
-    /// The line of the journal from which on replies are written.
+    /// The line of the journal from which on replies are written; of `drive` the line of what the journal's lines give.
     pub from: Option<u64>,
     /// Take over a journal that isn't known to be of this program and its handler.
     pub adopt: bool,

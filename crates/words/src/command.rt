@@ -63,6 +63,12 @@ const UNIT: &str = "unit";
 /// The option that has the number of a line from outside.
 const NUMBER: &str = "number";
 
+/// What `--from` asks of `run`.
+const RUN_FROM: &str = "Writes the replies to the lines of the journal from N on (from 0)";
+
+/// What `--from` asks of `drive`.
+const DRIVE_FROM: &str = "Writes what the lines of the journal give from its line N on (from 0), replies and outputs alike";
+
 /// Reads the words, and prints help or what is wrong with them. Help that can't be written is an output
 /// fault, which is told, of status 1.
 pub fn read_words<'a, R: Print + Eprint + AllocGlobal>(
@@ -166,30 +172,26 @@ fn log_option<'a>(alloc: Global) -> Arg<'a> {
     )
 }
 
+/// The option that names the journal.
+fn journal_option<'a>(alloc: Global) -> Arg<'a> {
+    Arg::new(alloc, JOURNAL).long(JOURNAL).value_name("FILE").help(
+        "Keeps each line in FILE before it is stepped, and begins with the lines that FILE has, without their replies",
+    )
+}
+
 /// The option of `run` that names the journal.
-fn journal_option<'a>(alloc: Global) -> Result<Arg<'a>, Error> {
-    let journal = Arg::new(alloc, JOURNAL)
-        .long(JOURNAL)
-        .value_name("FILE")
-        .conflicts_with(LOG)?
-        .help(
-            "Keeps each line in FILE before it is stepped, and begins with the lines that FILE has, without their replies",
-        );
+fn run_journal_option<'a>(alloc: Global) -> Result<Arg<'a>, Error> {
+    let journal = journal_option(alloc).conflicts_with(LOG)?;
     Ok(journal)
 }
 
-/// The option of `run` that has the first line of the journal whose reply is asked for.
-fn from_option<'a>(alloc: Global) -> Result<Arg<'a>, Error> {
-    let from = Arg::new(alloc, FROM)
-        .long(FROM)
-        .value_name("N")
-        .value_parser(value_parser!(u64))
-        .requires_arg(JOURNAL)?
-        .help("Writes the replies to the lines of the journal from N on (from 0)");
+/// The option that has from where on the replies to the lines of the journal are asked for.
+fn from_option<'a>(alloc: Global, help: &'a str) -> Result<Arg<'a>, Error> {
+    let from = whole_number(alloc, FROM).requires_arg(JOURNAL)?.help(help);
     Ok(from)
 }
 
-/// The flag of `run` that takes over a journal.
+/// The flag that takes over a journal.
 fn adopt_flag<'a>(alloc: Global) -> Result<Arg<'a>, Error> {
     let adopt = Arg::new(alloc, ADOPT)
         .long(ADOPT)
@@ -199,7 +201,7 @@ fn adopt_flag<'a>(alloc: Global) -> Result<Arg<'a>, Error> {
     Ok(adopt)
 }
 
-/// The flag of `run` that asks for reasons.
+/// The flag that asks for reasons.
 fn explain_flag<'a>(alloc: Global) -> Arg<'a> {
     Arg::new(alloc, EXPLAIN)
         .long(EXPLAIN)
@@ -209,7 +211,7 @@ fn explain_flag<'a>(alloc: Global) -> Arg<'a> {
         )
 }
 
-/// The flag of `run` that asks for another status where a line was refused.
+/// The flag that asks for another status where a line was refused.
 fn strict_flag<'a>(alloc: Global) -> Arg<'a> {
     Arg::new(alloc, STRICT)
         .long(STRICT)
@@ -239,15 +241,36 @@ fn run_command<'a>(alloc: Global, pages: &'a Pages) -> Result<Command<'a>, Error
         .about("Reads step lines from standard input and writes a reply line for each")
         .after_help(pages.run.as_str());
     let run = with(Ok(run), Ok(log_option(alloc)));
-    let run = with(run, journal_option(alloc));
-    let run = with(run, from_option(alloc));
-    let run = with(run, adopt_flag(alloc));
-    let run = with(run, Ok(explain_flag(alloc)));
-    let run = with(run, Ok(strict_flag(alloc)));
-    with_common(alloc, with_programs(alloc, pages, run))
+    let run = with(run, run_journal_option(alloc));
+    let run = with(run, from_option(alloc, RUN_FROM));
+    with_running(alloc, pages, run)
 }
 
-/// The command with the flags that `run` and `feeds` share.
+/// The command `drive`.
+fn drive_command<'a>(alloc: Global, pages: &'a Pages) -> Result<Command<'a>, Error> {
+    let drive = Command::new(alloc, "drive")
+        .about(
+            "Reads step lines, delivers the letters and releases what is firm behind each, and writes its reply line and a line for each text that left",
+        )
+        .after_help(pages.drive.as_str());
+    let drive = with(Ok(drive), Ok(journal_option(alloc)));
+    let drive = with(drive, from_option(alloc, DRIVE_FROM));
+    with_running(alloc, pages, drive)
+}
+
+/// The command with the words that `run` and `drive` share behind the first.
+fn with_running<'a>(
+    alloc: Global,
+    pages: &'a Pages,
+    command: Result<Command<'a>, Error>,
+) -> Result<Command<'a>, Error> {
+    let command = with(command, adopt_flag(alloc));
+    let command = with(command, Ok(explain_flag(alloc)));
+    let command = with(command, Ok(strict_flag(alloc)));
+    with_common(alloc, with_programs(alloc, pages, command))
+}
+
+/// The command with the flags that `run`, `drive` and `feeds` share.
 fn with_common<'a>(
     alloc: Global,
     command: Result<Command<'a>, Error>,
@@ -390,11 +413,20 @@ fn files_of<'a>(alloc: Global, feeds: &ArgMatches<'a>) -> Result<Vec<&'a str>, E
 /// What `run` is to do.
 fn run_words<'a>(pages: &Pages, run: &ArgMatches<'a>) -> RunWords<'a> {
     RunWords {
+        log: run.get_str(LOG),
+        ..running_words(pages, run, false)
+    }
+}
+
+/// What `run` or `drive` is to do, but for the log.
+fn running_words<'a>(pages: &Pages, run: &ArgMatches<'a>, drives: bool) -> RunWords<'a> {
+    RunWords {
+        drives,
         programs: asks_programs(pages, run),
         audit: run.get_flag(AUDIT),
         explain: run.get_flag(EXPLAIN),
         strict: run.get_flag(STRICT),
-        log: run.get_str(LOG),
+        log: None,
         journal: run.get_str(JOURNAL),
         from: run.get_one::<u64>(FROM),
         adopt: run.get_flag(ADOPT),
@@ -412,6 +444,7 @@ fn command_of<'a>(alloc: Global, pages: &'a Pages) -> Result<Command<'a>, Error>
         .after_help(pages.whole.as_str())
         .subcommand_required(true);
     let command = with_command(Ok(command), run_command(alloc, pages));
+    let command = with_command(command, drive_command(alloc, pages));
     let command = with_command(command, feeds_command(alloc, pages));
     let command = with_command(command, draw_command(alloc, pages));
     let command = with_command(command, journal_command(alloc));
@@ -443,6 +476,9 @@ fn asked_by<'a>(
 ) -> Result<Asked<'a>, Error> {
     if let Some(run) = matches.subcommand_matches("run") {
         return Ok(Asked::Run(run_words(pages, run)));
+    }
+    if let Some(drive) = matches.subcommand_matches("drive") {
+        return Ok(Asked::Run(running_words(pages, drive, true)));
     }
     if let Some(feeds) = matches.subcommand_matches("feeds") {
         return Ok(Asked::Feeds(feeds_words(alloc, pages, feeds)?));

@@ -17,6 +17,12 @@ const STEPS: &str = r#"Steps, one JSON object a line, keys in any order:
                                                notice, release or status
 "#;
 
+/// What `drive` does behind each line.
+const OUTPUTS: &str = r#"Behind each line of a tenant its letters are delivered, what its units took is logged, and what is
+firm is released, a line for each text behind the reply:
+  {"output":TEXT,"tenant":T,"unit":U}
+"#;
+
 /// What the statuses say.
 const STATUSES: &str = "\
 Exit status:
@@ -37,6 +43,8 @@ pub struct Pages {
     pub version: String,
     /// What stands behind the help of `run`.
     pub run: String,
+    /// What stands behind the help of `drive`.
+    pub drive: String,
     /// What stands behind the help of the whole.
     pub whole: String,
     /// Whether there is a second handler, and the words for it.
@@ -52,12 +60,14 @@ impl Pages {
         let kinds = kinds_of(alloc, program.kinds)?;
         let more = programs_of(alloc, program.programs)?;
         let run = format!(in alloc; "{STEPS}\nKinds: {kinds}\n{more}\n{STATUSES}\n{whole}")?;
+        let drive = format!(in alloc; "{OUTPUTS}\n{STEPS}\nKinds: {kinds}\n{more}\n{STATUSES}")?;
         let version = format!(in alloc; "{}\nproved with {KIT}", program.version)?;
         Ok(Pages {
             name: String::from_str(alloc, name)?,
             about: String::from_str(alloc, program.about)?,
             version,
             run,
+            drive,
             whole,
             has_programs: program.programs.is_some(),
         })

@@ -1,0 +1,4 @@
+pub mod Lines
+pub mod Rounds
+pub mod Left
+pub mod Told

@@ -1,0 +1,9 @@
+use Rattle.lines.specs.Doing.{DoesBy}
+use Rattle.driver.specs.Driving.{DroveOn}
+use Rattle.driver.proofs.driving.deliver_letters.Given as goal
+
+-- steps of the driver were done
+abbrev pub invariant-loop-place : goal.invariant-loop-place
+invariant-loop-place g l =
+    DroveOn (DoesBy g.F.Fn l.fn.step) l.fn.tenant l.fn.book l.book
+    (g.W.Write.contents l.fn.writer.inner) (g.W.Write.contents l.writer.inner) l.fn.writer.failed l.writer.failed

@@ -1,0 +1,2 @@
+pub mod Driving
+pub mod Telling

@@ -1,0 +1,157 @@
+"""`drive`, against its rule: python3 tests/drive PROGRAM [WORD]
+
+Each check prints a line where it fails; the last line is `N passed, M failed`. With WORD, only the checks whose names
+have it.
+"""
+
+import os
+import subprocess
+import sys
+import tempfile
+import time
+from multiprocessing import Pool
+
+HERE = os.path.dirname(os.path.abspath(__file__))
+sys.path.append(os.path.join(HERE, "..", "hostile"))
+
+import crashes
+import flows
+import memory
+import rule
+import scripts
+from program import Program
+
+SCRIPTS = 200
+KILLED, KILLS = 20, 10
+EXAMPLES = os.path.join(HERE, "..", "..", "examples", "drive")
+
+
+def drive(program, lines, *words):
+    """What `drive` writes for these lines, what it complains of, and its status."""
+    given = b"".join(line + b"\n" for line in lines)
+    ran = subprocess.run([program, "drive", *words], input=given, capture_output=True, timeout=60)
+    return ran.stdout, ran.stderr, ran.returncode
+
+
+def differs(got, wanted):
+    """Where two outputs differ, if they do."""
+    for at, (one, other) in enumerate(zip(got.splitlines() + [b"nothing"], wanted.splitlines() + [b"nothing"])):
+        if one != other:
+            return f"line {at + 1} is {one.decode(errors='replace')}, and not {other.decode(errors='replace')}"
+    return None if got == wanted else "one ends before the other"
+
+
+def as_due(program, lines, wanted):
+    """By a host, and by a book, which audits at the end and tells why letters wait."""
+    got, _, status = drive(program, lines)
+    if status or got != wanted:
+        return f"status {status}: {differs(got, wanted)}"
+    got, _, status = drive(program, lines, "--audit", "--explain")
+    audits = b"".join(line + b"\n" for line in got.splitlines() if line.startswith(b'{"audit":'))
+    if status or not got.endswith(audits) or b'"no"' in audits:
+        return f"with an audit: status {status}, {audits.decode()}"
+    return differs(got[: len(got) - len(audits)], wanted)
+
+
+def flow(program, name, room):
+    rows = dict(flows.FLOWS)[name]
+    return as_due(program, flows.lines_of(rows), flows.written(rows))
+
+
+def example(program, name, room):
+    with open(os.path.join(EXAMPLES, name + ".jsonl"), "rb") as given, open(os.path.join(EXAMPLES, name + ".lines"), "rb") as due:
+        return as_due(program, given.read().splitlines(), due.read())
+
+
+def follows_the_rule(program, seed, room):
+    lines = scripts.script(seed)
+    wanted, _ = rule.driven(program, lines)
+    return as_due(program, lines, wanted)
+
+
+def begins_a_run_without_failures(program, seed, room):
+    """Each unit's outputs begin those of the same posts without a kill."""
+    whole = scripts.outputs_of(drive(program, scripts.script(seed, fails=False, is_chain=True))[0])
+    for unit, outputs in scripts.outputs_of(drive(program, scripts.script(seed, is_chain=True))[0]).items():
+        if outputs != whole.get(unit, [])[: len(outputs)]:
+            return f"unit {unit} put out {outputs}, and without failures {whole.get(unit)}"
+    return None
+
+
+def killed(program, seed, room):
+    lines = [line + b"\n" for line in scripts.script(seed, 80)]
+    count, wrong = crashes.crash(program, room, lines, seed, KILLS)
+    return wrong or (None if count else "no run was killed")
+
+
+def memory_refused(program, name, room):
+    return memory.wrong_in(Program(program, room), flows.lines_of(dict(flows.FLOWS)[name]), flows.written(dict(flows.FLOWS)[name]))
+
+
+def asks_too_much(program, _, room):
+    """`--from` past what the journal's lines give is told, and nothing of the input is read."""
+    journal = os.path.join(room, "short")
+    drive(program, flows.lines_of(flows.FLOWS[0][1]), "--journal", journal)
+    got, said, status = drive(program, [b"{"], "--journal", journal, "--from", "4")
+    if (got, status) != (b"", 1) or b"gives 1 line fewer" not in said:
+        return f"status {status}: {said.decode()}"
+    got, _, status = drive(program, [], "--journal", journal, "--from", "1")
+    return differs(got, b"".join(flows.written(flows.FLOWS[0][1]).splitlines(True)[1:])) if status == 0 else f"status {status}"
+
+
+def waits_are_told(program, _, room):
+    """A letter that waits is told of with what would help, with --explain once, and at the end."""
+    lines = [flows.open_line("relay", "echo").encode(), flows.of("kill", 1).encode(), flows.post(0, 0).encode(), flows.of("status", 0).encode()]
+    told = b"letter 0 to unit 1 waits: unit 1 is down: restart it"
+    _, said, _ = drive(program, lines)
+    _, explained, _ = drive(program, lines, "--explain")
+    _, verbose, _ = drive(program, lines, "-v")
+    if said.count(told) != 1 or explained.count(told) != 2:
+        return f"told {said.decode()} and {explained.decode()}"
+    return None if b"gave 0 deliveries, 1 flush" in verbose else verbose.decode()
+
+
+def tasks():
+    """Each check: its name, what does it, and of what."""
+    for name, _ in flows.FLOWS:
+        yield f"flow: {name}", flow, name
+        if "ring" not in name:
+            yield f"memory: {name}", memory_refused, name
+    for file in sorted(os.listdir(EXAMPLES)):
+        if file.endswith(".jsonl"):
+            yield f"example: {file}", example, file.removesuffix(".jsonl")
+    for seed in range(SCRIPTS):
+        yield f"rule: script {seed}", follows_the_rule, seed
+        yield f"failures: script {seed}", begins_a_run_without_failures, seed
+    for seed in range(KILLED):
+        yield f"killed: script {seed}", killed, seed
+    yield "journal: --from past the end", asks_too_much, None
+    yield "letters that wait are told of", waits_are_told, None
+
+
+def work(task):
+    path, (name, check, of), room = task
+    try:
+        return name, check(path, of, tempfile.mkdtemp(dir=room))
+    except Exception as error:
+        return name, f"{type(error).__name__}: {error}"
+
+
+def main():
+    if len(sys.argv) not in (2, 3):
+        sys.exit(__doc__)
+    word, begun = sys.argv[2] if len(sys.argv) == 3 else "", time.time()
+    passed, failed = 0, 0
+    with tempfile.TemporaryDirectory() as room, Pool(os.cpu_count()) as pool:
+        chosen = [(os.path.abspath(sys.argv[1]), task, room) for task in tasks() if word in task[0]]
+        for name, wrong in pool.imap_unordered(work, chosen):
+            passed, failed = passed + (wrong is None), failed + (wrong is not None)
+            if wrong is not None:
+                print(f"drive: {name}: {wrong[:500]}", flush=True)
+    print(f"drive: {time.time() - begun:.0f} seconds")
+    print(f"{passed} passed, {failed} failed")
+    return 1 if failed or not passed else 0
+
+
+if __name__ == "__main__":
+    sys.exit(main())
