@@ -181,7 +181,11 @@ fn run_watched<
     if let Some(path) = run.journal {
         let owner = owner_of(program);
         // What a driver writes is counted by its own lines, so that all of the journal's are answered.
-        let from = if run.drives { run.from.map(|_| 0) } else { run.from };
+        let from = if run.drives {
+            run.from.map(|_| 0)
+        } else {
+            run.from
+        };
         return match open_journal(rt, told, alloc, path, &owner, from, run.adopt) {
             Ok(journal) => run_journaled(told, alloc, host, input, output, journal, run),
             Err(status) => status,

@@ -25,8 +25,6 @@ use words::RunWords;
 enum Place {
     // A line of the journal was read or stepped again.
     Again,
-    // The journal's lines give so many lines fewer than were asked to be left out.
-    Short(u64),
     // A line of the input was read or stepped.
     Input,
     // The input could not be made to last: what became of the journal.
@@ -39,6 +37,15 @@ struct Stop {
     place: Place,
     fault: ServeFault,
     lines: u64,
+}
+
+/// Why a run ended early.
+#[derive(Clone, Copy, Debug)]
+enum Ending {
+    // A journal of so many lines gives so many fewer than were asked to be left out.
+    Short { lines: u64, fewer: u64 },
+    // Something failed.
+    Stopped(Stop),
 }
 
 /// The reader of a run's input, each block of which stands in the journal first.
@@ -84,10 +91,13 @@ pub fn run_journaled<
     );
     let status = match gone_on {
         Ok(()) => engine.end_well(told, alloc, &hosted, &mut writer.inner.inner.inner, asked),
-        Err(stop) => {
+        Err(ending) => {
             // What was answered goes out, as far as it can.
             let _ = writer.inner.inner.flush();
-            tell(told, stop, writer.inner.is_refused);
+            match ending {
+                Ending::Short { lines, fewer } => tell_short(told, lines, fewer),
+                Ending::Stopped(stop) => tell(told, stop, writer.inner.is_refused),
+            }
             1
         }
     };
@@ -114,15 +124,15 @@ fn go_on<L: Log, F: Files<File = File>, R: Read + Drop, W: Write, H: Handler>(
     writer: &mut Output<W>,
     engine: &mut Engine<H, MemoryStore>,
     asked: &RunWords<'_>,
-) -> Result<(), Stop> {
+) -> Result<(), Ending> {
     let JournalFile { file, extent } = journal;
     let lines = extent.lines;
     if let Err(fault) = step_again(told, alloc, hosted, file.file(), &extent, writer, engine) {
         return Err(stop_at(Place::Again, fault, lines));
     }
-    let left = writer.inner.inner.left;
-    if left > 0 {
-        return Err(stop_at(Place::Short(left), ServeFault::Read, lines));
+    let fewer = writer.inner.inner.left;
+    if fewer > 0 {
+        return Err(Ending::Short { lines, fewer });
     }
     let Some(mut reader) = journaling(alloc, input, file) else {
         return Err(stop_at(Place::Input, ServeFault::NoMemory, lines));
@@ -137,12 +147,12 @@ fn go_on<L: Log, F: Files<File = File>, R: Read + Drop, W: Write, H: Handler>(
     }
 }
 
-fn stop_at(place: Place, fault: ServeFault, lines: u64) -> Stop {
-    Stop {
+fn stop_at(place: Place, fault: ServeFault, lines: u64) -> Ending {
+    Ending::Stopped(Stop {
         place,
         fault,
         lines,
-    }
+    })
 }
 
 /// What ended the run at the input, where so many lines came before it.
@@ -150,7 +160,7 @@ fn stop_at_input<F: Files<File = File>, R>(
     journaled: &Journaled<R, LastingFile<'_, F>>,
     fault: ServeFault,
     before: u64,
-) -> Stop {
+) -> Ending {
     let place = if journaled.is_broken() {
         Place::Journal(journaled.file().standing())
     } else {
@@ -210,7 +220,6 @@ fn tell<L: Log>(told: &L, stop: Stop, is_refused: bool) {
         (_, ServeFault::Write) if is_refused => {
             error!(told; "there is no memory for a step: its line is not answered, and stands in the journal, which has {has}: free some, and go on");
         }
-        (Place::Short(left), _) => tell_short(told, lines, left),
         (Place::Again, ServeFault::Read) => {
             error!(told; "the journal can't be read: nothing of the input is read");
         }
@@ -228,8 +237,8 @@ fn tell<L: Log>(told: &L, stop: Stop, is_refused: bool) {
 }
 
 /// Says that a journal of so many lines gives fewer than are to be left out.
-fn tell_short<L: Log>(told: &L, lines: u64, left: u64) {
-    let (has, fewer) = (Plural(lines, "line"), Plural(left, "line"));
+fn tell_short<L: Log>(told: &L, lines: u64, fewer: u64) {
+    let (has, fewer) = (Plural(lines, "line"), Plural(fewer, "line"));
     error!(told; "the journal, which has {has}, gives {fewer} fewer than are to be left out: nothing of the input is read");
 }
 

@@ -19,15 +19,23 @@ struct Why(Waiting);
 impl Display for Why {
     fn fmt<W: fmt::Write>(&self, out: &mut Formatter<W>) -> fmt::Result {
         let Waiting {
-            letter, unit, why, ..
+            letter,
+            unit,
+            why,
+            ..
         } = self.0;
         let (letter, unit) = (letter.number(), unit.number());
         write!(out, "letter {letter} to unit {unit} waits: ")?;
         match why {
-            None => out.write_str("a line's deliveries are used up: the tenant's next line goes on"),
+            None => out.write_str(
+                "a line's deliveries are used up: the tenant's next line goes on",
+            ),
             Some(Refusal::Down) => write!(out, "unit {unit} is down: restart it"),
             Some(Refusal::Gap) => out.write_str("an earlier letter of its sender was not received"),
-            Some(Refusal::Wait) => write!(out, "it rests on a restart that unit {unit} isn't told of"),
+            Some(Refusal::Wait) => write!(
+                out,
+                "it rests on a restart that unit {unit} isn't told of"
+            ),
             Some(Refusal::Pending) => out.write_str("too much of what it rests on isn't logged"),
             Some(Refusal::Quota) => out.write_str("a quota of the tenant is used up"),
             Some(Refusal::TooMuch) => out.write_str("its turn makes too much, or too large a text"),

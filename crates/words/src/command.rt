@@ -67,7 +67,8 @@ const NUMBER: &str = "number";
 const RUN_FROM: &str = "Writes the replies to the lines of the journal from N on (from 0)";
 
 /// What `--from` asks of `drive`.
-const DRIVE_FROM: &str = "Writes what the lines of the journal give from its line N on (from 0), replies and outputs alike";
+const DRIVE_FROM: &str =
+    "Writes what the lines of the journal give from its line N on (from 0), replies and outputs alike";
 
 /// Reads the words, and prints help or what is wrong with them. Help that can't be written is an output
 /// fault, which is told, of status 1.
@@ -174,9 +175,12 @@ fn log_option<'a>(alloc: Global) -> Arg<'a> {
 
 /// The option that names the journal.
 fn journal_option<'a>(alloc: Global) -> Arg<'a> {
-    Arg::new(alloc, JOURNAL).long(JOURNAL).value_name("FILE").help(
-        "Keeps each line in FILE before it is stepped, and begins with the lines that FILE has, without their replies",
-    )
+    Arg::new(alloc, JOURNAL)
+        .long(JOURNAL)
+        .value_name("FILE")
+        .help(
+            "Keeps each line in FILE before it is stepped, and begins with the lines that FILE has, without their replies",
+        )
 }
 
 /// The option of `run` that names the journal.

@@ -18,7 +18,8 @@ const STEPS: &str = r#"Steps, one JSON object a line, keys in any order:
 "#;
 
 /// What `drive` does behind each line.
-const OUTPUTS: &str = r#"Behind each line of a tenant its letters are delivered, what its units took is logged, and what is
+const OUTPUTS: &str =
+    r#"Behind each line of a tenant its letters are delivered, what its units took is logged, and what is
 firm is released, a line for each text behind the reply:
   {"output":TEXT,"tenant":T,"unit":U}
 "#;
