@@ -202,7 +202,7 @@ fn write_all<L: Log, H: Handler, W: Write + Drop>(
         return 1;
     }
     info!(told; "answered {} of {}", Plural(count_lines(faults), "line"), Plural(faults.len() as u64, "feed"));
-    tell_kept(told, closed.book().host(), asked.talk);
+    tell_kept(told, closed.book().host(), asked.verbosity);
     if asked.audit {
         audit_all(told, alloc, handler, &mut writer.inner, closed.book())
     } else {

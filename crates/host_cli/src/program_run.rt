@@ -16,8 +16,8 @@ use std::io::{self, ErrorKind, Input};
 use std::sync::Wait;
 use std::thread::Threads;
 use std::time::Clock;
-use terminal::{Bar, Complaints, Patient, Watched, input_size};
-use words::{Asked, FeedsWords, Pages, Program, RunWords, Talk, read_words};
+use terminal::{Bar, Diagnostics, Patient, Watched, input_size};
+use words::{Asked, FeedsWords, Pages, Program, RunWords, Verbosity, read_words};
 
 /// Which standard streams are terminals.
 #[derive(Clone, Copy, Debug)]
@@ -60,12 +60,12 @@ pub fn run_either<
     H: Handler + Copy + Send + Sync,
     P: Handler + Copy + Send + Sync,
 >(rt: &R, handler: H, programs: P, program: &Program<'_>, terminals: Terminals) -> u8 {
-    let complaints = Complaints {
+    let diagnostics = Diagnostics {
         rt,
         name: program.name,
         bar: None,
     };
-    let told = Logged::new(rt, LevelFilter::Warn, complaints);
+    let told = Logged::new(rt, LevelFilter::Warn, diagnostics);
     if let Err(error) = fill_descriptors(rt) {
         error!(&told; "a standard stream is closed, and nothing can stand in its place: {error}");
         return 1;
@@ -125,8 +125,8 @@ fn bad_words<L: Log>(told: &L, program: &Program<'_>, error: &io::Error) -> u8 {
 }
 
 /// Whether a bar may be drawn.
-fn shows_bar(terminals: Terminals, talk: Talk) -> bool {
-    talk != Talk::Quiet && terminals.errors
+fn shows_bar(terminals: Terminals, verbosity: Verbosity) -> bool {
+    verbosity != Verbosity::Quiet && terminals.errors
 }
 
 /// `run` or `drive`: with a log that is written, where a file is named for it, or with one in memory. Reasons are told to a
@@ -135,19 +135,19 @@ fn run_as_asked<
     R: Files<File = File> + Clock + Print + Eprint + Input + AllocGlobal,
     H: Handler + Copy,
 >(rt: &R, handler: H, program: &Program<'_>, terminals: Terminals, asked: &RunWords<'_>) -> u8 {
-    let shows = shows_bar(terminals, asked.talk);
+    let shows = shows_bar(terminals, asked.verbosity);
     let run = RunWords {
         explain: asked.explain || shows,
         ..*asked
     };
     let work = if shows { input_size(rt) } else { None };
     let bar = Bar::new(rt, work);
-    let complaints = Complaints {
+    let diagnostics = Diagnostics {
         rt,
         name: program.name,
         bar: Some(&bar),
     };
-    let told = Logged::new(rt, run.talk.level(), complaints);
+    let told = Logged::new(rt, run.verbosity.level(), diagnostics);
     if terminals.input {
         let name = program.name;
         let command = if run.drives { "drive" } else { "run" };
@@ -218,11 +218,17 @@ fn feeds_as_asked<
     R: Threads + Wait + Sync + Files<File = File> + Print + Eprint + Clock + AllocGlobal,
     H: Handler + Copy + Send + Sync,
 >(rt: &R, handler: H, program: &Program<'_>, terminals: Terminals, feeds: &FeedsWords<'_>) -> u8 {
-    let complaints = Complaints {
+    let diagnostics = Diagnostics {
         rt,
         name: program.name,
         bar: None,
     };
-    let told = Logged::new(rt, feeds.talk.level(), complaints);
-    feeds_on(rt, &told, handler, feeds, shows_bar(terminals, feeds.talk))
+    let told = Logged::new(rt, feeds.verbosity.level(), diagnostics);
+    feeds_on(
+        rt,
+        &told,
+        handler,
+        feeds,
+        shows_bar(terminals, feeds.verbosity),
+    )
 }

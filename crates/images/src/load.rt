@@ -5,14 +5,17 @@ use base64::engine::general_purpose::STANDARD;
 use log::{Log, error};
 use model::TenantName;
 use std::alloc::{AllocError, Global};
-use std::fs::{self, File, Files};
-use std::io::{self, Write};
+use std::fs::{File, Files};
+use std::io::{self, Read, Write};
 use std::time::Clock;
 use terminal::Patient;
 use words::LoadWords;
 
 /// Bytes of an image in a line, at most: with their mark, and in base64, they make a text of 4,093 bytes.
 const PART_BYTES: usize = 3069;
+
+/// Bytes of a file that is loaded, at most: what debuggers want of an ELF file is much longer than an image.
+const MAX_FILE_BYTES: u64 = 67_108_864;
 
 /// The greatest number of a unit.
 const LAST_UNIT: u64 = 255;
@@ -27,6 +30,17 @@ struct Addressee<'a> {
     unit: u64,
 }
 
+/// The bytes of a file; nothing where there are too many, as of a device without an end.
+fn read_file<R: Files<File = File> + AllocGlobal>(
+    rt: &R,
+    path: &str,
+) -> io::Result<Option<Vec<u8>>> {
+    let mut bytes = Vec::new(rt.alloc());
+    let file = File::open(rt, path)?;
+    file.take(MAX_FILE_BYTES + 1).read_to_end(&mut bytes)?;
+    Ok((bytes.len() as u64 <= MAX_FILE_BYTES).then_some(bytes))
+}
+
 /// `load`: writes the step lines that load an image to standard output, and tells the status to end with: 0 where they are
 /// written, 1 where the file can't be read or has no image or the output fails, 2 where a word is bad.
 pub fn load_on<R: Files<File = File> + Clock + Print + AllocGlobal, L: Log>(
@@ -38,8 +52,12 @@ pub fn load_on<R: Files<File = File> + Clock + Print + AllocGlobal, L: Log>(
         return 2;
     }
     let path = load.image;
-    let file = match fs::read(rt, path) {
-        Ok(file) => file,
+    let file = match read_file(rt, path) {
+        Ok(Some(file)) => file,
+        Ok(None) => {
+            error!(told; "{path:?} can't be loaded: it has more than {MAX_FILE_BYTES} bytes");
+            return 1;
+        }
         Err(error) => {
             error!(told; "can't read the image {path:?}: {error}");
             return 1;

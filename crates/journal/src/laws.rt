@@ -36,7 +36,7 @@ pub fn hosts_go_on<H: Handler>()
     ensures { HostsGoOn H.meaning }
 {}
 
-/// Each reply that tells of missing memory has a line that `Promised` refuses.
+/// Each reply that tells of missing memory has a line that `DurableReplies` refuses.
 pub fn memory_is_told()
     ensures { MemoryIsTold }
 {}

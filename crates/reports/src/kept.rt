@@ -6,11 +6,11 @@ use log::{Log, info};
 use model::{Kept, MAX_UNITS, NoMemory, TenantName, Unit};
 use shared_log::Store;
 use terminal::Plural;
-use words::Talk;
+use words::Verbosity;
 
 /// Tells the sums over all units of all tenants, where so much is told.
-pub fn tell_kept<L: Log, H: Handler, S: Store>(told: &L, host: &Host<H, S>, talk: Talk) {
-    if talk != Talk::Verbose {
+pub fn tell_kept<L: Log, H: Handler, S: Store>(told: &L, host: &Host<H, S>, verbosity: Verbosity) {
+    if verbosity != Verbosity::Verbose {
         return;
     }
     match kept_of_all(host) {

@@ -6,7 +6,7 @@
 //! For `runs` and `feed_runs`. A caller:
 //!
 //! ```
-//! tell_kept(told, book, asked.talk);
+//! tell_kept(told, book, asked.verbosity);
 //! audit_all(told, alloc, &handler, writer, book)
 //! ```
 #![tactic(auto)]

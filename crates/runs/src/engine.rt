@@ -112,7 +112,7 @@ impl<H: Handler, S: Store> Engine<H, S> {
         writer: &mut Judged<W>,
         asked: &RunWords<'_>,
     ) -> u8 {
-        tell_kept(told, self.host(), asked.talk);
+        tell_kept(told, self.host(), asked.verbosity);
         if let Some(driver) = &self.driver {
             tell_driven(told, driver);
         }

@@ -9,7 +9,7 @@ use crate::skipping::Skipping;
 use durable::{Extent, Journaled};
 use files::{JournalFile, LastingFile, Standing};
 use handler::Handler;
-use journal::Promised;
+use journal::DurableReplies;
 use lines::{Counted, ServeFault};
 use log::{Log, error, info};
 use shared_log::MemoryStore;
@@ -52,7 +52,7 @@ enum Ending {
 type Input<'a, F, R> = Counted<BufReader<Journaled<NoZeros<R>, LastingFile<'a, F>>>>;
 
 /// What writes the lines of a run.
-type Output<W> = Counted<Promised<Skipping<W>>>;
+type Output<W> = Counted<DurableReplies<Skipping<W>>>;
 
 /// Steps the lines of the journal, answers those that were asked for, and then answers each line of the input. Tells the
 /// status to end with, as `run_on` does; 1 too where the journal fails, or where a step finds no memory: its line stands
@@ -77,7 +77,7 @@ pub fn run_journaled<
         return 1;
     };
     let skipped = skipped_of(asked);
-    let mut writer = Counted::new(Promised::new(Skipping::new(Judged::new(writer), skipped)));
+    let mut writer = Counted::new(DurableReplies::new(Skipping::new(Judged::new(writer), skipped)));
     let mut engine = Engine::new(alloc, hosted.handler, MemoryStore::new(alloc), asked);
     let gone_on = go_on(
         told,
@@ -183,7 +183,7 @@ fn step_again<L: Log, W: Write, H: Handler>(
     let Ok(mut reader) = BufReader::with_capacity(alloc, BLOCK, file) else {
         return Err(ServeFault::NoMemory);
     };
-    let mut nowhere = Counted::new(Promised::new(io::sink()));
+    let mut nowhere = Counted::new(DurableReplies::new(io::sink()));
     let before = reader.by_ref().take(extent.before);
     let mut before = Counted::new(before);
     let seen = engine.answer_all(told, alloc, hosted, &mut before, &mut nowhere, None);

@@ -1,6 +1,6 @@
 //! What a program tells people, and how it waits for its streams.
 //!
-//! - `Complaints`: what is logged goes to standard error, line by line;
+//! - `Diagnostics`: what is logged goes to standard error, line by line;
 //! - `Bar` and `Watched` (`bar`): how far a run is, where standard error is a terminal;
 //! - `Patient`: a stream that is non-blocking is waited for; `BLOCK`: how much of one is read or written at once;
 //! - `Plural`: a number with its noun.
@@ -13,11 +13,11 @@
 #![tactic(auto)]
 
 mod bar;
-mod complaints;
+mod diagnostics;
 mod patient;
 mod plural;
 
 pub use bar::{Bar, Watched, input_size};
-pub use complaints::Complaints;
+pub use diagnostics::Diagnostics;
 pub use patient::{BLOCK, Patient};
 pub use plural::Plural;

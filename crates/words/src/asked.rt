@@ -1,6 +1,6 @@
 //! What the words ask for.
 
-use crate::talk::Talk;
+use crate::verbosity::Verbosity;
 use diagram::Window;
 
 /// What the words ask for.
@@ -41,7 +41,7 @@ pub struct RunWords<'a> {
     /// Take over a journal that isn't known to be of this program and its handler.
     pub adopt: bool,
     /// How much is told.
-    pub talk: Talk,
+    pub verbosity: Verbosity,
 }
 
 /// What `feeds` is to do.
@@ -54,7 +54,7 @@ pub struct FeedsWords<'a> {
     /// The files of the feeds, in order.
     pub files: Vec<&'a str>,
     /// How much is told.
-    pub talk: Talk,
+    pub verbosity: Verbosity,
 }
 
 /// What `draw` is to draw, and where to.

@@ -2,7 +2,7 @@
 
 use crate::asked::{Asked, DrawWords, FeedsWords, JournalWords, LoadWords, RunWords};
 use crate::pages::Pages;
-use crate::talk::Talk;
+use crate::verbosity::Verbosity;
 use clap::error::ErrorKind;
 use clap::{Arg, ArgAction, ArgMatches, Command, Error, value_parser};
 use diagram::Window;
@@ -131,13 +131,13 @@ fn verbose_flag<'a>(alloc: Global) -> Result<Arg<'a>, Error> {
 }
 
 /// How much is told by these words.
-fn talk_of(words: &ArgMatches<'_>) -> Talk {
+fn verbosity_of(words: &ArgMatches<'_>) -> Verbosity {
     if words.get_flag(QUIET) {
-        Talk::Quiet
+        Verbosity::Quiet
     } else if words.get_flag(VERBOSE) {
-        Talk::Verbose
+        Verbosity::Verbose
     } else {
-        Talk::Usual
+        Verbosity::Usual
     }
 }
 
@@ -434,7 +434,7 @@ fn running_words<'a>(pages: &Pages, run: &ArgMatches<'a>, drives: bool) -> RunWo
         journal: run.get_str(JOURNAL),
         from: run.get_one::<u64>(FROM),
         adopt: run.get_flag(ADOPT),
-        talk: talk_of(run),
+        verbosity: verbosity_of(run),
     }
 }
 
@@ -509,7 +509,7 @@ fn feeds_words<'a>(
         programs: asks_programs(pages, feeds),
         audit: feeds.get_flag(AUDIT),
         files: files_of(alloc, feeds)?,
-        talk: talk_of(feeds),
+        verbosity: verbosity_of(feeds),
     })
 }
 

@@ -3,7 +3,7 @@
 //! - `Program`: what such a program tells of itself, its handler's kinds among them; `Hosting`: the same of a second handler;
 //! - `Pages`: the texts of it that are longer than a line;
 //! - `read_words` (`command`): reads the words with `clap`, and prints help or what is wrong with them;
-//! - `Asked` and the words of each command (`asked`): what is asked for; `Talk`: how much is told.
+//! - `Asked` and the words of each command (`asked`): what is asked for; `Verbosity`: how much is told.
 //!
 //! For `host_cli`, which does what the words ask for. A caller:
 //!
@@ -19,10 +19,10 @@ mod asked;
 mod command;
 mod pages;
 mod program;
-mod talk;
+mod verbosity;
 
 pub use asked::{Asked, DrawWords, FeedsWords, JournalWords, LoadWords, RunWords};
 pub use command::read_words;
 pub use pages::Pages;
 pub use program::{Hosting, Program};
-pub use talk::Talk;
+pub use verbosity::Verbosity;

@@ -15,25 +15,25 @@ const MEMORY_END: [u8; 15] = *b"\"no\":\"memory\"}\n";
 /// the same lines again may have memory, and would answer otherwise. Such a line is refused, and
 /// nothing of it is written.
 #[derive(Drop)]
-pub struct Promised<W> {
+pub struct DurableReplies<W> {
     pub inner: W,
     /// Whether a line was refused.
     pub is_refused: bool,
 }
 
-impl<W> Promised<W> {
+impl<W> DurableReplies<W> {
     /// A writer that has refused nothing yet.
-    pub fn new(inner: W) -> Promised<W>
+    pub fn new(inner: W) -> DurableReplies<W>
         ensures { result ≡ record { inner = inner; is_refused = false } }
     {
-        Promised {
+        DurableReplies {
             inner,
             is_refused: false,
         }
     }
 }
 
-impl<W: Write> Write for Promised<W> {
+impl<W: Write> Write for DurableReplies<W> {
     ghost contents = { λ p. W.contents p.inner };
 
     fn write(&mut self, buf: &[u8]) -> io::Result<usize>

@@ -10,14 +10,14 @@ use std::time::Clock;
 /// Writes each record to standard error as people expect it of a program: its name, and what is wrong. A bar that stands
 /// there is taken away first.
 #[derive(Drop)]
-pub struct Complaints<'a, 'b, R> {
+pub struct Diagnostics<'a, 'b, R> {
     pub rt: &'a R,
     /// The program's name.
     pub name: &'b str,
     pub bar: Option<&'a Bar<'a, R>>,
 }
 
-impl<'a, 'b, R: Eprint + Clock> Log for Complaints<'a, 'b, R> {
+impl<'a, 'b, R: Eprint + Clock> Log for Diagnostics<'a, 'b, R> {
     fn enabled(&self, _metadata: &Metadata<'_>) -> bool {
         true
     }

@@ -4,7 +4,7 @@ use log::LevelFilter;
 
 /// How much is told.
 #[derive(Clone, Copy, Debug, PartialEq, Eq)]
-pub enum Talk {
+pub enum Verbosity {
     /// Faults alone.
     Quiet,
     /// What goes wrong, and what is to be known; a bar, where standard error is a terminal.
@@ -13,13 +13,13 @@ pub enum Talk {
     Verbose,
 }
 
-impl Talk {
+impl Verbosity {
     /// The level of `log` that is told.
     pub fn level(self) -> LevelFilter {
         match self {
-            Talk::Quiet => LevelFilter::Error,
-            Talk::Usual => LevelFilter::Warn,
-            Talk::Verbose => LevelFilter::Info,
+            Verbosity::Quiet => LevelFilter::Error,
+            Verbosity::Usual => LevelFilter::Warn,
+            Verbosity::Verbose => LevelFilter::Info,
         }
     }
 }
