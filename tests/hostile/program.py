@@ -90,7 +90,7 @@ def rows():
     found = []
     for file in sorted(os.listdir(ROWS)):
         name, kind = os.path.splitext(file)
-        if kind == ".steps" and not name.startswith(("audited-", "certified-", "fails-", "kept-", "told-", "turns-")):
+        if kind == ".steps" and not name.startswith(("audited-", "certified-", "driven-", "fails-", "kept-", "told-", "turns-")):
             steps = open(os.path.join(ROWS, file), "rb").read().splitlines()
             replies = open(os.path.join(ROWS, name + ".replies"), "rb").read().splitlines()
             found.append((name, steps, replies))

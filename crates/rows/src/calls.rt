@@ -4,7 +4,8 @@
 use anyhow::bail;
 use audit::{Verdict, audit_line, check};
 use auditor::{audit_tenant, can_check};
-use book::{Book, Committed};
+use book::{Book, Committed, Host};
+use driver::{Driver, drive, drive_host};
 use handler::{Done, Sample};
 use lines::{Counted, ServeFault, read_step, serve, write_reply};
 use model::{Entry, Flaw, Kept, Move, Reply, Row, Seat, Step, TenantName, Text, Texts, Unit, Who};
@@ -122,6 +123,26 @@ pub(crate) fn serve_all<R: BufRead, W: Write>(
     book: &mut Books,
 ) -> Result<u64, ServeFault> {
     serve(alloc, reader, writer, book)
+}
+
+/// Whether a new driver comes to the end of the reader's lines by a book.
+pub(crate) fn drive_all<S: Store>(
+    alloc: Global,
+    reader: &mut Counted<&[u8]>,
+    writer: &mut Counted<Vec<u8>>,
+    book: &mut Book<Sample, S>,
+) -> bool {
+    drive(alloc, reader, writer, book, &mut Driver::new(alloc)).is_ok()
+}
+
+/// The same by a host.
+pub(crate) fn drive_all_by_host<S: Store>(
+    alloc: Global,
+    reader: &mut Counted<&[u8]>,
+    writer: &mut Counted<Vec<u8>>,
+    host: &mut Host<Sample, S>,
+) -> bool {
+    drive_host(alloc, reader, writer, host, &mut Driver::new(alloc)).is_ok()
 }
 
 /// The name of a tenant.

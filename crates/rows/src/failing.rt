@@ -37,7 +37,8 @@ fn numbers_in(alloc: Global, lines: &str, first: &str) -> anyhow::Result<Vec<u64
     Ok(numbers)
 }
 
-fn is_step(line: &str) -> bool {
+/// Whether a line of a row is a step, and tells of no call that fails.
+pub(crate) fn is_step(line: &str) -> bool {
     !line.ends_with(" fails")
 }
 
@@ -66,9 +67,15 @@ pub(crate) fn failed(alloc: Global, lines: &str, way: Way) -> anyhow::Result<Str
         let book = Book::new(alloc, Sample, WriterStore::new(alloc, writer));
         return told_by(alloc, book, lines, way);
     }
+    let (appends, fetches) = failing_calls(alloc, lines)?;
+    told_by(alloc, failing_book(alloc, appends, fetches), lines, way)
+}
+
+/// The numbers of the appends and of the fetches that fail in a row.
+pub(crate) fn failing_calls(alloc: Global, lines: &str) -> anyhow::Result<(Vec<u64>, Vec<u64>)> {
     let appends = numbers_in(alloc, lines, "append ")?;
     let fetches = numbers_in(alloc, lines, "fetch ")?;
-    told_by(alloc, failing_book(alloc, appends, fetches), lines, way)
+    Ok((appends, fetches))
 }
 
 /// What a new book tells of the steps of a row.

@@ -10,7 +10,7 @@
 //! all steps by one call, and what the book then tells of each tenant, must be the same. Those of
 //! `certified-` show seats, moves and audits, those of `told-` what a book tells of its tenants and
 //! entries, those of `kept-` how much of a unit's past is kept, and those of `audited-` are audits of
-//! lists from anywhere.
+//! lists from anywhere. Those of `driven-` are what a driver writes, by a book and by a host.
 //!
 //! A book that is done with is not let go of: the program ends soon, and the proof of what a book lets go of is long.
 //!
@@ -24,6 +24,7 @@ mod audited;
 mod beside;
 mod calls;
 mod certified;
+mod driven;
 mod failing;
 mod kept;
 mod reading;
@@ -35,6 +36,7 @@ use audited::audit;
 use beside::{every, with_noise};
 use calls::{new_book, serve_all};
 use certified::certify;
+use driven::{drives_a_book, drives_a_host};
 use failing::{Again, Way, failed, once, steps_of, survives_each};
 use lines::Counted;
 use reading::{answers_up_to_each, writes_up_to_each};
@@ -81,6 +83,8 @@ fn row_verdict(
         turned_verdict(alloc, steps, replies)
     } else if name.starts_with("fails-") {
         failed_verdict(alloc, steps, replies)
+    } else if name.starts_with("driven-") {
+        driven_verdict(alloc, steps, replies)
     } else if name.starts_with("certified-") {
         certified_verdict(alloc, steps, replies)
     } else if name.starts_with("told-") {
@@ -123,6 +127,16 @@ fn turned_verdict(alloc: Global, steps: &str, replies: &str) -> anyhow::Result<&
     } else {
         "the replies by turns that were worked beside the book differ"
     })
+}
+
+fn driven_verdict(alloc: Global, steps: &str, replies: &str) -> anyhow::Result<&'static str> {
+    if !drives_a_book(alloc, steps, replies)? {
+        return Ok("what a driver writes by a book differs");
+    }
+    if !drives_a_host(alloc, steps, replies)? {
+        return Ok("what a driver writes by a host differs");
+    }
+    Ok("a driver writes what it must, by a book and by a host")
 }
 
 fn failed_verdict(alloc: Global, steps: &str, replies: &str) -> anyhow::Result<&'static str> {

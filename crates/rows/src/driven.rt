@@ -1,0 +1,47 @@
+//! Rows of flows that run themselves, over a store that fails: what a driver writes by a book, and by a host. Only there is
+//! something lost that a letter rests on, so that it has to wait, or is an orphan.
+
+use crate::calls::{drive_all, drive_all_by_host};
+use crate::failing::{failing_calls, is_step};
+use book::{Book, Host};
+use handler::Sample;
+use lines::Counted;
+use stable_log::FuseStore;
+use std::alloc::Global;
+use std::mem;
+
+/// The step lines of a row, each with its line feed.
+fn given(alloc: Global, lines: &str) -> anyhow::Result<String> {
+    let mut given = String::new(alloc);
+    for line in lines.lines() {
+        if is_step(line) {
+            given.push_str(line)?;
+            given.push('\n')?;
+        }
+    }
+    Ok(given)
+}
+
+/// Whether a driver writes these lines by a new book over a store that fails as the row tells.
+pub(crate) fn drives_a_book(alloc: Global, lines: &str, written: &str) -> anyhow::Result<bool> {
+    let given = given(alloc, lines)?;
+    let mut reader = Counted::new(given.as_bytes());
+    let mut writer = Counted::new(Vec::new(alloc));
+    let (appends, fetches) = failing_calls(alloc, lines)?;
+    let mut book = Book::new(alloc, Sample, FuseStore::new(alloc, appends, fetches));
+    let driven = drive_all(alloc, &mut reader, &mut writer, &mut book);
+    mem::forget(book);
+    Ok(driven && writer.inner.as_slice() == written.as_bytes())
+}
+
+/// Whether it writes them by a new host.
+pub(crate) fn drives_a_host(alloc: Global, lines: &str, written: &str) -> anyhow::Result<bool> {
+    let given = given(alloc, lines)?;
+    let mut reader = Counted::new(given.as_bytes());
+    let mut writer = Counted::new(Vec::new(alloc));
+    let (appends, fetches) = failing_calls(alloc, lines)?;
+    let mut host = Host::new(alloc, Sample, FuseStore::new(alloc, appends, fetches));
+    let driven = drive_all_by_host(alloc, &mut reader, &mut writer, &mut host);
+    mem::forget(host);
+    Ok(driven && writer.inner.as_slice() == written.as_bytes())
+}
