@@ -1,11 +1,11 @@
 -- Steps of the driver one after the other, and what is written of them.
-use Rattle.std.proofs.Common.{◌≡◌, refl, sym, ◌∙◌, ap, subst, ℕ, ◌<◌, ◌≤◌, ◌+◌, Bool, true, false, List, [], ◌∷◌, ◌++◌, length, take, drop, get_or, add-one, arith, append_assoc, append-nil, length-append, inl, inr}
+use Rattle.std.proofs.Common.{◌≡◌, refl, sym, ◌∙◌, ap, subst, ℕ, ◌<◌, ◌≤◌, ◌+◌, true, List, [], ◌∷◌, ◌++◌, length, take, drop, get_or, add-one, arith, append_assoc, append-nil, length-append, inl, inr}
 use Rattle.std.proofs.lemmas.Grind.{flat_map-append}
 use Rattle.std.proofs.Math.Seq.{drop-cons}
 use Rattle.std.proofs.lemmas.List.{take-append-drop}
 use Rattle.std.proofs.lemmas.List.Concat.{flat_map-cons}
 use Rattle.std.proofs.KnownBytes.{Appends-trans, Appends-kept, Appends-nil, Keeps-refl}
-use Rattle.std.specs.Io.KnownBytes.{Appends, Keeps, IsAtEnd}
+use Rattle.std.specs.Io.KnownBytes.{Appends, Keeps}
 use Rattle.std.specs.Prelude.{Option, Some, None, Result, Ok, Err, IfErr, IfOk, OnOk, OnErr, flat_map}
 use denote.Ref.{MutBor}
 use denote.Param.Members.{Shared}
@@ -25,14 +25,14 @@ use Rattle.forms.specs.Reading.{Gives, step_of_line}
 use Rattle.forms.specs.declared.fault.LineFault.{LineFault}
 use Rattle.forms.specs.declared.fault.LineFault.TheVariants.{Bad, NoMemory as NoLineMemory}
 use Rattle.lines.specs.Doing.{DoesBy}
-use Rattle.lines.specs.Lines.{lines_of, LinesRead}
+use Rattle.lines.specs.Lines.{LinesRead}
 use Rattle.lines.specs.Parts.{TakesPart}
 use Rattle.lines.specs.Serving.{AnsweredLineBy, AnsweredStepBy, EntersStep, HostDoes, line_step, reply_line, reply_upon}
 use Rattle.lines.specs.declared.fault.ServeFault.{ServeFault}
 use Rattle.lines.specs.declared.fault.ServeFault.TheVariants.{Read, Write, NoMemory}
 use Rattle.lines.proofs.Parts.{LinesRead-more, LinesRead-nil, TakesPart-none}
 use Rattle.lines.proofs.Runs.{line_step-held, long_answered}
-use Rattle.driver.specs.Driving.{AreRounds, BookDrives, Broken, CarriesOn, Drives, Drove, DroveAllBy, DroveOn, DroveSomeBy, DroveUntil, HostDrives, IsDriven, IsFault, IsRound, IsStepRound, Round, Took, Wrote, WroteUntil, lines_told, round_text}
+use Rattle.driver.specs.Driving.{AreRounds, Broken, CarriesOn, Drives, Drove, DroveAllBy, DroveOn, DroveSomeBy, DroveUntil, HostDrives, IsDriven, IsFault, IsRound, IsStepRound, Round, Took, Wrote, WroteUntil, lines_told, round_text}
 
 -- ---- bytes
 

@@ -1,25 +1,21 @@
 -- What is told of a host that was driven is what its units released.
-use Rattle.std.proofs.Common.{◌≡◌, ◌⊎◌, inl, inr, refl, sym, ◌∙◌, ap, subst, ℕ, Bool, true, false, cond, List, [], ◌∷◌, ◌++◌, append_assoc, append-nil}
+use Rattle.std.proofs.Common.{◌≡◌, inl, inr, refl, sym, ◌∙◌, ap, ℕ, Bool, true, false, cond, List, [], ◌∷◌, ◌++◌, append_assoc, append-nil}
 use Rattle.std.proofs.lemmas.Grind.{flat_map-append}
 use Rattle.std.proofs.lemmas.List.Concat.{flat_map-cons}
 use Rattle.std.specs.Prelude.{Option, Some, None, flat_map}
 use Rattle.model.specs.Addresses.{addressed}
-use Rattle.model.specs.Alone.{alone}
 use Rattle.model.specs.Handler.{Meaning}
-use Rattle.model.specs.History.{IsLegal, names, own, pairs, replies_to}
-use Rattle.model.specs.declared.refusals.Refusal.TheVariants.{Memory}
+use Rattle.model.specs.History.{IsLegal, names, own, pairs}
 use Rattle.model.specs.declared.replies.Entry.{Entry}
 use Rattle.model.specs.declared.replies.Reply.{Reply}
-use Rattle.model.specs.declared.replies.Reply.TheVariants.{Refused, Stopped}
 use Rattle.model.specs.declared.replies.Who.TheVariants.{Caller}
 use Rattle.model.specs.declared.steps.Step.{Step}
 use Rattle.model.specs.declared.steps.Step.TheVariants.{Open, Join, Post, Deliver, Flush, Checkpoint, Kill, Restart, Notice, Release, Status}
 use Rattle.book.specs.Entries.{Ledger, memory_reply}
 use Rattle.book.specs.History.{released_at, world_of}
-use Rattle.book.specs.Standing.{HostState, HostReplays, IsHostOf}
 use Rattle.lines.specs.Serving.{AnsweredStepBy, EntersStep, line_step}
-use Rattle.driver.specs.Driving.{AreRounds, BookDrives, CarriesOn, Drives, HostDrives, IsRound, Round, outputs_of}
-use Rattle.driver.specs.Telling.{ReleasedIsTold, TellsReleased, left_at, left_by, left_from, texts_in, told}
+use Rattle.driver.specs.Driving.{BookDrives, CarriesOn, Drives, Round, outputs_of}
+use Rattle.driver.specs.Telling.{BookReleasedIsTold, ReleasedIsTold, left_at, left_by, left_from, texts_in, told}
 use Rattle.driver.proofs.Left.{along, course_leaves, left_in, none_left, out_is, own_leaves}
 
 -- a reply that releases nothing, of any tenant's step
@@ -111,16 +107,21 @@ module _ {S : Type 0} (M : Meaning S) where
       ∙ course_leaves M None (own tenant (pairs history)) u
       ∙ sym (own_leaves tenant u history ∙ ap (along u (own tenant (pairs history))) (legal tenant))
 
+  pub book_released_is_told : BookReleasedIsTold M
+  book_released_is_told lines rounds old new empty drives legal tenant u =
+      let grew = rounds_grew lines old new rounds drives in
+      released_of new.history legal tenant u
+      ∙ ap (left_in tenant u) (grew.history ∙ ap (λ h. h ++ grew.entries) empty)
+      ∙ grew.outputs tenant u
+
   pub released_is_told : ReleasedIsTold M
   released_is_told lines rounds old new replay drives =
       let before : Ledger = record { history = []; log = old.log } in
-      let run = drives before (record { replay = replay; log = refl }) in
-      let book = run.0 in
-      let grew = rounds_grew lines before book rounds run.2 in (
-        book,
+      let run = drives before (record { replay = replay; log = refl }) in (
+        run.0,
         record {
           stands = run.1;
           legal = run.1.replay.legal;
-          outputs = λ tenant u. released_of book.history run.1.replay.legal tenant u ∙ ap (left_in tenant u) grew.history ∙ grew.outputs tenant u;
+          outputs = book_released_is_told lines rounds before run.0 refl run.2 run.1.replay.legal;
         },
       )

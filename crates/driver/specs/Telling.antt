@@ -11,7 +11,7 @@ use Rattle.book.specs.Entries.{Ledger}
 use Rattle.book.specs.History.{released_at, world_of}
 use Rattle.book.specs.Standing.{HostReplays, HostState, IsHostOf}
 use Rattle.lines.specs.Serving.{line_step}
-use Rattle.driver.specs.Driving.{HostDrives, Round, outputs_of}
+use Rattle.driver.specs.Driving.{BookDrives, HostDrives, Round, outputs_of}
 
 -- the texts that left this unit by a step of its tenant
 abbrev pub left_by : ℕ → TenantStep → Reply → List (List ℕ)
@@ -54,3 +54,10 @@ ReleasedIsTold {S} M =
     (lines : List (List ℕ)) (rounds : List Round) (old new : HostState S)
     → HostReplays M old [] → HostDrives M lines old rounds new
     → (book : Ledger) × TellsReleased M lines rounds new book
+
+-- and so it is of each new book that was driven
+abbrev pub BookReleasedIsTold : {S : Type 0} → Meaning S → Type 0
+BookReleasedIsTold M =
+    (lines : List (List ℕ)) (rounds : List Round) (old new : Ledger)
+    → old.history ≡ [] → BookDrives lines old rounds new → IsLegal M new.history
+    → (tenant : List ℕ) (unit : ℕ) → texts_in (released_at (world_of M tenant new.history) unit) ≡ told tenant unit lines rounds

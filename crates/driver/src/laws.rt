@@ -1,6 +1,6 @@
 //! What is told of all that was released.
 
-ghost use Rattle.driver.specs.Telling.{ReleasedIsTold};
+ghost use Rattle.driver.specs.Telling.{BookReleasedIsTold, ReleasedIsTold};
 
 use handler::Handler;
 
@@ -9,4 +9,9 @@ use handler::Handler;
 /// released. So the headline holds of them: none is withdrawn, and none is told twice.
 pub fn released_is_told<H: Handler>()
     ensures { ReleasedIsTold H.meaning }
+{}
+
+/// The same of a new book that was driven, whose history is legal as that of each book is.
+pub fn book_released_is_told<H: Handler>()
+    ensures { BookReleasedIsTold H.meaning }
 {}

@@ -6,7 +6,7 @@
 //!   and the letters that wait (`Waiting`).
 //! - `Chore`: a step that it gives. It delivers, flushes, notices and releases, and gives no other step.
 //! - `outputs`: the line of a text that left.
-//! - `released_is_told` (`laws`): each unit's output lines, and the outputs in its `release` replies, are what it released.
+//! - `released_is_told`, `book_released_is_told` (`laws`): each unit's output lines, and the outputs in its `release` replies, are what it released.
 //!
 //! What the driver does depends on the lines alone: not on a clock, nor on how the input comes. So the same lines give the
 //! same bytes. `specs/Driving` says what is written, whatever the driver chooses to do; what it chooses is read and tested.
@@ -36,4 +36,4 @@ pub use chore::Chore;
 pub use driver::{Done, Driver};
 pub use driving::{drive, drive_host};
 pub use flow::{Flow, MAX_DELIVERIES, Waiting};
-pub use laws::released_is_told;
+pub use laws::{book_released_is_told, released_is_told};

@@ -1,5 +1,4 @@
 use Rattle.std.proofs.Common.{inr}
-use Rattle.std.specs.Prelude.{Err, Ok}
 use Rattle.std.proofs.lemmas.Result.{err_from_is_err_and}
 use Rattle.lines.specs.Doing.{DoesBy}
 use Rattle.lines.proofs.Runs.{Keeps-then, Keeps-then_beginning}

@@ -1,8 +1,6 @@
-use Rattle.std.proofs.Common.{subst}
 use Rattle.std.specs.Prelude.{Err}
 use Rattle.std.proofs.lemmas.Result.{err_from_is_err_and}
 use Rattle.lines.specs.Doing.{DoesBy}
-use Rattle.driver.specs.Driving.{Drove}
 use Rattle.driver.proofs.Rounds.{drove_heard, drove_none, round_fails, step_cut, step_round, wrote_by}
 use Rattle.driver.proofs.driving.drive_step.Goals as goal
 
