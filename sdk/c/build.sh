@@ -26,8 +26,9 @@ type -P clang >/dev/null || die "clang is missing: it is in Debian's package cla
 type -P ld.lld >/dev/null || die "ld.lld is missing: it is in Debian's package lld"
 type -P llvm-objcopy >/dev/null || die "llvm-objcopy is missing: it is in Debian's package llvm"
 
+# What isn't linked has no place, so that with -g a debugger finds none of it at address 0, where the image begins.
 clang --target=riscv32 -march=rv32im -mabi=ilp32 -std=c11 -O2 -Wall -Wextra -Wno-unused-parameter -ffreestanding -nostdlib -fno-pic \
     -msmall-data-limit=0 -mno-relax -ffunction-sections -fdata-sections -fuse-ld=lld -Wl,--gc-sections -Wl,--build-id=none \
-    -Wl,-T,"$here/recall.ld" -I "$here" -o "$out.elf" "$here/start.s" "$here/support.c" "${words[@]}"
+    '-Wl,-z,dead-reloc-in-nonalloc=.debug_*=0xffffffff' -Wl,-T,"$here/recall.ld" -I "$here" -o "$out.elf" "$here/start.s" "$here/support.c" "${words[@]}"
 llvm-objcopy -O binary "$out.elf" "$out.img"
 echo "$out.img: $(stat -c %s "$out.img") bytes" >&2
