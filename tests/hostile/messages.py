@@ -22,7 +22,7 @@ UNSEEN = {
     "a standard stream is closed, and nothing can stand in its place: {error}": "the null device is there",
     "can't lock the journal {path:?}: {error}": "the system's locks don't fail",
     "the journal {path:?} was replaced while it was opened": "it takes a moment that can't be met",
-    "waiting for step lines from the terminal, up to Ctrl-D: `{name} run --help` lists them": "tests/words has a terminal",
+    "waiting for step lines from the terminal, up to Ctrl-D: `{name} {command} --help` lists them": "tests/words has a terminal",
     "there are too many feeds: name at most {MAX_FEEDS} files": "the words take no more",
 }
 
@@ -174,9 +174,18 @@ def streams(runs):
     runs.run(LINES, "feeds", "given", threads=1)
 
 
+def driven(runs):
+    """Letters that wait, and a journal that gives less than is asked for."""
+    waits = OPEN.replace(b'["echo"]', b'["relay","echo"]') + b'{"do":"kill","tenant":"a","unit":1}\n' + POST
+    runs.run(waits, "drive", "--verbose", "--explain")
+    runs.run(waits, "drive", "--journal", "driven")
+    runs.run(b"", "drive", "--journal", "driven", "--from", "99")
+
+
 def images(runs):
     """Images that can't be loaded, and words that name no unit."""
     unit = ("--tenant", "a", "--unit", "0")
+    runs.run(b"", "load", "/dev/zero", *unit)
     runs.run(b"", "load", "none", *unit)
     runs.run(b"milk\n", "load", "given", *unit)
     runs.run(IMAGE, "load", "given", *unit, write=0)
@@ -192,6 +201,7 @@ def memory(runs):
     runs.refused(LINES, "draw")
     runs.refused(LINES, "feeds", "--audit", "-v", "given")
     runs.refused(LINES, "run", "--journal", "small", fresh=("small",))
+    runs.refused(LINES, "drive", "--journal", "other", fresh=("other",))
     runs.refused(b"", "journal", "whole")
     runs.refused(IMAGE, "load", "given", "--tenant", "a", "--unit", "0")
 
@@ -200,7 +210,7 @@ def each_text(program):
     """Whether each text was seen."""
     with tempfile.TemporaryDirectory(dir=program.room) as room:
         runs = Runs(program, room)
-        for scene in (files, journals, streams, images, memory):
+        for scene in (files, journals, streams, driven, images, memory):
             scene(runs)
     wanted = texts()
     wrong = [f"{text!r} is no text of the sources" for text in UNSEEN if text not in wanted]
