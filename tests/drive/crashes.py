@@ -13,7 +13,7 @@ SECONDS = 60
 
 
 def plain(program, lines):
-    return subprocess.run([program, "drive"], input=b"".join(lines), stdout=subprocess.PIPE, timeout=SECONDS, check=True).stdout
+    return subprocess.run([program, "drive", "-q"], input=b"".join(lines), stdout=subprocess.PIPE, timeout=SECONDS, check=True).stdout
 
 
 def journaled(journal):
@@ -48,7 +48,7 @@ def run_once(program, journal, lines, seen, chance, is_last):
     if not is_last:
         time.sleep(chance.random() * 0.05)
         process.send_signal(signal.SIGKILL)
-    written, said = process.communicate(timeout=SECONDS) if is_last else (process.stdout.read(), process.stderr.read())
+    written, said = process.stdout.read(), process.stderr.read()
     status = process.wait(SECONDS)
     giver.join()
     for end in (process.stdin, process.stdout, process.stderr):
