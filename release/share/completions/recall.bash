@@ -3,13 +3,15 @@ _recall() {
     local now=${COMP_WORDS[COMP_CWORD]} before=${COMP_WORDS[COMP_CWORD-1]} command=${COMP_WORDS[1]:-}
     COMPREPLY=()
     if [ "$COMP_CWORD" = 1 ]; then
-        COMPREPLY=($(compgen -W 'run feeds draw journal load --help --version' -- "$now"))
+        COMPREPLY=($(compgen -W 'run drive feeds draw journal load --help --version' -- "$now"))
         return
     fi
     case "$command $before" in
     'run --log') COMPREPLY=($(compgen -f -- "$now")) && return ;;
     'run --journal') COMPREPLY=($(compgen -f -- "$now")) && return ;;
     'run --from') return ;;
+    'drive --journal') COMPREPLY=($(compgen -f -- "$now")) && return ;;
+    'drive --from') return ;;
     'draw --tenant') return ;;
     'draw --to') COMPREPLY=($(compgen -f -- "$now")) && return ;;
     'draw --from') return ;;
@@ -20,6 +22,7 @@ _recall() {
     esac
     case "$command" in
     run) COMPREPLY=($(compgen -W '--log --journal --from --adopt --explain --strict --programs --audit -q --quiet -v --verbose -h --help' -- "$now")) ;;
+    drive) COMPREPLY=($(compgen -W '--journal --from --adopt --explain --strict --programs --audit -q --quiet -v --verbose -h --help' -- "$now")) ;;
     feeds) COMPREPLY=($(compgen -W '--programs --audit -q --quiet -v --verbose -h --help' -- "$now") $(compgen -f -- "$now")) ;;
     draw) COMPREPLY=($(compgen -W '--tenant --to --from --last --programs -h --help' -- "$now")) ;;
     journal) COMPREPLY=($(compgen -W '--json -h --help' -- "$now") $(compgen -f -- "$now")) ;;
