@@ -89,6 +89,23 @@ def lost_charge(language):
     return check
 
 
+def driven(language):
+    """A flow that runs itself: the card is down when it is charged. Once it is up each charge leaves, and one that is given twice
+    leaves once."""
+    def check(host):
+        lines, (first, _) = loaded("shop", language)
+        charge = lambda number, amount: step("post", "shop", unit=0, number=number, text=f"charge alice {amount}")
+        lines += [charge(first, 5), step("kill", "shop", unit=1), charge(first + 1, 7), charge(first + 1, 7), step("restart", "shop", unit=1)]
+        ran = host.ran(["drive", "--programs", "--audit"], "".join(line + "\n" for line in lines).encode())
+        told = [json.loads(line) for line in ran.stdout.splitlines()]
+        outputs = [(it["unit"], it["output"]) for it in told if "output" in it]
+        refusals = [it["no"] for it in told if "no" in it]
+        if outputs != [(1, "card charge alice 5"), (1, "card charge alice 7")] or refusals != ["repeat"] or told[-1] != {"audit": "ok", "tenant": "shop"}:
+            return f"{outputs}, {refusals}, {told[-1]}, {ran.stderr!r}"
+        return None
+    return check
+
+
 def killed_at(host, lines, wanted, at, room):
     """What is wrong with a run that SIGKILL ends once so many replies were seen and one line more was given."""
     journal = os.path.join(room, f"journal-{at}")
@@ -197,6 +214,7 @@ def feeds_and_pictures(host):
 def checks():
     own = []
     for language in LANGUAGES:
-        own += [(f"as the crate billing, in {language}", as_billing(language)), (f"a lost charge, in {language}", lost_charge(language)), (f"the rate limiter, in {language}", limits(language))]
+        own += [(f"as the crate billing, in {language}", as_billing(language)), (f"a lost charge, in {language}", lost_charge(language)), (f"the rate limiter, in {language}", limits(language)),
+                (f"a driven flow, in {language}", driven(language))]
     return own + [("the process is killed", process_killed), ("another handler's journal", another_handler), ("without the word", without_the_word),
                   ("other kinds", other_kinds), ("feeds and pictures", feeds_and_pictures)]
