@@ -46,7 +46,7 @@ def run_once(program, journal, lines, seen, chance, is_last):
     giver = threading.Thread(target=give, args=(process, lines[journaled(journal) :], chance))
     giver.start()
     if not is_last:
-        time.sleep(chance.random() * 0.05)
+        time.sleep(chance.random() * 0.02)
         process.send_signal(signal.SIGKILL)
     written, said = process.stdout.read(), process.stderr.read()
     status = process.wait(SECONDS)
