@@ -110,7 +110,7 @@ def waits_are_told(program, _, room):
     _, verbose, _ = drive(program, lines, "-v")
     if said.count(told) != 1 or explained.count(told) != 2:
         return f"told {said.decode()} and {explained.decode()}"
-    return None if b"gave 0 deliveries, 1 flush" in verbose else verbose.decode()
+    return None if b"the driver gave: deliver 0, flush 1, notice 0, release 0; 0 outputs left" in verbose else verbose.decode()
 
 
 def tasks():

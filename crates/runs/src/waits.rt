@@ -68,7 +68,8 @@ pub(crate) fn tell_driven<L: Log>(told: &L, driver: &Driver) {
         releases,
         outputs,
     } = driver.done();
-    info!(told; "gave {deliveries} deliveries, {flushes} flushes, {notices} notices and {releases} releases; {} left", Plural(outputs, "output"));
+    let outputs = Plural(outputs, "output");
+    info!(told; "the driver gave: deliver {deliveries}, flush {flushes}, notice {notices}, release {releases}; {outputs} left");
     for (tenant, flow) in driver.flows() {
         tell_waiting(told, tenant, flow);
     }

@@ -68,7 +68,7 @@ const RUN_FROM: &str = "Writes the replies to the lines of the journal from N on
 
 /// What `--from` asks of `drive`.
 const DRIVE_FROM: &str =
-    "Writes what the lines of the journal give from its line N on (from 0), replies and outputs alike";
+    "Leaves out the first N lines of all that the journal's lines give, replies and outputs alike, and writes the others";
 
 /// Reads the words, and prints help or what is wrong with them. Help that can't be written is an output
 /// fault, which is told, of status 1.
