@@ -13,7 +13,7 @@ complete -c recall -n '__fish_seen_subcommand_from run' -s v -l verbose -d 'Tell
 complete -c recall -n '__fish_seen_subcommand_from run' -s h -l help -d 'Print help'
 complete -c recall -n __fish_use_subcommand -a drive -d 'Reads step lines, delivers the letters and releases what is firm behind each, and writes its reply line and a line for each text that left'
 complete -c recall -n '__fish_seen_subcommand_from drive' -l journal -r -F -d 'Keeps each line in FILE before it is stepped, and begins with the lines that FILE has, without their replies'
-complete -c recall -n '__fish_seen_subcommand_from drive' -l from -x -d 'Writes what the lines of the journal give from its line N on (from 0), replies and outputs alike'
+complete -c recall -n '__fish_seen_subcommand_from drive' -l from -x -d 'Leaves out the first N lines of all that the journal’s lines give, replies and outputs alike, and writes the others'
 complete -c recall -n '__fish_seen_subcommand_from drive' -l adopt -d 'Takes over a FILE that isn’t known to be a journal of this program and its handler'
 complete -c recall -n '__fish_seen_subcommand_from drive' -l explain -d 'Writes to standard error why each line was refused, and what would help; always, where that is a terminal'
 complete -c recall -n '__fish_seen_subcommand_from drive' -l strict -d 'Ends with status 3 where a line was refused; each line is answered all the same'
