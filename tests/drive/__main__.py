@@ -60,7 +60,8 @@ def flow(program, name, room):
 
 
 def example(program, name, room):
-    with open(os.path.join(EXAMPLES, name + ".jsonl"), "rb") as given, open(os.path.join(EXAMPLES, name + ".lines"), "rb") as due:
+    path = os.path.join(EXAMPLES, name)
+    with open(path + ".jsonl", "rb") as given, open(path + ".lines", "rb") as due:
         return as_due(program, given.read().splitlines(), due.read())
 
 
@@ -87,30 +88,33 @@ def killed(program, seed, room):
 
 
 def memory_refused(program, name, room):
-    return memory.wrong_in(Program(program, room), flows.lines_of(dict(flows.FLOWS)[name]), flows.written(dict(flows.FLOWS)[name]))
+    rows = dict(flows.FLOWS)[name]
+    return memory.wrong_in(Program(program, room), flows.lines_of(rows), flows.written(rows))
 
 
 def asks_too_much(program, _, room):
     """`--from` past what the journal's lines give is told, and nothing of the input is read."""
-    journal = os.path.join(room, "short")
-    drive(program, flows.lines_of(flows.FLOWS[0][1]), "--journal", journal)
+    journal, rows = os.path.join(room, "short"), flows.FLOWS[0][1]
+    drive(program, flows.lines_of(rows), "--journal", journal)
     got, said, status = drive(program, [b"{"], "--journal", journal, "--from", "4")
     if (got, status) != (b"", 1) or b"gives 1 line fewer" not in said:
         return f"status {status}: {said.decode()}"
     got, _, status = drive(program, [], "--journal", journal, "--from", "1")
-    return differs(got, b"".join(flows.written(flows.FLOWS[0][1]).splitlines(True)[1:])) if status == 0 else f"status {status}"
+    return f"status {status}" if status else differs(got, b"".join(flows.written(rows).splitlines(True)[1:]))
 
 
 def waits_are_told(program, _, room):
     """A letter that waits is told of with what would help, with --explain once, and at the end."""
-    lines = [flows.open_line("relay", "echo").encode(), flows.of("kill", 1).encode(), flows.post(0, 0).encode(), flows.of("status", 0).encode()]
+    steps = flows.open_line("relay", "echo"), flows.of("kill", 1), flows.post(0, 0), flows.of("status", 0)
+    lines = [step.encode() for step in steps]
     told = b"letter 0 to unit 1 waits: unit 1 is down: restart it"
     _, said, _ = drive(program, lines)
     _, explained, _ = drive(program, lines, "--explain")
     _, verbose, _ = drive(program, lines, "-v")
     if said.count(told) != 1 or explained.count(told) != 2:
         return f"told {said.decode()} and {explained.decode()}"
-    return None if b"the driver gave: deliver 0, flush 1, notice 0, release 0; 0 outputs left" in verbose else verbose.decode()
+    gave = b"the driver gave: deliver 0, flush 1, notice 0, release 0; 0 outputs left"
+    return None if gave in verbose else verbose.decode()
 
 
 def tasks():

@@ -1,6 +1,8 @@
-"""Runs of `drive` with a journal that are ended by SIGKILL at random moments, and go on: what was collected in the end is
-what one plain run of all lines writes. Whoever goes on gives the lines that the journal hasn't, and asks for what is
-written from the count of whole lines that he has."""
+"""Runs of `drive` with a journal that are ended by SIGKILL at random moments, and go on.
+
+What was collected in the end is what one plain run of all lines writes. Whoever goes on gives the lines that the
+journal hasn't, and asks for what is written from the count of whole lines that he has.
+"""
 
 import os
 import random
@@ -13,7 +15,8 @@ SECONDS = 60
 
 
 def plain(program, lines):
-    return subprocess.run([program, "drive", "-q"], input=b"".join(lines), stdout=subprocess.PIPE, timeout=SECONDS, check=True).stdout
+    words, given = [program, "drive", "-q"], b"".join(lines)
+    return subprocess.run(words, input=given, capture_output=True, timeout=SECONDS, check=True).stdout
 
 
 def journaled(journal):

@@ -1,8 +1,9 @@
-"""Small flows, each with what `drive` must write, worked out from the rule by hand: each refusal of a delivery by name."""
+"""Small flows, each with what `drive` must write, worked out from the rule by hand: refusals of a delivery by name."""
 
 
 def open_line(*kinds, **more):
-    quota = f'"quota":{{"held":{more["held"]},"letters":{more["letters"]},"volatile":{more["volatile"]}}},' if "held" in more else ""
+    limits = ",".join(f'"{name}":{more[name]}' for name in ("held", "letters", "volatile") if name in more)
+    quota = f'"quota":{{{limits}}},' if limits else ""
     optimism = f'"optimism":{more["optimism"]},' if "optimism" in more else ""
     units = ",".join(f'"{kind}"' for kind in kinds)
     return f'{{"do":"open",{optimism}{quota}"tenant":"a","units":[{units}]}}'
@@ -39,7 +40,8 @@ def no(name):
 
 def status(index, outside):
     """Of a unit that is up in its first incarnation, with all of its path logged and nothing held or released."""
-    return f'{{"at":[0,{index}],"held":0,"known":0,"ok":"status","outside":{outside},"released":0,"rows":0,"stable":{index},"up":true,"volatile":0}}'
+    of_rows = f'"outside":{outside},"released":0,"rows":0,"stable":{index},"up":true,"volatile":0'
+    return f'{{"at":[0,{index}],"held":0,"known":0,"ok":"status",{of_rows}}}'
 
 
 def killed(count=0):
@@ -146,7 +148,12 @@ FLOWS = [
     ),
     (
         "lines that are no step, or of no tenant, are answered, and nothing follows them",
-        [("{", no("bad-line")), (post(0, 0), no("no-tenant")), (open_line("echo"), opened(1)), (post(1, 0), no("no-unit"))],
+        [
+            ("{", no("bad-line")),
+            (post(0, 0), no("no-tenant")),
+            (open_line("echo"), opened(1)),
+            (post(1, 0), no("no-unit")),
+        ],
     ),
     (
         "a text needs its escapes, and is told with them",

@@ -14,7 +14,8 @@ def is_up(down, tenant, unit):
 
 def units_of(chance, is_chain):
     """The kinds of a tenant's units. A relay at the end would send round for ever."""
-    kinds = [chance.choice(("tee", "relay") if is_chain else ("echo", "tee", "count", "relay")) for _ in range(chance.randrange(4))]
+    some = ("tee", "relay") if is_chain else ("echo", "tee", "count", "relay")
+    kinds = [chance.choice(some) for _ in range(chance.randrange(4))]
     return kinds + [chance.choice(("echo", "count", "tee"))]
 
 
@@ -29,8 +30,8 @@ def opening(chance, name, kinds):
 
 
 def script(seed, length=40, fails=True, is_chain=False):
-    """Lines of one or two tenants. Where `fails` is not said, the same posts stand there without kills and restarts. In a
-    chain each unit receives from the one before it alone, so that the order of what it receives is one and the same."""
+    """Lines of one or two tenants. Where `fails` is not said, the same posts stand there without kills and restarts.
+    In a chain each unit receives from the one before it alone, so that the order of what it receives is the same."""
     chance = random.Random(seed)
     tenants = {name: units_of(chance, is_chain) for name in "ab"[: chance.randrange(1, 3)]}
     lines, numbers, down = [opening(chance, name, kinds) for name, kinds in tenants.items()], {}, set()
@@ -43,7 +44,8 @@ def script(seed, length=40, fails=True, is_chain=False):
             number = numbers.get((name, unit), 0)
             if is_up(down, name, unit):
                 numbers[name, unit] = number + 1
-                lines.append(encoded({"do": "post", "number": number, "tenant": name, "text": f"{name}{unit}.{number}", "unit": unit}))
+                text = f"{name}{unit}.{number}"
+                lines.append(encoded({"do": "post", "number": number, "tenant": name, "text": text, "unit": unit}))
         elif is_up(down, name, unit):
             down.add((name, unit))
             if fails:
