@@ -19,7 +19,7 @@ import flows
 import memory
 import rule
 import scripts
-from program import Program
+from program import Program, whole_lines
 
 SCRIPTS = 200
 # Each script's run is ended once at a random moment, and those of the first ones more often.
@@ -92,6 +92,33 @@ def memory_refused(program, name, room):
     return memory.wrong_in(Program(program, room), flows.lines_of(rows), flows.written(rows))
 
 
+def output_fails(program, _, room):
+    """Output that takes each number of bytes in turn has just those, and the run ends with status 1."""
+    rows, own = dict(flows.FLOWS)["a letter goes through, and each unit's output leaves"], Program(program, room)
+    given, wanted = b"".join(line + b"\n" for line in flows.lines_of(rows)), flows.written(rows)
+    for count in range(len(wanted)):
+        got, said, status = own.run(given, "drive", "-q", write=count)
+        if (got, status) != (wanted[:count], 1) or b"the output can't be written" not in said:
+            return f"{count} bytes: status {status}, {got!r}, {said!r}"
+    return None
+
+
+def journal_fails(program, _, room):
+    """A journal whose writing or syncing fails at each place in turn: the run ends with status 1, and what another writes that
+    goes on is what is missing."""
+    rows, own = dict(flows.FLOWS)["a letter goes through, and each unit's output leaves"], Program(program, room)
+    lines, wanted = [line + b"\n" for line in flows.lines_of(rows)], flows.written(rows)
+    for fault in [{"append": count} for count in range(len(b"".join(lines)))] + [{"sync": count} for count in range(1, 6)]:
+        journal = os.path.join(room, "-".join(f"{name}-{count}" for name, count in fault.items()))
+        first, _, status = own.run(b"".join(lines), "drive", "-q", "--journal", journal, lines=1, **fault)
+        seen = str(first.count(b"\n"))
+        rest = b"".join(lines[whole_lines(journal) :])
+        second, said, ended = own.run(rest, "drive", "-q", "--adopt", "--journal", journal, "--from", seen)
+        if status not in (0, 1) or ended or first + second != wanted:
+            return f"{fault}: status {status} and {ended}, {first!r}, {second!r}, {said!r}"
+    return None
+
+
 def asks_too_much(program, _, room):
     """`--from` past what the journal's lines give is told, and nothing of the input is read."""
     journal, rows = os.path.join(room, "short"), flows.FLOWS[0][1]
@@ -121,7 +148,7 @@ def tasks():
     """Each check: its name, what does it, and of what."""
     for name, _ in flows.FLOWS:
         yield f"flow: {name}", flow, name
-        if "ring" not in name:
+        if "a ring" not in name:
             yield f"memory: {name}", memory_refused, name
     for file in sorted(os.listdir(EXAMPLES)):
         if file.endswith(".jsonl"):
@@ -130,6 +157,8 @@ def tasks():
         yield f"rule: script {seed}", follows_the_rule, seed
         yield f"failures: script {seed}", begins_a_run_without_failures, seed
         yield f"killed: script {seed}", killed, seed
+    yield "output that fails", output_fails, None
+    yield "journal that fails", journal_fails, None
     yield "journal: --from past the end", asks_too_much, None
     yield "letters that wait are told of", waits_are_told, None
 

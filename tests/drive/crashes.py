@@ -11,21 +11,14 @@ import subprocess
 import threading
 import time
 
+from program import whole_lines
+
 SECONDS = 60
 
 
 def plain(program, lines):
     words, given = [program, "drive", "-q"], b"".join(lines)
     return subprocess.run(words, input=given, capture_output=True, timeout=SECONDS, check=True).stdout
-
-
-def journaled(journal):
-    """How many whole lines the journal has: none where it isn't there."""
-    try:
-        with open(journal, "rb") as file:
-            return file.read().count(b"\n")
-    except FileNotFoundError:
-        return 0
 
 
 def give(process, lines, chance):
@@ -46,7 +39,7 @@ def run_once(program, journal, lines, seen, chance, is_last):
     words = [program, "drive", "-q", "--journal", journal, "--from", str(seen)]
     pipe = subprocess.PIPE
     process = subprocess.Popen(words, stdin=pipe, stdout=pipe, stderr=pipe, bufsize=0)
-    giver = threading.Thread(target=give, args=(process, lines[journaled(journal) :], chance))
+    giver = threading.Thread(target=give, args=(process, lines[whole_lines(journal) :], chance))
     giver.start()
     if not is_last:
         time.sleep(chance.random() * 0.02)

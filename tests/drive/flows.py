@@ -69,6 +69,14 @@ FLOWS = [
         ],
     ),
     (
+        "a small ring goes round until the quota of letters is used up",
+        [
+            (open_line("relay", "relay", letters=9, held=1, volatile=2), opened(2)),
+            (post(0, 0), took(0, 1, 0, 0)),
+            (of("status", 0), status(5, 1)),
+        ],
+    ),
+    (
         "down: a letter waits for the restart of its unit, and is delivered behind it",
         [
             (open_line("relay", "echo"), opened(2)),

@@ -97,6 +97,15 @@ def rows():
     return found
 
 
+def whole_lines(journal):
+    """How many whole lines the journal has: none where it isn't there."""
+    try:
+        with open(journal, "rb") as file:
+            return file.read().count(b"\n")
+    except FileNotFoundError:
+        return 0
+
+
 def joined(lines):
     return b"".join(line + b"\n" for line in lines)
 

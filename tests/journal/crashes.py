@@ -13,6 +13,7 @@ import threading
 import time
 
 from inputs import small_input
+from program import whole_lines
 
 INPUTS = 20
 KILLS = 10
@@ -24,15 +25,6 @@ GIVE = re.compile(rb"give those from line (\d+) on")
 
 def plain(program, lines):
     return subprocess.run([program, "run"], input=b"".join(lines), stdout=subprocess.PIPE, timeout=SECONDS).stdout
-
-
-def whole_lines(journal):
-    """How many whole lines the journal has: none where it isn't there."""
-    try:
-        with open(journal, "rb") as file:
-            return file.read().count(b"\n")
-    except FileNotFoundError:
-        return 0
 
 
 def pieces(chance, given):
