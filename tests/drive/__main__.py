@@ -104,11 +104,12 @@ def output_fails(program, _, room):
 
 
 def journal_fails(program, _, room):
-    """A journal whose writing or syncing fails at each place in turn: the run ends with status 1, and what another writes that
-    goes on is what is missing."""
+    """A journal whose writing or syncing fails at each place in turn: what another run writes that goes on is what is
+    missing."""
     rows, own = dict(flows.FLOWS)["a letter goes through, and each unit's output leaves"], Program(program, room)
     lines, wanted = [line + b"\n" for line in flows.lines_of(rows)], flows.written(rows)
-    for fault in [{"append": count} for count in range(len(b"".join(lines)))] + [{"sync": count} for count in range(1, 6)]:
+    appends = [{"append": count} for count in range(len(b"".join(lines)))]
+    for fault in appends + [{"sync": count} for count in range(1, 6)]:
         journal = os.path.join(room, "-".join(f"{name}-{count}" for name, count in fault.items()))
         first, _, status = own.run(b"".join(lines), "drive", "-q", "--journal", journal, lines=1, **fault)
         seen = str(first.count(b"\n"))
