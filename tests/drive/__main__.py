@@ -19,11 +19,13 @@ import flows
 import memory
 import rule
 import scripts
-from program import Program, whole_lines
+from program import ROWS, Program, whole_lines
 
 SCRIPTS = 200
 # Each script's run is ended once at a random moment, and those of the first ones more often.
 OFTEN, KILLS = 20, 10
+# How many requests for memory of the large ring are refused.
+PLACES = 400
 EXAMPLES = os.path.join(HERE, "..", "..", "examples", "drive")
 
 
@@ -89,7 +91,29 @@ def killed(program, seed, room):
 
 def memory_refused(program, name, room):
     rows = dict(flows.FLOWS)[name]
-    return memory.wrong_in(Program(program, room), flows.lines_of(rows), flows.written(rows))
+    return memory.wrong_in_program(Program(program, room), flows.lines_of(rows), flows.written(rows))
+
+
+def memory_refused_of_row(program, name, room):
+    """Of a flow over a store that fails: only there a letter has to wait for a notice, or is an orphan."""
+    with open(os.path.join(ROWS, name + ".steps"), "rb") as steps, open(os.path.join(ROWS, name + ".replies"), "rb") as due:
+        lines, wanted = steps.read().splitlines(), due.read()
+    for host in ("book", "host"):
+        wrong = memory.wrong_in_row(Program(program, room), f"{host} {name}", lines, wanted)
+        if wrong:
+            return f"by a {host}: {wrong}"
+    return None
+
+
+def large_ring(program, _, room):
+    """As many deliveries for a line as there are at most, and the rest behind the next lines."""
+    return as_due(program, flows.lines_of(flows.LARGE_RING), flows.written(flows.LARGE_RING))
+
+
+def memory_refused_of_large_ring(program, _, room):
+    """Some of its requests, spread over all: there are a hundred thousand."""
+    rows = flows.LARGE_RING
+    return memory.wrong_in_program(Program(program, room), flows.lines_of(rows), flows.written(rows), PLACES)
 
 
 def output_fails(program, _, room):
@@ -149,8 +173,12 @@ def tasks():
     """Each check: its name, what does it, and of what."""
     for name, _ in flows.FLOWS:
         yield f"flow: {name}", flow, name
-        if "a ring" not in name:
-            yield f"memory: {name}", memory_refused, name
+        yield f"memory: {name}", memory_refused, name
+    for name in sorted(file.removesuffix(".steps") for file in os.listdir(ROWS) if file.endswith(".steps")):
+        if name.startswith("driven-"):
+            yield f"memory: {name}", memory_refused_of_row, name
+    yield "flow: a large ring", large_ring, None
+    yield "memory: a large ring", memory_refused_of_large_ring, None
     for file in sorted(os.listdir(EXAMPLES)):
         if file.endswith(".jsonl"):
             yield f"example: {file}", example, file.removesuffix(".jsonl")

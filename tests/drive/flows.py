@@ -52,21 +52,21 @@ def restarted(incarnation, start):
     return f'{{"ok":"restart","row":[{incarnation},{start}]}}'
 
 
-# Each flow's name, its lines, and what is written: a line's reply, and the outputs behind it.
+# A ring of more deliveries than a line has: it goes on behind the next line of its tenant, until the quota of letters is
+# used up.
+LARGE_RING = [
+    (open_line("relay", "relay", letters=70_000, held=1, volatile=1024), opened(2)),
+    (post(0, 0), took(0, 1, 0, 0)),
+    (of("status", 0), status(32_769, 1)),
+    (of("status", 0), status(35_000, 1)),
+]
+
+# Each small flow's name, its lines, and what is written: a line's reply, and the outputs behind it.
 FLOWS = [
     ("an output leaves behind its post", [(open_line("echo"), opened(1)), (post(0, 0), took(0, 1, 1), out(0))]),
     (
         "a letter goes through, and each unit's output leaves",
         [(open_line("tee", "echo"), opened(2)), (post(0, 0), took(0, 1, 1, 0), out(0), out(1))],
-    ),
-    (
-        "a ring goes on behind the next line of its tenant, until the quota of letters is used up",
-        [
-            (open_line("relay", "relay", letters=70_000, held=1, volatile=1024), opened(2)),
-            (post(0, 0), took(0, 1, 0, 0)),
-            (of("status", 0), status(32_769, 1)),
-            (of("status", 0), status(35_000, 1)),
-        ],
     ),
     (
         "a small ring goes round until the quota of letters is used up",

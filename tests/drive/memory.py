@@ -32,17 +32,32 @@ def wrong_with(lines_given, got, wanted, status):
     return None if status in (0, 1) else f"status {status}"
 
 
-def wrong_in(program, lines, wanted):
-    given = b"".join(line + b"\n" for line in lines)
-    most = program.count(given, "drive", "-q")
-    if not most:
-        return "it asked for no memory"
-    for n in range(1, most + 1):
-        got, _, status = program.run(given, "drive", "-q", refuse=n, lines=1)
+def wrong_in(lines, wanted, runs, places):
+    """What is wrong with one of the runs of these lines of which each has one of these requests refused."""
+    for n in places:
+        got, status = runs(n)
         if status == 1:
             # The last line may be cut.
             got = got[: got.rfind(b"\n") + 1]
         wrong = wrong_with(lines, got, wanted, status)
         if wrong:
             return f"request {n}: {wrong}"
-    return None
+    return None if places else "it asked for no memory"
+
+
+def wrong_in_program(program, lines, wanted, most=None):
+    """The same of the program, of each request or of so many of them, spread over all."""
+    given = b"".join(line + b"\n" for line in lines)
+    count = program.count(given, "drive", "-q")
+
+    def run(n):
+        got, _, status = program.run(given, "drive", "-q", refuse=n, lines=1)
+        return got, status
+
+    return wrong_in(lines, wanted, run, range(1, count + 1, max(count // most, 1) if most else 1))
+
+
+def wrong_in_row(program, line, steps, wanted):
+    """The same of a row over a store that fails, by the rows' own program."""
+    count = program.counted(lambda name: program.run_row(line, count=name))
+    return wrong_in(steps, wanted, lambda n: program.run_row(line, refuse=n), range(1, count + 1))

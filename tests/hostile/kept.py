@@ -6,13 +6,9 @@ with status 1 and says nothing.
 """
 
 import os
-import subprocess
-import sys
-import tempfile
 
-from program import HERE, ROWS, SECONDS
+from program import ROWS
 
-BUILT = os.path.join(HERE, "..", "..", "crates", "rows", "out", "rows")
 WELL = "what is kept is as it must be, and each step found memory"
 WANTING = "what is kept is as it must be, and a step found no memory"
 
@@ -23,25 +19,14 @@ def names():
 
 
 def run(program, name, **faults):
-    """Does the steps of a row once: what the program said of it, and its status."""
-    environment = {**program.environment(**faults), "RECALL_ONLY": os.path.basename(BUILT)}
-    ran = subprocess.run([BUILT], input=f"once {name}\n".encode(), capture_output=True, timeout=SECONDS, env=environment, cwd=ROWS)
-    return ran.stdout.decode().removeprefix(f"once {name}: ").rstrip("\n"), ran.returncode
-
-
-def count(program, name):
-    """How many requests that makes."""
-    with tempfile.NamedTemporaryFile(dir=program.room) as file:
-        file.write(bytes(8))
-        file.flush()
-        run(program, name, count=file.name)
-        with open(file.name, "rb") as counted:
-            return int.from_bytes(counted.read(8), sys.byteorder)
+    """Does the steps of a row once: what the rows' program said of it, and its status."""
+    said, status = program.run_row(f"once {name}", **faults)
+    return said.decode().removeprefix(f"once {name}: ").rstrip("\n"), status
 
 
 def row(program, name):
     """Refuses each request of a row in turn: how many runs that were, and what was wrong."""
-    requests = count(program, name)
+    requests = program.counted(lambda file: run(program, name, count=file))
     wrong, seen = [], set()
     for n in range(1, requests + 1):
         said, status = run(program, name, refuse=n)

@@ -8,6 +8,8 @@ import tempfile
 
 HERE = os.path.dirname(os.path.abspath(__file__))
 ROWS = os.path.join(HERE, "..", "..", "crates", "rows", "data")
+# The rows' own program, as `rt ci` builds it.
+ROWS_PROGRAM = os.path.join(HERE, "..", "..", "crates", "rows", "out", "rows")
 SECONDS = 60
 
 
@@ -35,10 +37,20 @@ class Program:
 
     def count(self, given, *words):
         """How many requests for memory such a run makes, where each line comes alone."""
+        return self.counted(lambda name: self.run(given, *words, count=name, lines=1))
+
+    def run_row(self, line, **faults):
+        """Gives the rows' own program a line: what it wrote, and its status."""
+        environment = {**self.environment(**faults), "RECALL_ONLY": os.path.basename(ROWS_PROGRAM)}
+        ran = subprocess.run([ROWS_PROGRAM], input=line.encode() + b"\n", capture_output=True, timeout=SECONDS, env=environment, cwd=ROWS)
+        return ran.stdout, ran.returncode
+
+    def counted(self, run):
+        """How many requests for memory a run makes that counts in the file that it is told."""
         with tempfile.NamedTemporaryFile(dir=self.room) as file:
             file.write(bytes(8))
             file.flush()
-            self.run(given, *words, count=file.name, lines=1)
+            run(file.name)
             with open(file.name, "rb") as counted:
                 return int.from_bytes(counted.read(8), sys.byteorder)
 

@@ -22,26 +22,42 @@ fn given(alloc: Global, lines: &str) -> anyhow::Result<String> {
     Ok(given)
 }
 
-/// Whether a driver writes these lines by a new book over a store that fails as the row tells.
-pub(crate) fn drives_a_book(alloc: Global, lines: &str, written: &str) -> anyhow::Result<bool> {
+/// What a driver wrote, and whether it came to the end of the lines.
+#[derive(Debug, Drop)]
+pub(crate) struct Written {
+    pub(crate) bytes: Vec<u8>,
+    pub(crate) is_whole: bool,
+}
+
+impl Written {
+    /// Whether this is all of it.
+    pub(crate) fn is(&self, due: &str) -> bool {
+        self.is_whole && self.bytes.as_slice() == due.as_bytes()
+    }
+}
+
+/// What a driver writes by a new book over a store that fails as the row tells.
+pub(crate) fn written_by_a_book(alloc: Global, lines: &str) -> anyhow::Result<Written> {
     let given = given(alloc, lines)?;
     let mut reader = Counted::new(given.as_bytes());
     let mut writer = Counted::new(Vec::new(alloc));
     let (appends, fetches) = failing_calls(alloc, lines)?;
     let mut book = Book::new(alloc, Sample, FuseStore::new(alloc, appends, fetches));
-    let driven = drive_all(alloc, &mut reader, &mut writer, &mut book);
+    let is_whole = drive_all(alloc, &mut reader, &mut writer, &mut book);
     mem::forget(book);
-    Ok(driven && writer.inner.as_slice() == written.as_bytes())
+    let bytes = writer.inner;
+    Ok(Written { bytes, is_whole })
 }
 
-/// Whether it writes them by a new host.
-pub(crate) fn drives_a_host(alloc: Global, lines: &str, written: &str) -> anyhow::Result<bool> {
+/// What it writes by a new host.
+pub(crate) fn written_by_a_host(alloc: Global, lines: &str) -> anyhow::Result<Written> {
     let given = given(alloc, lines)?;
     let mut reader = Counted::new(given.as_bytes());
     let mut writer = Counted::new(Vec::new(alloc));
     let (appends, fetches) = failing_calls(alloc, lines)?;
     let mut host = Host::new(alloc, Sample, FuseStore::new(alloc, appends, fetches));
-    let driven = drive_all_by_host(alloc, &mut reader, &mut writer, &mut host);
+    let is_whole = drive_all_by_host(alloc, &mut reader, &mut writer, &mut host);
     mem::forget(host);
-    Ok(driven && writer.inner.as_slice() == written.as_bytes())
+    let bytes = writer.inner;
+    Ok(Written { bytes, is_whole })
 }

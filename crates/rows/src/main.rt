@@ -15,7 +15,8 @@
 //! A book that is done with is not let go of: the program ends soon, and the proof of what a book lets go of is long.
 //!
 //! `once NAME` does the steps of a row of `kept-` once, over a store that never fails, and tells
-//! whether some step found no memory.
+//! whether some step found no memory. `book NAME` and `host NAME` print what a driver writes of a row of `driven-`, and end
+//! with an error where it didn't come to the end.
 #![tactic(auto)]
 
 mod answers;
@@ -31,25 +32,43 @@ mod reading;
 mod told;
 mod turned;
 
+use anyhow::bail;
 use at_once::with_own;
 use audited::audit;
 use beside::{every, with_noise};
 use calls::{new_book, serve_all};
 use certified::certify;
-use driven::{drives_a_book, drives_a_host};
+use driven::{Written, written_by_a_book, written_by_a_host};
 use failing::{Again, Way, failed, once, steps_of, survives_each};
 use lines::Counted;
 use reading::{answers_up_to_each, writes_up_to_each};
 use std::alloc::Global;
-use std::fs;
+use std::{fs, str};
 use told::tell;
 use turned::turn;
 
 fn main(rt: HostRuntime) -> anyhow::Result<()> {
     for name in rt.lines(rt.alloc()) {
         let name = name?;
-        let what = verdict(&rt, name.as_str())?;
-        println!(rt; "{name}: {what}")?;
+        if let Some(row) = name.strip_prefix("book ") {
+            let steps = text_of(&rt, row, "steps")?;
+            print_all(&rt, written_by_a_book(rt.alloc(), steps.as_str())?)?;
+        } else if let Some(row) = name.strip_prefix("host ") {
+            let steps = text_of(&rt, row, "steps")?;
+            print_all(&rt, written_by_a_host(rt.alloc(), steps.as_str())?)?;
+        } else {
+            let what = verdict(&rt, name.as_str())?;
+            println!(rt; "{name}: {what}")?;
+        }
+    }
+    Ok(())
+}
+
+/// Prints what a driver wrote.
+fn print_all(rt: &HostRuntime, written: Written) -> anyhow::Result<()> {
+    print!(rt; "{}", str::from_utf8(written.bytes.as_slice())?)?;
+    if !written.is_whole {
+        bail!("the driver did not come to the end");
     }
     Ok(())
 }
@@ -130,10 +149,10 @@ fn turned_verdict(alloc: Global, steps: &str, replies: &str) -> anyhow::Result<&
 }
 
 fn driven_verdict(alloc: Global, steps: &str, replies: &str) -> anyhow::Result<&'static str> {
-    if !drives_a_book(alloc, steps, replies)? {
+    if !written_by_a_book(alloc, steps)?.is(replies) {
         return Ok("what a driver writes by a book differs");
     }
-    if !drives_a_host(alloc, steps, replies)? {
+    if !written_by_a_host(alloc, steps)?.is(replies) {
         return Ok("what a driver writes by a host differs");
     }
     Ok("a driver writes what it must, by a book and by a host")
