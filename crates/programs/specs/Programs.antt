@@ -9,7 +9,6 @@ use Rattle.model.specs.declared.names.Source.{Source}
 use Rattle.model.specs.Handler.{Turn, Meaning}
 use Rattle.model.specs.Sample.{sample}
 use Rattle.handler.specs.States.{states_equal as numbers_equal}
-use Rattle.programs.specs.declared.process.Process.{Process}
 use Rattle.programs.specs.declared.state.State.{State}
 use Rattle.programs.specs.declared.state.State.TheVariants.{Sample, Process as Running}
 use Rattle.programs.specs.Processes.{beginning, same_process, processes_equal, process_is_same}

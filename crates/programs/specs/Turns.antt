@@ -1,5 +1,5 @@
 -- What a unit that runs a program does upon a text.
-use Rattle.std.specs.Prelude.{ℕ, ◌+◌, ◌==◌, nat_lt, Bool, true, false, not, if◌then◌else◌, List, [], ◌∷◌, length, Result, Ok, Err, codes}
+use Rattle.std.specs.Prelude.{ℕ, nat_lt, not, if◌then◌else◌, List, [], ◌∷◌, length, Result, Ok, Err, codes}
 use Rattle.model.specs.declared.names.Seat.{Seat}
 use Rattle.model.specs.declared.names.Source.{Source}
 use Rattle.model.specs.declared.names.Source.TheVariants.{Outside, Unit as FromUnit}

@@ -1,12 +1,13 @@
 //! A turn on its way.
 
-ghost use Rattle.std.specs.Prelude.{◌≡◌, ◌<◌, []};
+ghost use Rattle.std.specs.Prelude.{◌≡◌, ◌<◌, Err, []};
+ghost use Rattle.riscv.specs.Machines.{stepped, Stopped, Runs};
 ghost use Rattle.programs.specs.Courses.{told, put_out, sent, refused, full, served, gone_on, ended, run, Gives, Ends};
 
 use crate::layout::{BUDGET, RETURN_AT, TEXT_BYTES, TURN_TEXTS};
 use crate::trap::{Cut, Ending, Fault, Halt, Reason, Trap};
 use model::{Text, Unit};
-use riscv::{Exception, MEMORY_BYTES, Machine, Stop};
+use riscv::{Exception, MEMORY_BYTES, Machine, Ran, Stop};
 use std::alloc::Global;
 use std::marker::Model;
 use std::str;
@@ -151,17 +152,34 @@ impl Course {
         }
     }
 
-    /// Carries out one instruction.
-    #[tactic(auto, unfolding(crate::specs::Courses::gone_on))]
-    #[inline(always)]
-    fn go_on(&mut self, alloc: Global) -> Result<(), Fault>
+    /// Lets the machine run, for so many instructions at most.
+    fn proceed(&mut self, alloc: Global, most: u32) -> Ran
+        ensures runs { Runs result.done most result.stop self.old.machine self.new.machine }
+        ensures same { self.new ≡ record self.old { machine = self.new.machine } }
+    {
+        self.machine.run(alloc, most)
+    }
+
+    /// Does what an exception asks for.
+    #[tactic(auto, using(crate::proofs::Runs::gone_on_call, crate::proofs::Runs::gone_on_trap))]
+    fn raise(&mut self, alloc: Global, exception: Exception) -> Result<(), Fault>
+        requires { stepped self.old.machine ≡ Err exception }
         ensures { Gives (λ _. self.new) result (gone_on self.old) }
     {
-        match self.machine.step(alloc) {
-            Ok(()) => Ok(()),
-            Err(Stop::NoMemory) => Err(Fault::NoMemory),
-            Err(Stop::Raised(Exception::EnvironmentCall)) => self.serve(alloc),
-            Err(Stop::Raised(exception)) => Err(Reason::Raised(exception).fault()),
+        match exception {
+            Exception::EnvironmentCall => self.serve(alloc),
+            _ => Err(Reason::Raised(exception).fault()),
+        }
+    }
+
+    /// Does what comes where the machine stopped.
+    fn go_on(&mut self, alloc: Global, stop: Stop) -> Result<(), Fault>
+        requires { Stopped stop self.old.machine }
+        ensures { Gives (λ _. self.new) result (gone_on self.old) }
+    {
+        match stop {
+            Stop::NoMemory => Err(Fault::NoMemory),
+            Stop::Raised(exception) => self.raise(alloc, exception),
         }
     }
 
@@ -170,17 +188,20 @@ impl Course {
         ensures { Ends (λ c. c) result (run 1000000 self) }
     {
         let mut course = self;
-        for _ in 0..BUDGET {
+        let mut left = BUDGET;
+        while left > 0 {
+            let ran = course.proceed(alloc, left);
+            left -= ran.done;
             let at = course.counter();
-            if at == RETURN_AT {
-                return Ok(course);
-            }
-            match course.go_on(alloc) {
-                Ok(()) => {}
-                Err(fault) => match fault {
-                    Fault::NoMemory => return Err(Halt::NoMemory),
-                    Fault::For(cut) => return Err(Halt::Ended(ending(cut, at))),
-                },
+            if let Some(stop) = ran.stop {
+                if at == RETURN_AT {
+                    return Ok(course);
+                }
+                match course.go_on(alloc, stop) {
+                    Ok(()) => left -= 1,
+                    Err(Fault::NoMemory) => return Err(Halt::NoMemory),
+                    Err(Fault::For(cut)) => return Err(Halt::Ended(ending(cut, at))),
+                }
             }
         }
         let at = course.counter();

@@ -4,5 +4,6 @@ pub mod Operands
 pub mod Pages
 pub mod Quotients
 pub mod Signs
+pub mod Steps
 pub mod WordBytes
 pub mod Zero

@@ -74,6 +74,17 @@ pub zero_read : (address : ℕ) → word_at zeros address ≡ 0
 unfolding zeros
 zero_read address = zero_pages_read 64 1024 (address / 4096) (address / 4 % 1024)
 
+zero_pages_at : (n k i : ℕ) → i < n → get_or (zero_pages n k) i [] ≡ zero_words k
+unfolding zero_pages zero_words
+zero_pages_at zero k i h = absurd (omega arith)
+zero_pages_at (suc n) k zero h = refl
+zero_pages_at (suc n) k (suc i) h = zero_pages_at n k i (omega arith)
+
+-- a page of a memory of zeros
+pub zero_page_at : (address : ℕ) → address < 262144 → page_of zeros address ≡ zero_page
+unfolding zeros
+zero_page_at address h = let within : address / 4096 < 64 = omega arith in zero_pages_at 64 1024 (address / 4096) within
+
 -- 64 pages of zeros
 pub zeros_are : (pages : Words) (n k : ℕ) → pages ≡ replicate n (zero_words k) → n ≡ 64 → k ≡ 1024 → pages ≡ zeros
 unfolding zeros zero_pages zero_words

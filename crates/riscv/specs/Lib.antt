@@ -6,4 +6,5 @@ pub mod Pages
 pub mod Memories
 pub mod Machines
 pub mod Predecoding
+pub mod Harts
 pub mod Laws

@@ -1,5 +1,5 @@
 -- What the instructions mean that are kept beside the words of a page.
-use Rattle.std.specs.Prelude.{◌≡◌, ℕ, List, length, map, Option, Some, None}
+use Rattle.std.specs.Prelude.{◌≡◌, ◌≢◌, ◌<◌, ℕ, List, length, replicate, slice_index, slice_index_or, Option, Some, None}
 use Rattle.riscv.specs.declared.instruction.Instruction.{Instruction}
 use Rattle.riscv.specs.declared.instruction.Instruction.TheVariants as instruction
 use Rattle.riscv.specs.declared.instruction.Comparison.TheVariants as comparison
@@ -7,7 +7,7 @@ use Rattle.riscv.specs.declared.instruction.Reading.TheVariants as reading
 use Rattle.riscv.specs.declared.instruction.Writing.TheVariants as writing
 use Rattle.riscv.specs.declared.instruction.Operation.TheVariants as operation
 use Rattle.riscv.specs.declared.predecoded.Predecoded.{Predecoded}
-use Rattle.riscv.specs.declared.predecoded.Predecoded.TheVariants.{Lui, Auipc, Jal, Jalr, Beq, Bne, Blt, Bge, Bltu, Bgeu, Lb, Lh, Lw, Lbu, Lhu, Sb, Sh, Sw, Addi, Slli, Slti, Sltiu, Xori, Srli, Srai, Ori, Andi, Add, Sub, Sll, Slt, Sltu, Xor, Srl, Sra, Or, And, Mul, OpImm, Op, Fence, Ecall, Ebreak, Illegal}
+use Rattle.riscv.specs.declared.predecoded.Predecoded.TheVariants.{Lui, Auipc, Jal, Jalr, Beq, Bne, Blt, Bge, Bltu, Bgeu, Lb, Lh, Lw, Lbu, Lhu, Sb, Sh, Sw, Addi, Slli, Slti, Sltiu, Xori, Srli, Srai, Ori, Andi, Add, Sub, Sll, Slt, Sltu, Xor, Srl, Sra, Or, And, Mul, OpImm, Op, Fence, Ecall, Ebreak, Illegal, Unread}
 use Rattle.riscv.specs.declared.storage.Storage.{Storage}
 use Rattle.riscv.specs.Decoding.{instruction_of}
 use Rattle.riscv.specs.Storages.{items_of, words_of}
@@ -58,11 +58,27 @@ meaning Fence = Some instruction.Fence
 meaning Ecall = Some instruction.Ecall
 meaning Ebreak = Some instruction.Ebreak
 meaning Illegal = None
+meaning Unread = None
 
--- the instructions that are kept, if they are, are what the words say
+-- a page of which nothing was read
+unfoldable pub unread_words : ℕ → List Predecoded
+unread_words size = replicate size Unread
+
+abbrev pub unread_page : List Predecoded
+unread_page = unread_words 1024
+
+-- what is kept of a word is what it says, where it was read
+abbrev pub Reads : Predecoded → ℕ → Type 0
+Reads p word = p ≢ Unread → meaning p ≡ instruction_of word
+
+-- what is kept of the words of a page, one for each
+pub record KeepsCode (code : List Predecoded) (words : List ℕ) : Type 0 where
+  pub size : length code ≡ length words
+  pub reads : (at : ℕ) → at < length words → Reads (slice_index_or code at Unread) (slice_index words at)
+
 abbrev pub Decodes : Option (List Predecoded) → List ℕ → Type 0
 Decodes None words = Unit {0}
-Decodes (Some code) words = map meaning code ≡ map instruction_of words
+Decodes (Some code) words = KeepsCode code words
 
 -- the words of a page and the instructions beside them
 pub record IsPage (words : Storage ℕ) (code : Storage Predecoded) : Type 0 where

@@ -2,26 +2,26 @@
 
 ghost use Rattle.std.specs.Prelude.{◌≡◌, ◌/◌, ◌*◌, ◌%◌, ◌<◌, ◌^◌, int_lt, int_div, pos};
 ghost use Rattle.std.specs.Int.{int_shr};
-ghost use Rattle.riscv.specs.Arithmetic.{signed, unsigned, flag, upper_product, quotient, remainder, quotient_unsigned, remainder_unsigned, value_of};
+ghost use Rattle.riscv.specs.Arithmetic.{signed, unsigned, flag, upper_product, quotient, remainder, quotient_unsigned, remainder_unsigned, value_of, is_taken};
 
-use crate::instruction::Operation;
+use crate::instruction::{Comparison, Operation};
 
 #[inline(always)]
-pub(crate) fn flag_of(test: bool) -> u32
+fn flag_of(test: bool) -> u32
     ensures { result ≡ flag test }
 {
     if test { 1 } else { 0 }
 }
 
 #[inline(always)]
-pub(crate) fn is_less(a: u32, b: u32) -> bool
+fn is_less(a: u32, b: u32) -> bool
     ensures { result ≡ int_lt (signed a) (signed b) }
 {
     a.cast_signed() < b.cast_signed()
 }
 
 #[inline(always)]
-pub(crate) fn shift_right(a: u32, b: u32) -> u32
+fn shift_right(a: u32, b: u32) -> u32
     ensures { result ≡ unsigned (int_shr (signed a) (b % 32)) }
 {
     a.cast_signed().wrapping_shr(b).cast_unsigned()
@@ -101,8 +101,23 @@ fn rest_unsigned(a: u32, b: u32) -> u32
     if b == 0 { a } else { a % b }
 }
 
+/// Whether two numbers compare so.
+#[inline(always)]
+pub(crate) fn compare(comparison: Comparison, a: u32, b: u32) -> bool
+    ensures { result ≡ is_taken comparison a b }
+{
+    match comparison {
+        Comparison::Beq => a == b,
+        Comparison::Bne => a != b,
+        Comparison::Blt => is_less(a, b),
+        Comparison::Bge => !is_less(a, b),
+        Comparison::Bltu => a < b,
+        Comparison::Bgeu => !(a < b),
+    }
+}
+
 /// What an operation gives.
-#[inline(never)]
+#[inline(always)]
 pub(crate) fn operate(operation: Operation, a: u32, b: u32) -> u32
     ensures { result ≡ value_of operation a b }
 {

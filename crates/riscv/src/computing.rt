@@ -1,223 +1,234 @@
-//! The instructions that compute: those with an immediate, and those of two registers.
+//! The instructions that compute, and those that jump. Each form is one function that takes what it computes or compares as a
+//! word of its own; where that is a constant, nothing of the others is left in the program.
 
-ghost use Rattle.std.specs.Prelude.{◌≡◌};
+ghost use Rattle.std.specs.Prelude.{◌≡◌, ◌≢◌, ◌%◌, Ok, Err, OnOk, slice_index};
+ghost use Rattle.riscv.specs.Arithmetic.{value_of};
+ghost use Rattle.riscv.specs.Memories.{Words};
+ghost use Rattle.riscv.specs.Machines.{plus, with_register, linked, executed};
+ghost use Rattle.riscv.specs.Harts.{machine_of, Does};
 
-use crate::arithmetic::{flag_of, is_less, operate, shift_right};
-use crate::fault::Stop;
-use crate::instruction::{Instruction, Operation};
-use crate::machine::Machine;
+use crate::apart::Apart;
+use crate::arithmetic::{compare, operate};
+use crate::instruction::{Comparison, Instruction, Operation};
 use crate::register::Register;
+use crate::registers::{jump, next, put, read};
 
-impl Machine {
-    ghost use Rattle.riscv.specs.Machines.{executed, Makes};
+/// Puts a number into a register, and goes on to the next instruction.
+#[inline(always)]
+pub(crate) fn finish(
+    registers: &mut [u32; 32],
+    counter: &mut u32,
+    rd: Register,
+    n: u32,
+) -> Result<(), Apart>
+    ensures value { registers.new ≡ with_register registers.old rd n }
+    ensures next { counter.new ≡ plus counter.old 4 }
+    ensures ok { result ≡ Ok tt }
+{
+    put(registers, rd, n);
+    *counter = next(*counter);
+    Ok(())
+}
 
-    #[tactic(auto, unfolding(crate::specs::Machines::executed))]
-    #[inline]
-    pub(crate) fn addi(&mut self, rd: Register, rs1: Register, n: u32) -> Result<(), Stop>
-        ensures { Makes result (executed self.old (Instruction.OpImm Operation.Add rd rs1 n)) self.old self.new }
-    {
-        let value = self.read(rs1).wrapping_add(n);
-        self.put(rd, value)
-    }
+/// AUIPC.
+#[inline(always)]
+pub(crate) fn auipc(
+    registers: &mut [u32; 32],
+    counter: &mut u32,
+    rd: Register,
+    n: u32,
+) -> Result<(), Apart>
+    ensures value { registers.new ≡ with_register registers.old rd (plus counter.old n) }
+    ensures next { counter.new ≡ plus counter.old 4 }
+    ensures ok { result ≡ Ok tt }
+{
+    let value = counter.wrapping_add(n);
+    finish(registers, counter, rd, value)
+}
 
-    #[tactic(auto, unfolding(crate::specs::Machines::executed))]
-    #[inline]
-    pub(crate) fn slli(&mut self, rd: Register, rs1: Register, n: u32) -> Result<(), Stop>
-        ensures { Makes result (executed self.old (Instruction.OpImm Operation.Sll rd rs1 n)) self.old self.new }
-    {
-        let value = self.read(rs1).wrapping_shl(n);
-        self.put(rd, value)
-    }
+/// FENCE.
+#[inline(always)]
+pub(crate) fn fence(counter: &mut u32) -> Result<(), Apart>
+    ensures next { counter.new ≡ plus counter.old 4 }
+    ensures ok { result ≡ Ok tt }
+{
+    *counter = next(*counter);
+    Ok(())
+}
 
-    #[tactic(auto, unfolding(crate::specs::Machines::executed))]
-    #[inline]
-    pub(crate) fn slti(&mut self, rd: Register, rs1: Register, n: u32) -> Result<(), Stop>
-        ensures { Makes result (executed self.old (Instruction.OpImm Operation.Slt rd rs1 n)) self.old self.new }
-    {
-        let value = flag_of(is_less(self.read(rs1), n));
-        self.put(rd, value)
-    }
+/// Computes from a register and an immediate.
+#[inline(always)]
+pub(crate) fn op_imm(
+    registers: &mut [u32; 32],
+    counter: &mut u32,
+    operation: Operation,
+    rd: Register,
+    rs1: Register,
+    n: u32,
+) -> Result<(), Apart>
+    ensures value { registers.new ≡ with_register registers.old rd (value_of operation (slice_index registers.old rs1) n) }
+    ensures next { counter.new ≡ plus counter.old 4 }
+    ensures ok { result ≡ Ok tt }
+{
+    let value = operate(operation, read(registers, rs1), n);
+    finish(registers, counter, rd, value)
+}
 
-    #[tactic(auto, unfolding(crate::specs::Machines::executed))]
-    #[inline]
-    pub(crate) fn sltiu(&mut self, rd: Register, rs1: Register, n: u32) -> Result<(), Stop>
-        ensures { Makes result (executed self.old (Instruction.OpImm Operation.Sltu rd rs1 n)) self.old self.new }
-    {
-        let value = flag_of(self.read(rs1) < n);
-        self.put(rd, value)
-    }
+/// Computes from two registers.
+#[inline(always)]
+pub(crate) fn op(
+    registers: &mut [u32; 32],
+    counter: &mut u32,
+    operation: Operation,
+    rd: Register,
+    rs1: Register,
+    rs2: Register,
+) -> Result<(), Apart>
+    ensures value { registers.new ≡ with_register registers.old rd (value_of operation (slice_index registers.old rs1) (slice_index registers.old rs2)) }
+    ensures next { counter.new ≡ plus counter.old 4 }
+    ensures ok { result ≡ Ok tt }
+{
+    let value = operate(operation, read(registers, rs1), read(registers, rs2));
+    finish(registers, counter, rd, value)
+}
 
-    #[tactic(auto, unfolding(crate::specs::Machines::executed))]
-    #[inline]
-    pub(crate) fn xori(&mut self, rd: Register, rs1: Register, n: u32) -> Result<(), Stop>
-        ensures { Makes result (executed self.old (Instruction.OpImm Operation.Xor rd rs1 n)) self.old self.new }
-    {
-        let value = self.read(rs1) ^ n;
-        self.put(rd, value)
-    }
+/// Puts into a register what is seldom computed from another and an immediate.
+#[inline(never)]
+fn put_imm_apart(
+    registers: &mut [u32; 32],
+    operation: Operation,
+    rd: Register,
+    rs1: Register,
+    n: u32,
+)
+    ensures { registers.new ≡ with_register registers.old rd (value_of operation (slice_index registers.old rs1) n) }
+{
+    let value = operate(operation, read(registers, rs1), n);
+    put(registers, rd, value);
+}
 
-    #[tactic(auto, unfolding(crate::specs::Machines::executed))]
-    #[inline]
-    pub(crate) fn srli(&mut self, rd: Register, rs1: Register, n: u32) -> Result<(), Stop>
-        ensures { Makes result (executed self.old (Instruction.OpImm Operation.Srl rd rs1 n)) self.old self.new }
-    {
-        let value = self.read(rs1).wrapping_shr(n);
-        self.put(rd, value)
-    }
+/// Puts into a register what is seldom computed from two others.
+#[inline(never)]
+fn put_apart(
+    registers: &mut [u32; 32],
+    operation: Operation,
+    rd: Register,
+    rs1: Register,
+    rs2: Register,
+)
+    ensures { registers.new ≡ with_register registers.old rd (value_of operation (slice_index registers.old rs1) (slice_index registers.old rs2)) }
+{
+    let value = operate(operation, read(registers, rs1), read(registers, rs2));
+    put(registers, rd, value);
+}
 
-    #[tactic(auto, unfolding(crate::specs::Machines::executed))]
-    #[inline]
-    pub(crate) fn srai(&mut self, rd: Register, rs1: Register, n: u32) -> Result<(), Stop>
-        ensures { Makes result (executed self.old (Instruction.OpImm Operation.Sra rd rs1 n)) self.old self.new }
-    {
-        let value = shift_right(self.read(rs1), n);
-        self.put(rd, value)
-    }
+/// Computes what is seldom computed from a register and an immediate.
+#[inline(always)]
+pub(crate) fn op_imm_apart(
+    registers: &mut [u32; 32],
+    counter: &mut u32,
+    operation: Operation,
+    rd: Register,
+    rs1: Register,
+    n: u32,
+) -> Result<(), Apart>
+    ensures value { registers.new ≡ with_register registers.old rd (value_of operation (slice_index registers.old rs1) n) }
+    ensures next { counter.new ≡ plus counter.old 4 }
+    ensures ok { result ≡ Ok tt }
+{
+    put_imm_apart(registers, operation, rd, rs1, n);
+    *counter = next(*counter);
+    Ok(())
+}
 
-    #[tactic(auto, unfolding(crate::specs::Machines::executed))]
-    #[inline]
-    pub(crate) fn ori(&mut self, rd: Register, rs1: Register, n: u32) -> Result<(), Stop>
-        ensures { Makes result (executed self.old (Instruction.OpImm Operation.Or rd rs1 n)) self.old self.new }
-    {
-        let value = self.read(rs1) | n;
-        self.put(rd, value)
-    }
+/// Computes what is seldom computed from two registers.
+#[inline(always)]
+pub(crate) fn op_apart(
+    registers: &mut [u32; 32],
+    counter: &mut u32,
+    operation: Operation,
+    rd: Register,
+    rs1: Register,
+    rs2: Register,
+) -> Result<(), Apart>
+    ensures value { registers.new ≡ with_register registers.old rd (value_of operation (slice_index registers.old rs1) (slice_index registers.old rs2)) }
+    ensures next { counter.new ≡ plus counter.old 4 }
+    ensures ok { result ≡ Ok tt }
+{
+    put_apart(registers, operation, rd, rs1, rs2);
+    *counter = next(*counter);
+    Ok(())
+}
 
-    #[tactic(auto, unfolding(crate::specs::Machines::executed))]
-    #[inline]
-    pub(crate) fn andi(&mut self, rd: Register, rs1: Register, n: u32) -> Result<(), Stop>
-        ensures { Makes result (executed self.old (Instruction.OpImm Operation.And rd rs1 n)) self.old self.new }
-    {
-        let value = self.read(rs1) & n;
-        self.put(rd, value)
-    }
+/// Jumps, with the address of the next instruction in a register.
+#[inline(always)]
+fn link(registers: &mut [u32; 32], counter: &mut u32, rd: Register, to: u32) -> Result<(), Apart>
+    ensures does { (memory : Words) → Does result (linked (machine_of registers.old counter.old memory) rd to) (machine_of registers.old counter.old memory) registers.new counter.new }
+    ensures aligned { OnOk result (counter.new % 4 ≡ 0) }
+    ensures read { result ≢ Err Apart.Unread }
+{
+    let link = next(*counter);
+    jump(counter, to)?;
+    put(registers, rd, link);
+    Ok(())
+}
 
-    #[tactic(auto, unfolding(crate::specs::Machines::executed))]
-    #[inline]
-    pub(crate) fn add(&mut self, rd: Register, rs1: Register, rs2: Register) -> Result<(), Stop>
-        ensures { Makes result (executed self.old (Instruction.Op Operation.Add rd rs1 rs2)) self.old self.new }
-    {
-        let value = self.read(rs1).wrapping_add(self.read(rs2));
-        self.put(rd, value)
-    }
+/// JAL.
+#[tactic(auto, unfolding(crate::specs::Machines::executed))]
+#[inline(always)]
+pub(crate) fn jal(
+    registers: &mut [u32; 32],
+    counter: &mut u32,
+    rd: Register,
+    offset: u32,
+) -> Result<(), Apart>
+    ensures does { (memory : Words) → Does result (executed (machine_of registers.old counter.old memory) (Instruction.Jal rd offset)) (machine_of registers.old counter.old memory) registers.new counter.new }
+    ensures aligned { OnOk result (counter.new % 4 ≡ 0) }
+    ensures read { result ≢ Err Apart.Unread }
+{
+    let to = counter.wrapping_add(offset);
+    link(registers, counter, rd, to)
+}
 
-    #[tactic(auto, unfolding(crate::specs::Machines::executed))]
-    #[inline]
-    pub(crate) fn sub(&mut self, rd: Register, rs1: Register, rs2: Register) -> Result<(), Stop>
-        ensures { Makes result (executed self.old (Instruction.Op Operation.Sub rd rs1 rs2)) self.old self.new }
-    {
-        let value = self.read(rs1).wrapping_sub(self.read(rs2));
-        self.put(rd, value)
-    }
+/// JALR.
+#[tactic(auto, unfolding(crate::specs::Machines::executed))]
+#[inline(always)]
+pub(crate) fn jalr(
+    registers: &mut [u32; 32],
+    counter: &mut u32,
+    rd: Register,
+    rs1: Register,
+    offset: u32,
+) -> Result<(), Apart>
+    ensures does { (memory : Words) → Does result (executed (machine_of registers.old counter.old memory) (Instruction.Jalr rd rs1 offset)) (machine_of registers.old counter.old memory) registers.new counter.new }
+    ensures aligned { OnOk result (counter.new % 4 ≡ 0) }
+    ensures read { result ≢ Err Apart.Unread }
+{
+    let to = read(registers, rs1).wrapping_add(offset);
+    link(registers, counter, rd, to - to % 2)
+}
 
-    #[tactic(auto, unfolding(crate::specs::Machines::executed))]
-    #[inline]
-    pub(crate) fn sll(&mut self, rd: Register, rs1: Register, rs2: Register) -> Result<(), Stop>
-        ensures { Makes result (executed self.old (Instruction.Op Operation.Sll rd rs1 rs2)) self.old self.new }
-    {
-        let value = self.read(rs1).wrapping_shl(self.read(rs2));
-        self.put(rd, value)
-    }
-
-    #[tactic(auto, unfolding(crate::specs::Machines::executed))]
-    #[inline]
-    pub(crate) fn slt(&mut self, rd: Register, rs1: Register, rs2: Register) -> Result<(), Stop>
-        ensures { Makes result (executed self.old (Instruction.Op Operation.Slt rd rs1 rs2)) self.old self.new }
-    {
-        let value = flag_of(is_less(self.read(rs1), self.read(rs2)));
-        self.put(rd, value)
-    }
-
-    #[tactic(auto, unfolding(crate::specs::Machines::executed))]
-    #[inline]
-    pub(crate) fn sltu(&mut self, rd: Register, rs1: Register, rs2: Register) -> Result<(), Stop>
-        ensures { Makes result (executed self.old (Instruction.Op Operation.Sltu rd rs1 rs2)) self.old self.new }
-    {
-        let value = flag_of(self.read(rs1) < self.read(rs2));
-        self.put(rd, value)
-    }
-
-    #[tactic(auto, unfolding(crate::specs::Machines::executed))]
-    #[inline]
-    pub(crate) fn xor(&mut self, rd: Register, rs1: Register, rs2: Register) -> Result<(), Stop>
-        ensures { Makes result (executed self.old (Instruction.Op Operation.Xor rd rs1 rs2)) self.old self.new }
-    {
-        let value = self.read(rs1) ^ self.read(rs2);
-        self.put(rd, value)
-    }
-
-    #[tactic(auto, unfolding(crate::specs::Machines::executed))]
-    #[inline]
-    pub(crate) fn srl(&mut self, rd: Register, rs1: Register, rs2: Register) -> Result<(), Stop>
-        ensures { Makes result (executed self.old (Instruction.Op Operation.Srl rd rs1 rs2)) self.old self.new }
-    {
-        let value = self.read(rs1).wrapping_shr(self.read(rs2));
-        self.put(rd, value)
-    }
-
-    #[tactic(auto, unfolding(crate::specs::Machines::executed))]
-    #[inline]
-    pub(crate) fn sra(&mut self, rd: Register, rs1: Register, rs2: Register) -> Result<(), Stop>
-        ensures { Makes result (executed self.old (Instruction.Op Operation.Sra rd rs1 rs2)) self.old self.new }
-    {
-        let value = shift_right(self.read(rs1), self.read(rs2));
-        self.put(rd, value)
-    }
-
-    #[tactic(auto, unfolding(crate::specs::Machines::executed))]
-    #[inline]
-    pub(crate) fn or(&mut self, rd: Register, rs1: Register, rs2: Register) -> Result<(), Stop>
-        ensures { Makes result (executed self.old (Instruction.Op Operation.Or rd rs1 rs2)) self.old self.new }
-    {
-        let value = self.read(rs1) | self.read(rs2);
-        self.put(rd, value)
-    }
-
-    #[tactic(auto, unfolding(crate::specs::Machines::executed))]
-    #[inline]
-    pub(crate) fn and(&mut self, rd: Register, rs1: Register, rs2: Register) -> Result<(), Stop>
-        ensures { Makes result (executed self.old (Instruction.Op Operation.And rd rs1 rs2)) self.old self.new }
-    {
-        let value = self.read(rs1) & self.read(rs2);
-        self.put(rd, value)
-    }
-
-    #[tactic(auto, unfolding(crate::specs::Machines::executed))]
-    #[inline]
-    pub(crate) fn mul(&mut self, rd: Register, rs1: Register, rs2: Register) -> Result<(), Stop>
-        ensures { Makes result (executed self.old (Instruction.Op Operation.Mul rd rs1 rs2)) self.old self.new }
-    {
-        let value = self.read(rs1).wrapping_mul(self.read(rs2));
-        self.put(rd, value)
-    }
-
-    #[tactic(auto, unfolding(crate::specs::Machines::executed))]
-    #[inline(never)]
-    pub(crate) fn op_imm(
-        &mut self,
-        operation: Operation,
-        rd: Register,
-        rs1: Register,
-        n: u32,
-    ) -> Result<(), Stop>
-        ensures { Makes result (executed self.old (Instruction.OpImm operation rd rs1 n)) self.old self.new }
-    {
-        let value = operate(operation, self.read(rs1), n);
-        self.put(rd, value)
-    }
-
-    #[tactic(auto, unfolding(crate::specs::Machines::executed))]
-    #[inline(never)]
-    pub(crate) fn op(
-        &mut self,
-        operation: Operation,
-        rd: Register,
-        rs1: Register,
-        rs2: Register,
-    ) -> Result<(), Stop>
-        ensures { Makes result (executed self.old (Instruction.Op operation rd rs1 rs2)) self.old self.new }
-    {
-        let value = operate(operation, self.read(rs1), self.read(rs2));
-        self.put(rd, value)
+/// Jumps where two registers compare so, or goes on.
+#[tactic(auto, unfolding(crate::specs::Machines::executed))]
+#[inline(always)]
+pub(crate) fn branch(
+    registers: &[u32; 32],
+    counter: &mut u32,
+    comparison: Comparison,
+    rs1: Register,
+    rs2: Register,
+    offset: u32,
+) -> Result<(), Apart>
+    requires { counter.old % 4 ≡ 0 }
+    ensures does { (memory : Words) → Does result (executed (machine_of registers.now counter.old memory) (Instruction.Branch comparison rs1 rs2 offset)) (machine_of registers.now counter.old memory) registers.now counter.new }
+    ensures aligned { OnOk result (counter.new % 4 ≡ 0) }
+    ensures read { result ≢ Err Apart.Unread }
+{
+    if compare(comparison, read(registers, rs1), read(registers, rs2)) {
+        let to = counter.wrapping_add(offset);
+        jump(counter, to)
+    } else {
+        *counter = next(*counter);
+        Ok(())
     }
 }

@@ -1,10 +1,11 @@
 //! The memory of a machine.
 
-ghost use Rattle.std.specs.Prelude.{◌≡◌, ◌+◌, ◌/◌, ◌<◌, ◌≤◌, ◌%◌, IfOk, IfNone, IfSome, OnOk, OnErr, length};
+ghost use Rattle.std.specs.Prelude.{◌≡◌, ◌≢◌, ◌+◌, ◌/◌, ◌<◌, ◌≤◌, ◌%◌, IfOk, IfNone, IfSome, OnOk, OnErr, length};
 ghost use Rattle.std.proofs.Common.{rules};
 ghost use Rattle.std.specs.Cmp.Rules.{comparing};
 ghost use Rattle.riscv.specs.Decoding.{instruction_of};
 ghost use Rattle.riscv.specs.Predecoding.{meaning};
+ghost use Rattle.riscv.specs.Harts.{Says};
 ghost use Rattle.riscv.specs.Bytes.{byte_in, half_in, with_byte, with_half};
 ghost use Rattle.riscv.specs.Memories.{pages_equal, zeros, byte_at, half_at, word_at, put_byte, put_half, put_word, bytes_from, put_bytes};
 
@@ -114,7 +115,7 @@ fn page_index(address: u32) -> usize
 }
 
 #[inline]
-fn word_index(address: u32) -> usize
+pub(crate) fn word_index(address: u32) -> usize
     ensures { result ≡ address / 4 % 1024 }
 {
     (address / 4 % 1024) as usize
@@ -253,26 +254,30 @@ impl Memory {
         }
     }
 
-    /// What the word that has the byte at an address says, where its page keeps it.
+    /// What is kept of what the words of a page say; nothing, where none of it is.
     #[tactic(auto, using(crate::proofs::Pages::page_read))]
     #[inline(always)]
-    pub(crate) fn predecoded(&self, address: u32) -> Option<&Predecoded>
-        requires { address < 262144 }
-        ensures { IfSome result (λ p. meaning p.now ≡ instruction_of (word_at self.now address)) }
+    pub(crate) fn code(&self, address: u32) -> &[Predecoded]
+        requires aligned { address % 4 ≡ 0 }
+        requires within { address < 262144 }
+        ensures { 0 < length result.now → Says result.now self.now address }
     {
         match &self.pages {
-            Storage::Own(pages) => pages[page_index(address)].predecoded(word_index(address)),
-            Storage::Shared(pages) => {
-                pages.as_slice()[page_index(address)].predecoded(word_index(address))
-            }
-            Storage::Nowhere => None,
+            Storage::Own(pages) => pages[page_index(address)].code(),
+            Storage::Shared(pages) => pages.as_slice()[page_index(address)].code(),
+            Storage::Nowhere => &[],
         }
     }
 
-    /// The same, where its page may not keep it yet.
+    /// What the word at an address says, for the first time since it was written. Its page keeps it.
+    ///
+    /// # Errors
+    ///
+    /// `AllocError` where there is no memory to keep it. The memory stays as it was.
+    #[tactic(auto, using(crate::proofs::Pages::page_read))]
     #[cold]
     #[inline(never)]
-    pub(crate) fn predecode(
+    pub(crate) fn read_code(
         &mut self,
         alloc: Global,
         address: u32,
@@ -280,22 +285,35 @@ impl Memory {
         requires { address < 262144 }
         ensures same { self.new ≡ self.old }
         ensures said { IfOk result (λ p. meaning p ≡ instruction_of (word_at self.old address)) }
+        ensures read { IfOk result (λ p. p ≢ Predecoded.Unread) }
     {
-        self.keep_code(alloc, page_index(address))?;
-        Ok(predecode(self.word(address)))
+        let said = predecode(self.word(address));
+        self.keep_code(alloc, address, &said)?;
+        Ok(said)
     }
 
-    /// Lets a page keep what its words say, if it lies somewhere.
-    fn keep_code(&mut self, alloc: Global, page: usize) -> Result<(), AllocError>
-        requires { page < 64 }
+    /// Keeps what the word at an address says.
+    #[tactic(auto, using(crate::proofs::Pages::page_read))]
+    fn keep_code(
+        &mut self,
+        alloc: Global,
+        address: u32,
+        said: &Predecoded,
+    ) -> Result<(), AllocError>
+        requires within { address < 262144 }
+        requires said { meaning said.now ≡ instruction_of (word_at self.old address) }
         ensures { self.new ≡ self.old }
     {
         match &mut self.pages {
             Storage::Nowhere => Ok(()),
-            Storage::Own(pages) => pages[page].predecode(alloc),
+            Storage::Own(pages) => pages[page_index(address)].keep(
+                alloc,
+                word_index(address),
+                said,
+            ),
             Storage::Shared(shared) => {
                 let mut pages = copied(alloc, shared.as_slice())?;
-                pages[page].predecode(alloc)?;
+                pages[page_index(address)].keep(alloc, word_index(address), said)?;
                 self.pages = Storage::Own(pages);
                 Ok(())
             }

@@ -1,21 +1,18 @@
 //! One page of memory.
 
-ghost use Rattle.std.specs.Prelude.{◌≡◌, ◌<◌, IfOk, IfSome, OnOk, OnErr, slice_index, slice_set};
+ghost use Rattle.std.specs.Prelude.{◌≡◌, ◌<◌, IfOk, OnOk, OnErr, length, slice_index, slice_set};
 ghost use Rattle.std.specs.Str.{bytes_eq};
 ghost use Rattle.std.proofs.Common.{rules};
 ghost use Rattle.std.specs.Cmp.Rules.{comparing};
 ghost use Rattle.riscv.specs.Storages.{words_of};
 ghost use Rattle.riscv.specs.Memories.{zero_page};
 ghost use Rattle.riscv.specs.Decoding.{instruction_of};
-ghost use Rattle.riscv.specs.Predecoding.{meaning};
+ghost use Rattle.riscv.specs.Predecoding.{meaning, KeepsCode};
 
-use crate::predecoded::{Predecoded, predecode, predecode_all};
+use crate::predecoded::{PAGE_WORDS, Predecoded, unread};
 use crate::storage::Storage;
 use std::alloc::{AllocError, Global};
 use std::marker::Model;
-
-/// Words of a page.
-const PAGE_WORDS: usize = 1024;
 
 /// What is read of a page that was never written.
 static ZEROS: [u32; PAGE_WORDS] = [0; PAGE_WORDS];
@@ -29,8 +26,8 @@ fn zeros() -> &'static [u32]
 /// 1,024 words, seen as their list. Copies share one place, until one of them is written; a page that was
 /// never written has none.
 ///
-/// Beside the words it keeps what they say, from the first time on that it is asked for. A word that is
-/// written over is decoded anew, and the others stay, since data and code may lie in one page.
+/// Beside the words it keeps what those say that were carried out. A word that is written over is forgotten, and the others stay,
+/// since data and code may lie in one page.
 #[derive(Debug, Drop)]
 pub(crate) struct Page {
     words: Storage<u32>,
@@ -79,6 +76,7 @@ impl Page {
     }
 
     /// An equal page, which shares the place where that was shared.
+    #[inline]
     pub(crate) fn copy(&self, alloc: Global) -> Result<Page, AllocError>
         ensures { IfOk result (λ p. p ≡ self.now) }
     {
@@ -88,6 +86,7 @@ impl Page {
     }
 
     /// Lets copies share the place: it stays the same page.
+    #[inline]
     pub(crate) fn share(&mut self, alloc: Global) -> Result<(), AllocError>
         ensures { self.new ≡ self.old }
     {
@@ -128,22 +127,31 @@ impl Page {
         }
     }
 
+    #[tactic(auto, using(crate::proofs::KeptCode::keeps_set))]
     #[inline]
     pub(crate) fn set_word(&mut self, alloc: Global, at: usize, n: u32) -> Result<(), AllocError>
         requires { at < 1024 }
         ensures ok { OnOk result (self.new ≡ slice_set self.old at n) }
         ensures err { OnErr result (self.new ≡ self.old) }
     {
-        if let Storage::Nowhere = self.code
-            && let Storage::Own(words) = &mut self.words
-        {
-            words[at] = n;
-            return Ok(());
+        if let Storage::Own(words) = &mut self.words {
+            match &mut self.code {
+                Storage::Nowhere => {
+                    words[at] = n;
+                    return Ok(());
+                }
+                Storage::Own(code) => {
+                    words[at] = n;
+                    code[at] = Predecoded::Unread;
+                    return Ok(());
+                }
+                Storage::Shared(_) => {}
+            }
         }
         self.set_word_apart(alloc, at, n)
     }
 
-    /// The same, where the page has no place of its own yet or keeps what the words say.
+    /// The same, where the page has no place of its own yet.
     #[tactic(auto, using(crate::proofs::KeptCode::decodes_set, crate::proofs::KeptCode::code_within))]
     #[inline(never)]
     fn set_word_apart(&mut self, alloc: Global, at: usize, n: u32) -> Result<(), AllocError>
@@ -154,33 +162,63 @@ impl Page {
         self.words.own(alloc, zeros())?;
         self.code.part(alloc)?;
         self.words.put(at, n);
-        self.code.put(at, predecode(n));
+        self.code.put(at, Predecoded::Unread);
         Ok(())
     }
 
-    /// What the word at a place says, where that is kept.
-    #[tactic(auto, using(crate::proofs::KeptCode::decoded_at, crate::proofs::KeptCode::code_within))]
+    /// What is kept of what the words say; nothing, where none of it is.
     #[inline(always)]
-    pub(crate) fn predecoded(&self, at: usize) -> Option<&Predecoded>
-        requires { at < 1024 }
-        ensures { IfSome result (λ p. meaning p.now ≡ instruction_of (slice_index self.now at)) }
+    pub(crate) fn code(&self) -> &[Predecoded]
+        ensures keeps { 0 < length result.now → KeepsCode result.now self.now }
+        ensures size { length self.now ≡ 1024 }
     {
+        let _ = &self.words;
         match &self.code {
-            Storage::Own(code) => Some(&code[at]),
-            Storage::Shared(code) => Some(&code.as_slice()[at]),
-            Storage::Nowhere => None,
+            Storage::Own(code) => code.as_slice(),
+            Storage::Shared(code) => code.as_slice(),
+            Storage::Nowhere => &[],
         }
     }
 
-    /// Keeps what the words say, unless they were never written: then no word is an instruction.
-    pub(crate) fn predecode(&mut self, alloc: Global) -> Result<(), AllocError>
+    /// Makes room for what the words say, unless none was ever written: then none is an instruction.
+    #[tactic(auto, using(crate::proofs::KeptCode::nothing_read))]
+    fn make_code(&mut self, alloc: Global) -> Result<(), AllocError>
         ensures { self.new ≡ self.old }
     {
         if let Storage::Nowhere = self.words {
             return Ok(());
         }
-        let code = predecode_all(alloc, self.as_slice())?;
-        self.code = Storage::Own(code);
+        if let Storage::Nowhere = self.code {
+            let code = unread(alloc)?;
+            self.code = Storage::Own(code);
+        }
         Ok(())
+    }
+
+    /// Keeps what the word at a place says, where there is room.
+    #[tactic(auto, using(crate::proofs::KeptCode::decodes_read, crate::proofs::KeptCode::code_within))]
+    fn put_code(&mut self, alloc: Global, at: usize, said: &Predecoded) -> Result<(), AllocError>
+        requires within { at < 1024 }
+        requires said { meaning said.now ≡ instruction_of (slice_index self.old at) }
+        ensures { self.new ≡ self.old }
+    {
+        self.code.part(alloc)?;
+        self.code.put(at, *said);
+        Ok(())
+    }
+
+    /// Keeps what the word at a place says.
+    pub(crate) fn keep(
+        &mut self,
+        alloc: Global,
+        at: usize,
+        said: &Predecoded,
+    ) -> Result<(), AllocError>
+        requires within { at < 1024 }
+        requires said { meaning said.now ≡ instruction_of (slice_index self.old at) }
+        ensures { self.new ≡ self.old }
+    {
+        self.make_code(alloc)?;
+        self.put_code(alloc, at, said)
     }
 }

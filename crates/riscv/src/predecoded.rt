@@ -1,13 +1,16 @@
-//! Instructions as they are kept beside the words of a page.
+//! Instructions as they are kept beside the words of a page, from the first time on that they are carried out.
 
-ghost use Rattle.std.specs.Prelude.{◌≡◌, IfOk, Some, map};
+ghost use Rattle.std.specs.Prelude.{◌≡◌, ◌≢◌, IfOk, Some};
 ghost use Rattle.riscv.specs.Decoding.{instruction_of};
-ghost use Rattle.riscv.specs.Predecoding.{meaning};
+ghost use Rattle.riscv.specs.Predecoding.{meaning, unread_page};
 
 use crate::instruction::{Comparison, Instruction, Operation, Reading, Writing};
 use crate::register::Register;
 use crate::words::decode;
 use std::alloc::{AllocError, Global};
+
+/// Words of a page.
+pub(crate) const PAGE_WORDS: usize = 1024;
 
 /// What a word says, in one enum by the manual's mnemonics, so that a step is one jump. What is seldom
 /// computed has no variant of its own.
@@ -59,6 +62,19 @@ pub(crate) enum Predecoded {
     Ebreak,
     // No instruction.
     Illegal,
+    // Not read yet: what the word says was not asked for since it was written.
+    Unread,
+}
+
+/// What is kept of a page of which nothing was read.
+pub(crate) fn unread(alloc: Global) -> Result<Vec<Predecoded>, AllocError>
+    ensures { IfOk result (λ code. code.items ≡ unread_page) }
+{
+    let mut code = Vec::with_capacity(alloc, PAGE_WORDS)?;
+    for _ in 0..PAGE_WORDS {
+        code.push(Predecoded::Unread)?;
+    }
+    Ok(code)
 }
 
 fn branch(comparison: Comparison, rs1: Register, rs2: Register, n: u32) -> Predecoded
@@ -154,21 +170,11 @@ fn flat(instruction: Instruction) -> Predecoded
 
 /// What a word says.
 pub(crate) fn predecode(word: u32) -> Predecoded
-    ensures { meaning result ≡ instruction_of word }
+    ensures said { meaning result ≡ instruction_of word }
+    ensures read { result ≢ Predecoded.Unread }
 {
     match decode(word) {
         Some(instruction) => flat(instruction),
         None => Predecoded::Illegal,
     }
-}
-
-/// What each of these words says.
-pub(crate) fn predecode_all(alloc: Global, words: &[u32]) -> Result<Vec<Predecoded>, AllocError>
-    ensures { IfOk result (λ code. map meaning code.items ≡ map instruction_of words.now) }
-{
-    let mut code = Vec::with_capacity(alloc, words.len())?;
-    for word in words {
-        code.push(predecode(*word))?;
-    }
-    Ok(code)
 }

@@ -21,7 +21,19 @@ pub(crate) enum Storage<T> {
 
 impl<T: Drop> Storage<T> {
     /// Lets copies share the place. The items do not move, and stay the same whatever is returned.
+    #[inline]
     pub(crate) fn share(&mut self, alloc: Global) -> Result<(), AllocError>
+        ensures { items_of self.new ≡ items_of self.old }
+    {
+        match self {
+            Storage::Own(_) => self.share_own(alloc),
+            _ => Ok(()),
+        }
+    }
+
+    /// The same, where they lie in a place of their own.
+    #[inline(never)]
+    fn share_own(&mut self, alloc: Global) -> Result<(), AllocError>
         ensures { items_of self.new ≡ items_of self.old }
     {
         match mem::replace(self, Storage::Nowhere) {
@@ -40,6 +52,7 @@ impl<T: Drop> Storage<T> {
 
 impl<T: Copy> Storage<T> {
     /// Equal items, which share the place where it can be shared.
+    #[inline]
     pub(crate) fn copy(&self, alloc: Global) -> Result<Storage<T>, AllocError>
         ensures { IfOk result (λ s. items_of s ≡ items_of self.now) }
     {
