@@ -19,7 +19,7 @@ import flows
 import memory
 import rule
 import scripts
-from program import ROWS, Program, whole_lines
+from program import ROWS, ROWS_PROGRAM, Program, whole_lines
 
 SCRIPTS = 200
 # Each script's run is ended once at a random moment, and those of the first ones more often.
@@ -96,6 +96,8 @@ def memory_refused(program, name, room):
 
 def memory_refused_of_row(program, name, room):
     """Of a flow over a store that fails: only there a letter has to wait for a notice, or is an orphan."""
+    if not os.path.isfile(ROWS_PROGRAM):
+        return "the rows' own program isn't there: `rt ci` builds it"
     with open(os.path.join(ROWS, name + ".steps"), "rb") as steps, open(os.path.join(ROWS, name + ".replies"), "rb") as due:
         lines, wanted = steps.read().splitlines(), due.read()
     for host in ("book", "host"):
