@@ -61,10 +61,19 @@ def flow(program, name, room):
     return as_due(program, flows.lines_of(rows), flows.written(rows))
 
 
-def example(program, name, room):
+def example_of(name):
+    """An example's lines, and what is due."""
     path = os.path.join(EXAMPLES, name)
     with open(path + ".jsonl", "rb") as given, open(path + ".lines", "rb") as due:
-        return as_due(program, given.read().splitlines(), due.read())
+        return given.read().splitlines(), due.read()
+
+
+def example(program, name, room):
+    return as_due(program, *example_of(name))
+
+
+def memory_refused_of_example(program, name, room):
+    return memory.wrong_in_program(Program(program, room), *example_of(name))
 
 
 def follows_the_rule(program, seed, room):
@@ -184,6 +193,7 @@ def tasks():
     for file in sorted(os.listdir(EXAMPLES)):
         if file.endswith(".jsonl"):
             yield f"example: {file}", example, file.removesuffix(".jsonl")
+            yield f"memory: example {file}", memory_refused_of_example, file.removesuffix(".jsonl")
     for seed in range(SCRIPTS):
         yield f"rule: script {seed}", follows_the_rule, seed
         yield f"failures: script {seed}", begins_a_run_without_failures, seed

@@ -1,7 +1,8 @@
 """Each request for memory of a driven flow refused in turn.
 
 Either the run goes on and a line is answered `memory`, with all before it as it must be; or the program ends with
-status 1, and what it wrote is a beginning of what it must be. No unit puts out what nobody posted, or a text twice.
+status 1, and what it wrote is a beginning of what it must be. No unit puts out what nobody posted, or a text twice, where
+units pass on what they receive.
 """
 
 import json
@@ -9,12 +10,15 @@ import json
 import scripts
 
 MEMORY = b'{"no":"memory"}'
+# The kinds of units that pass texts on as they are.
+PASS_ON = {"echo", "tee", "relay"}
 
 
 def texts_of(lines):
-    """The texts that are posted; units here pass them on as they are."""
+    """The texts that may come out: those that are posted, where units pass them on as they are, and else None."""
     steps = [json.loads(line) for line in lines if line.startswith(b'{"')]
-    return [step["text"] for step in steps if step["do"] == "post"]
+    kinds = {kind for step in steps if step["do"] == "open" for kind in step["units"]}
+    return {step["text"] for step in steps if step["do"] == "post"} if kinds <= PASS_ON else None
 
 
 def wrong_with(lines_given, got, wanted, status):
@@ -26,8 +30,8 @@ def wrong_with(lines_given, got, wanted, status):
     if MEMORY not in lines and (got != wanted if status == 0 else not wanted.startswith(got)):
         return f"status {status}, and it wrote {lines}"
     posted = texts_of(lines_given)
-    for unit, outputs in scripts.outputs_of(got).items():
-        if not set(outputs) <= set(posted) or len(set(outputs)) != len(outputs):
+    for unit, outputs in scripts.outputs_of(got).items() if posted is not None else ():
+        if not set(outputs) <= posted or len(set(outputs)) != len(outputs):
             return f"unit {unit} put out {outputs}"
     return None if status in (0, 1) else f"status {status}"
 

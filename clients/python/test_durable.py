@@ -1,0 +1,231 @@
+#!/usr/bin/env python3
+"""Tests of recall_durable: python3 clients/python/test_durable.py PROGRAM
+
+200 flows whose program and whose client are killed at random moments: what the client did is what one plain run puts out. The last
+line is `N passed, M failed`.
+"""
+
+import json
+import os
+import random
+import signal
+import sqlite3
+import subprocess
+import sys
+import tempfile
+import time
+from multiprocessing import Pool
+
+HERE = os.path.dirname(os.path.abspath(__file__))
+sys.path.insert(0, HERE)
+
+import recall
+from recall_durable import DurableFlow
+
+FLOWS, KILLS, SECONDS = 200, 4, 60
+
+
+def steps_of(seed):
+    """Posts down a chain, with kills and restarts of its units."""
+    chance = random.Random(seed)
+    steps = [{"do": "open", "tenant": "a", "units": ["tee", "relay", "tee", "echo"]}]
+    down, number = None, 0
+    for _ in range(chance.randrange(20, 120)):
+        if down is None and chance.random() < 0.1:
+            down = chance.randrange(1, 4)
+            steps.append({"do": "kill", "tenant": "a", "unit": down})
+        elif down is not None and chance.random() < 0.3:
+            steps.append({"do": "restart", "tenant": "a", "unit": down})
+            down = None
+        else:
+            steps.append({"do": "post", "tenant": "a", "unit": 0, "number": number, "text": f"text {number}"})
+            number += 1
+    return steps
+
+
+def slowly(steps, chance):
+    """The steps, some of them behind a pause."""
+    for step in steps:
+        if chance.random() < 0.1:
+            time.sleep(chance.random() * 0.01)
+        yield step
+
+
+def plain(program, steps):
+    """The outputs of one plain run."""
+    given = b"".join(recall._line_of(step) for step in steps)
+    ran = subprocess.run([program, "drive", "-q"], input=given, capture_output=True, timeout=SECONDS, check=True)
+    told = [json.loads(line) for line in ran.stdout.splitlines()]
+    return [(it["tenant"], it["unit"], it["output"]) for it in told if "output" in it]
+
+
+def act(program, room, seed):
+    """The client: it notes each output, in the transaction of its batch."""
+    chance = random.Random()
+    with DurableFlow(program, os.path.join(room, "journal"), os.path.join(room, "seen.db")) as flow:
+        flow.db.execute("CREATE TABLE IF NOT EXISTS done (place INTEGER PRIMARY KEY, tenant TEXT, unit INTEGER, text TEXT)")
+        flow.give(slowly(steps_of(seed), chance))
+        for output in flow:
+            flow.db.execute("INSERT INTO done (tenant, unit, text) VALUES (?, ?, ?)", output)
+            if chance.random() < 0.05:
+                time.sleep(chance.random() * 0.01)
+
+
+def done_in(room):
+    with sqlite3.connect(os.path.join(room, "seen.db")) as db:
+        return list(db.execute("SELECT tenant, unit, text FROM done ORDER BY place"))
+
+
+def children_of(process):
+    try:
+        with open(f"/proc/{process}/task/{process}/children", encoding="ascii") as file:
+            return [int(word) for word in file.read().split()]
+    except OSError:
+        return []
+
+
+def killed_once(words, chance):
+    """Runs the client, and kills its program once or more, and then the client itself, unless it came to its end before.
+    Gives its status, what it complained of, and how often something was killed."""
+    client, count = subprocess.Popen(words, stdout=subprocess.DEVNULL, stderr=subprocess.PIPE), 0
+    for _ in range(chance.randrange(3)):
+        time.sleep(0.05 + chance.random() * 0.1)
+        for child in children_of(client.pid):
+            os.kill(child, signal.SIGKILL)
+            count += 1
+    time.sleep(chance.random() * 0.05)
+    if client.poll() is None:
+        client.send_signal(signal.SIGKILL)
+        count += 1
+    said = client.stderr.read().decode(errors="replace")
+    client.stderr.close()
+    return client.wait(SECONDS), said, count
+
+
+def survives(program, seed, room):
+    """A flow that is killed several times and comes to its end. Gives how often, and what is wrong, if anything is."""
+    chance, kills = random.Random(seed + 1000), 0
+    words = [sys.executable, "-B", __file__, "act", program, room, str(seed)]
+    for _ in range(KILLS):
+        status, said, count = killed_once(words, chance)
+        kills += count
+        if status not in (0, -signal.SIGKILL):
+            return kills, f"status {status}: {said[-300:]}"
+    ran = subprocess.run(words, capture_output=True, timeout=SECONDS)
+    if ran.returncode:
+        return kills, f"at the end: status {ran.returncode}: {ran.stderr.decode(errors='replace')[-300:]}"
+    got, wanted = done_in(room), plain(program, steps_of(seed))
+    return kills, None if got == wanted else f"{len(got)} outputs were acted on, and {len(wanted)} are due"
+
+
+def own_flow(program, room, count, refused=None):
+    flow = DurableFlow(program, os.path.join(room, "journal"), os.path.join(room, "seen.db"), refused=refused)
+    opening = {"do": "open", "tenant": "a", "units": ["echo"]}
+    flow.give([opening] + [{"do": "post", "tenant": "a", "unit": 0, "number": n, "text": str(n)} for n in range(count)])
+    return flow
+
+
+def each_comes_once(program, room):
+    for count, due in ((3, ["0", "1", "2"]), (3, []), (5, ["3", "4"])):
+        with own_flow(program, room, count) as flow:
+            got = [output.text for output in flow]
+        if got != due:
+            return f"of {count} posts came {got}"
+    return None
+
+
+def a_loop_that_is_left_did_nothing(program, room):
+    with own_flow(program, room, 3) as flow:
+        flow.db.execute("CREATE TABLE done (text TEXT)")
+        for output in flow:
+            flow.db.execute("INSERT INTO done VALUES (?)", [output.text])
+            break
+        try:
+            list(flow)
+            return "it goes on behind a loop that was left"
+        except ValueError:
+            pass
+    with own_flow(program, room, 3) as flow:
+        for output in flow:
+            flow.db.execute("INSERT INTO done VALUES (?)", [output.text])
+        done = [text for text, in flow.db.execute("SELECT text FROM done")]
+    return None if done == ["0", "1", "2"] else f"{done}"
+
+
+def other_steps_are_told(program, room):
+    with own_flow(program, room, 3) as flow:
+        list(flow)
+    with own_flow(program, room, 3) as flow:
+        flow.give([{"do": "open", "tenant": "b", "units": ["echo"]}])
+        try:
+            list(flow)
+        except ValueError as why:
+            return None if "line 1 of the journal" in str(why) else str(why)
+    return "other steps than the journal's were taken"
+
+
+def refusals_are_told(program, room):
+    told = []
+    with own_flow(program, room, 1, refused=lambda step, reply: told.append((step["number"], reply["no"]))) as flow:
+        flow.give([{"do": "open", "tenant": "a", "units": ["echo"]}, {"do": "post", "tenant": "a", "unit": 0, "number": 7, "text": "x"}])
+        list(flow)
+    return None if told == [(7, "gap")] else str(told)
+
+
+def an_error_is_raised(program, room):
+    os.mkdir(os.path.join(room, "journal"))
+    with DurableFlow(program, os.path.join(room, "journal", "none", "j"), os.path.join(room, "seen.db")) as flow:
+        flow.give([])
+        try:
+            list(flow)
+        except recall.Ended as ended:
+            return None if ended.status == 1 and ended.complaint else str(ended)
+    return "a journal that can't be is no error"
+
+
+def pip_installs_it(_, room):
+    """From the folder alone, without a network."""
+    words = [sys.executable, "-m", "pip", "install", "-q", "--no-index", "--disable-pip-version-check", "--target", room, HERE]
+    ran = subprocess.run(words, capture_output=True, timeout=SECONDS, env={**os.environ, "PYTHONDONTWRITEBYTECODE": "1"})
+    if b"No module named pip" in ran.stderr:
+        return None
+    found = {name for name in os.listdir(room) if name.endswith((".py", ".dist-info"))}
+    due = {"recall.py", "recall_durable.py", "recall_client-0.3.0.dist-info"}
+    return None if found == due else f"{found}: {ran.stderr.decode(errors='replace')[-300:]}"
+
+
+CHECKS = pip_installs_it, each_comes_once, a_loop_that_is_left_did_nothing, other_steps_are_told, refusals_are_told, an_error_is_raised
+
+
+def work(task):
+    program, which, room = task
+    own = tempfile.mkdtemp(dir=room)
+    try:
+        if isinstance(which, int):
+            kills, wrong = survives(program, which, own)
+            return f"flow {which}", kills, wrong
+        return which.__name__, 0, which(program, own)
+    except Exception as error:
+        return str(which), 0, f"{type(error).__name__}: {error}"
+
+
+def main():
+    if sys.argv[1:2] == ["act"] and len(sys.argv) == 5:
+        return act(sys.argv[2], sys.argv[3], int(sys.argv[4]))
+    if len(sys.argv) != 2:
+        sys.exit(__doc__)
+    passed = failed = kills = 0
+    with tempfile.TemporaryDirectory() as room, Pool(os.cpu_count()) as pool:
+        tasks = [(os.path.abspath(sys.argv[1]), which, room) for which in [*CHECKS, *range(FLOWS)]]
+        for name, count, wrong in pool.imap_unordered(work, tasks):
+            passed, failed, kills = passed + (wrong is None), failed + (wrong is not None), kills + count
+            if wrong is not None:
+                print(f"durable: {name}: {wrong}", flush=True)
+    print(f"durable: {kills} kills of programs and clients")
+    failed += kills < FLOWS
+    print(f"{passed} passed, {failed} failed")
+    return 1 if failed else 0
+
+
+if __name__ == "__main__":
+    sys.exit(main())
