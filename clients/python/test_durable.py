@@ -5,6 +5,7 @@
 line is `N passed, M failed`.
 """
 
+import contextlib
 import json
 import os
 import random
@@ -91,8 +92,9 @@ def killed_once(words, chance):
     for _ in range(chance.randrange(3)):
         time.sleep(0.05 + chance.random() * 0.1)
         for child in children_of(client.pid):
-            os.kill(child, signal.SIGKILL)
-            count += 1
+            with contextlib.suppress(ProcessLookupError):  # (it has just ended)
+                os.kill(child, signal.SIGKILL)
+                count += 1
     time.sleep(chance.random() * 0.05)
     if client.poll() is None:
         client.send_signal(signal.SIGKILL)
