@@ -34,7 +34,7 @@ import time
 
 from recall import PIECE, Ended, Output, _line_of
 
-TRIES = 20  # (how often in a row a program may end with an error before it wrote a line)
+TRIES = 50  # (how often in a row a program may end with an error before it wrote a line)
 PAUSE = 0.1  # (seconds before the next try)
 
 
