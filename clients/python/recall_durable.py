@@ -53,6 +53,9 @@ class DurableFlow:
     """A flow of the program `program`, with `drive`, this journal, and `words`. It is iterated for its outputs, by one thread."""
 
     def __init__(self, program, journal, seen, words=(), refused=None):
+        words = list(words)
+        if any(str(word).split("=")[0] in ("--from", "--audit") for word in words):
+            raise ValueError("a durable flow counts the lines itself, and takes neither --from nor --audit")
         self._words = [program, "drive", "-q", "--journal", journal, *words]
         self._journal, self._refused = journal, refused
         # What the loop does by this is kept with the count of the lines that it has seen.

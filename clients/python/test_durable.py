@@ -174,6 +174,16 @@ def refusals_are_told(program, room):
     return None if told == [(7, "gap")] else str(told)
 
 
+def its_own_words_are_refused(program, room):
+    for word in ("--from", "--audit", "--from=3"):
+        try:
+            DurableFlow(program, os.path.join(room, "journal"), os.path.join(room, "seen.db"), [word])
+            return f"{word} was taken"
+        except ValueError:
+            pass
+    return None
+
+
 def an_error_is_raised(program, room):
     os.mkdir(os.path.join(room, "journal"))
     with DurableFlow(program, os.path.join(room, "journal", "none", "j"), os.path.join(room, "seen.db")) as flow:
@@ -196,7 +206,7 @@ def pip_installs_it(_, room):
     return None if found == due else f"{found}: {ran.stderr.decode(errors='replace')[-300:]}"
 
 
-CHECKS = pip_installs_it, each_comes_once, a_loop_that_is_left_did_nothing, other_steps_are_told, refusals_are_told, an_error_is_raised
+CHECKS = pip_installs_it, each_comes_once, a_loop_that_is_left_did_nothing, other_steps_are_told, refusals_are_told, its_own_words_are_refused, an_error_is_raised
 
 
 def work(task):
