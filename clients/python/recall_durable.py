@@ -17,11 +17,14 @@ that batch's lines. So it is done once for each output, whoever dies: where this
 its last batch was done, and a later run gives those outputs again. Whoever acts elsewhere acts at least once for each: he tells
 the act's key from the output, or notes in `flow.db` what is to be done and does it behind the loop.
 
+`async for output in flow` does the same where an event loop runs. What its body awaits is within the transaction too.
+
 A program that was killed is started again. One that ends with an error several times in a row raises `recall.Ended`, and
 `ValueError` is raised where the journal has other lines than the steps. A step that is refused is told to `refused`, a function
 of the step and its reply, if there is one.
 """
 
+import asyncio
 import collections
 import contextlib
 import json
@@ -68,7 +71,7 @@ class DurableFlow:
         self._steps, self._given, self._is_given = None, 0, False
         self._unanswered = collections.deque()  # (the lines of steps that were given, and whose replies aren't seen)
         self._process, self._rest, self._complaint = None, b"", None
-        self._is_left = False  # (within a batch)
+        self._is_left = False  # (whether a loop is within a batch, or waits for one)
         # Who has it may write to the program: lines are given in one order.
         self._writing, self._into = threading.Lock(), None
         self._feeder, self._fault = threading.Thread(target=self._feed, daemon=True), None
@@ -92,19 +95,33 @@ class DurableFlow:
         self._steps = iter(steps)
 
     def __iter__(self):
+        self._begin()
+        while (batch := self._batch()) is not None:
+            yield from self._outputs_of(batch)
+            self._is_left = False
+
+    async def __aiter__(self):
+        """The same for `async for`: what it waits for is waited for in another thread."""
+        self._begin()
+        while (batch := await asyncio.get_running_loop().run_in_executor(None, self._batch)) is not None:
+            for output in self._outputs_of(batch):
+                yield output
+            self._is_left = False
+
+    def _begin(self):
         if self._is_left:
             raise ValueError("a loop of this flow was left: what it was at was not done, and a new flow gives it again")
-        while (batch := self._batch()) is not None:
-            self._is_left = True
-            with self._transaction():
-                for told in batch:
-                    if "output" in told:
-                        yield Output(told["tenant"], told["unit"], told["output"])
-                    else:
-                        self._hear(told)
-                self._lines += len(batch)
-                self.db.execute("UPDATE recall_seen SET lines = ?, replies = ?", [self._lines, self._replies])
-            self._is_left = False
+
+    def _outputs_of(self, batch):
+        """The outputs of a batch, in one transaction with its count."""
+        with self._transaction():
+            for told in batch:
+                if "output" in told:
+                    yield Output(told["tenant"], told["unit"], told["output"])
+                else:
+                    self._hear(told)
+            self._lines += len(batch)
+            self.db.execute("UPDATE recall_seen SET lines = ?, replies = ?", [self._lines, self._replies])
 
     @contextlib.contextmanager
     def _transaction(self):
@@ -112,7 +129,8 @@ class DurableFlow:
         try:
             yield
         except BaseException:
-            self.db.execute("ROLLBACK")
+            with contextlib.suppress(sqlite3.ProgrammingError):  # (a file that was closed meanwhile has nothing of it)
+                self.db.execute("ROLLBACK")
             raise
         self.db.execute("COMMIT")
 
@@ -125,7 +143,7 @@ class DurableFlow:
 
     def _batch(self):
         """The lines that the program wrote at once, as dicts; nothing behind the last."""
-        failures = 0
+        failures, self._is_left = 0, True
         while True:
             if not self._process:
                 self._start()
@@ -135,6 +153,7 @@ class DurableFlow:
             if self._fault:
                 raise self._fault
             if status == 0 and self._is_given:
+                self._is_left = False
                 return None
             failures += status > 0
             if failures >= TRIES:

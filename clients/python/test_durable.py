@@ -5,6 +5,7 @@
 line is `N passed, M failed`.
 """
 
+import asyncio
 import contextlib
 import json
 import os
@@ -174,6 +175,24 @@ def refusals_are_told(program, room):
     return None if told == [(7, "gap")] else str(told)
 
 
+def an_event_loop_has_them_too(program, room):
+    async def collect(count):
+        got = []
+        with own_flow(program, room, count) as flow:
+            async for output in flow:
+                await asyncio.sleep(0)
+                got.append(output.text)
+        return got
+
+    async def is_left():
+        with own_flow(program, room, 6) as flow:
+            async for output in flow:
+                return output.text
+
+    first, left, rest = asyncio.run(collect(3)), asyncio.run(is_left()), asyncio.run(collect(6))
+    return None if (first, left, rest) == (["0", "1", "2"], "3", ["3", "4", "5"]) else f"{first}, {left} and {rest}"
+
+
 def its_own_words_are_refused(program, room):
     for word in ("--from", "--audit", "--from=3"):
         try:
@@ -206,7 +225,16 @@ def pip_installs_it(_, room):
     return None if found == due else f"{found}: {ran.stderr.decode(errors='replace')[-300:]}"
 
 
-CHECKS = pip_installs_it, each_comes_once, a_loop_that_is_left_did_nothing, other_steps_are_told, refusals_are_told, its_own_words_are_refused, an_error_is_raised
+CHECKS = (
+    pip_installs_it,
+    each_comes_once,
+    a_loop_that_is_left_did_nothing,
+    an_event_loop_has_them_too,
+    other_steps_are_told,
+    refusals_are_told,
+    its_own_words_are_refused,
+    an_error_is_raised,
+)
 
 
 def work(task):
