@@ -59,7 +59,7 @@ class DurableFlow:
         words = list(words)
         if any(str(word).split("=")[0] in ("--from", "--audit") for word in words):
             raise ValueError("a durable flow counts the lines itself, and takes neither --from nor --audit")
-        self._words = [program, "drive", "-q", "--journal", journal, *words]
+        self._words = [program, "drive", "-q", f"--journal={journal}", *words]
         self._journal, self._refused = journal, refused
         # What the loop does by this is kept with the count of the lines that it has seen.
         self.db = sqlite3.connect(seen, isolation_level=None)

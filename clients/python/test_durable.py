@@ -121,8 +121,9 @@ def survives(program, seed, room):
     return kills, None if got == wanted else f"{len(got)} outputs were acted on, and {len(wanted)} are due"
 
 
-def own_flow(program, room, count, refused=None):
-    flow = DurableFlow(program, os.path.join(room, "journal"), os.path.join(room, "seen.db"), refused=refused)
+def own_flow(program, room, count, refused=None, name=None):
+    journal = os.path.join(room, "journal") if name is None else name
+    flow = DurableFlow(program, journal, os.path.join(room, f"{len(name or '')}.db"), refused=refused)
     opening = {"do": "open", "tenant": "a", "units": ["echo"]}
     flow.give([opening] + [{"do": "post", "tenant": "a", "unit": 0, "number": n, "text": str(n)} for n in range(count)])
     return flow
@@ -135,6 +136,41 @@ def each_comes_once(program, room):
         if got != due:
             return f"of {count} posts came {got}"
     return None
+
+
+def a_journal_of_any_name_is_taken(program, room):
+    """One that looks like a word of the command line, and one with an escape and a line feed in it."""
+    before = os.getcwd()
+    os.chdir(room)
+    try:
+        for name in ("-j", "a\x1b[31m\nb"):
+            with own_flow(program, room, 1, name=name) as flow:
+                if [output.text for output in flow] != ["0"] or not os.path.exists(name):
+                    return f"{name!r} is not taken"
+    finally:
+        os.chdir(before)
+    return None
+
+
+def what_is_no_step_or_no_file_is_told(program, room):
+    """A step that isn't JSON, and a count that is kept in what is no database: nothing is written to either."""
+    with DurableFlow(program, os.path.join(room, "journal"), os.path.join(room, "seen.db")) as flow:
+        flow.give([{"do": "open", "tenant": "a", "units": ["echo"]}, {"do": object()}])
+        try:
+            list(flow)
+            return "what isn't JSON was given"
+        except TypeError:
+            pass
+    text = os.path.join(room, "text")
+    with open(text, "w", encoding="utf-8") as file:
+        file.write("no database" * 100)
+    try:
+        DurableFlow(program, os.path.join(room, "other"), text)
+        return "a text was taken for a database"
+    except sqlite3.DatabaseError:
+        pass
+    with open(text, encoding="utf-8") as file:
+        return None if file.read() == "no database" * 100 else "the text was written to"
 
 
 def a_loop_that_is_left_did_nothing(program, room):
@@ -228,6 +264,8 @@ def pip_installs_it(_, room):
 CHECKS = (
     pip_installs_it,
     each_comes_once,
+    a_journal_of_any_name_is_taken,
+    what_is_no_step_or_no_file_is_told,
     a_loop_that_is_left_did_nothing,
     an_event_loop_has_them_too,
     other_steps_are_told,
