@@ -89,16 +89,20 @@ class Host:
     them (`ValueError`): it has replies written that no call asked for."""
 
     def __init__(self, program="recall", words=()):
-        words, pipe = list(words), subprocess.PIPE
+        words = list(words)
         if any(str(word).split("=")[0] == "--from" for word in words):
             raise ValueError("a host takes no --from, since no call asks for those replies: read them by a run of their own")
-        self._process = subprocess.Popen([program, "run", *words], stdin=pipe, stdout=pipe, stderr=pipe)
-        os.set_blocking(self._process.stdin.fileno(), False)  # (else a long write would wait for a reply to be read)
         self._free, self._why = threading.Lock(), INTERRUPTED
-        self._pieces = []
         self._told = 0, []  # (how many replies earlier calls have read, and those of this one: set at once, or not at all)
         self._numbers = {}  # (by tenant and unit: the number of the next post, where it is known)
-        self._complaint = []
+        self._start([program, "run", *words])
+
+    def _start(self, words):
+        """Starts the program."""
+        pipe = subprocess.PIPE
+        self._process = subprocess.Popen(words, stdin=pipe, stdout=pipe, stderr=pipe)
+        os.set_blocking(self._process.stdin.fileno(), False)  # (else a long write would wait for a reply to be read)
+        self._pieces, self._complaint = [], []
         self._listener = threading.Thread(target=self._listen, daemon=True)
         self._listener.start()
 
@@ -147,7 +151,7 @@ class Host:
         try:
             if self._process.stdin.closed:
                 raise self._ended([])
-            replies = self._talk(lines)
+            replies = self._talk(lines, len(lines))
         except Ended as ended:
             self._told = ended.total, []
             self._free.release()
@@ -156,14 +160,14 @@ class Host:
         self._free.release()
         return replies
 
-    def _talk(self, lines):
-        """Writes the lines, and reads as many replies meanwhile: the program reads no further while nobody reads from it."""
+    def _talk(self, lines, count):
+        """Writes the lines, and reads so many replies meanwhile: the program reads no further while nobody reads from it."""
         unsent, (_, replies) = memoryview(b"".join(lines)), self._told
-        while len(replies) < len(lines):
+        while len(replies) < count:
             unsent = self._write(unsent)
             if self._can_read(unsent):
                 self._read(replies)
-        if len(replies) > len(lines) or any(self._pieces):
+        if len(replies) > count or any(self._pieces):
             self._fail("the program wrote more than was asked for")
         return replies
 

@@ -1,8 +1,8 @@
 #!/usr/bin/env python3
 """Tests of recall_durable: python3 clients/python/test_durable.py PROGRAM
 
-200 flows whose program and whose client are killed at random moments: what the client did is what one plain run puts out. The last
-line is `N passed, M failed`.
+200 flows and 200 hosts whose program and whose client are killed at random moments: what the client did is what one plain run puts
+out. The last line is `N passed, M failed`.
 """
 
 import asyncio
@@ -22,9 +22,10 @@ HERE = os.path.dirname(os.path.abspath(__file__))
 sys.path.insert(0, HERE)
 
 import recall
-from recall_durable import DurableFlow
+from recall_durable import AsyncDurableHost, DurableFlow, DurableHost
 
 FLOWS, KILLS, SECONDS = 200, 4, 60
+DONE = "CREATE TABLE IF NOT EXISTS done (place INTEGER PRIMARY KEY, tenant TEXT, unit INTEGER, text TEXT)"
 
 
 def steps_of(seed):
@@ -53,9 +54,9 @@ def slowly(steps, chance):
         yield step
 
 
-def plain(program, steps):
+def plain(program, seed):
     """The outputs of one plain run."""
-    given = b"".join(recall._line_of(step) for step in steps)
+    given = b"".join(recall._line_of(step) for step in steps_of(seed))
     ran = subprocess.run([program, "drive", "-q"], input=given, capture_output=True, timeout=SECONDS, check=True)
     told = [json.loads(line) for line in ran.stdout.splitlines()]
     return [(it["tenant"], it["unit"], it["output"]) for it in told if "output" in it]
@@ -65,12 +66,89 @@ def act(program, room, seed):
     """The client: it notes each output, in the transaction of its batch."""
     chance = random.Random()
     with DurableFlow(program, os.path.join(room, "journal"), os.path.join(room, "seen.db")) as flow:
-        flow.db.execute("CREATE TABLE IF NOT EXISTS done (place INTEGER PRIMARY KEY, tenant TEXT, unit INTEGER, text TEXT)")
+        flow.db.execute(DONE)
         flow.give(slowly(steps_of(seed), chance))
         for output in flow:
             flow.db.execute("INSERT INTO done (tenant, unit, text) VALUES (?, ?, ?)", output)
             if chance.random() < 0.05:
                 time.sleep(chance.random() * 0.01)
+
+
+def host_steps(seed):
+    """Steps by hand, some of which are refused."""
+    chance = random.Random(seed)
+    steps = [{"do": "open", "tenant": "a", "units": ["tee", "echo"]}]
+    for number in range(chance.randrange(20, 60)):
+        steps.append({"do": "post", "tenant": "a", "unit": 0, "number": number, "text": f"text {number}"})
+        for _ in range(chance.randrange(6)):
+            do = chance.choice(["deliver", "flush", "flush", "release", "release", "checkpoint", "kill", "restart", "notice"])
+            of = {"letter": number} if do == "deliver" else {"unit": chance.randrange(2)}
+            steps.append({"do": do, "tenant": "a", **of})
+    return steps
+
+
+def act_steps(program, room, seed):
+    """The client that has all steps: it notes each output, in the transaction of its group."""
+    chance = random.Random()
+    with DurableHost(program, os.path.join(room, "journal"), os.path.join(room, "seen.db")) as host:
+        host.db.execute(DONE)
+        for step, reply in host.run(slowly(host_steps(seed), chance), chance.choice([1, 7, 100])):
+            for text in reply.get("outputs", ()):
+                host.db.execute("INSERT INTO done (tenant, unit, text) VALUES (?, ?, ?)", ["a", step["unit"], text])
+
+
+def act_asking(program, room, seed):
+    """The client that asks step by step: it finds out from its own tables where it was."""
+    with DurableHost(program, os.path.join(room, "journal"), os.path.join(room, "seen.db")) as host:
+        host.db.execute(DONE)
+        host.db.execute("CREATE TABLE IF NOT EXISTS posted (number INTEGER)")
+        for step, reply in host.missed():
+            note(host.db, step, reply)
+        if not host.db.execute("SELECT 1 FROM posted").fetchone():
+            with host.transaction():
+                ask(host, {"do": "open", "tenant": "a", "units": ["echo"]})
+                host.db.execute("INSERT INTO posted VALUES (-1)")
+        for number in range(host.db.execute("SELECT max(number) FROM posted").fetchone()[0] + 1, 40 + seed % 20):
+            with host.transaction():
+                ask(host, {"do": "post", "tenant": "a", "unit": 0, "number": number, "text": f"text {number}"})
+            with host.transaction():
+                host.tenant("a").flush(0)
+                ask(host, {"do": "release", "tenant": "a", "unit": 0})
+        with host.transaction():
+            ask(host, {"do": "flush", "tenant": "a", "unit": 0})
+            ask(host, {"do": "release", "tenant": "a", "unit": 0})
+
+
+def ask(host, step):
+    """Asks, and notes the reply in the transaction that is under way."""
+    try:
+        reply = host.ask(step)
+    except recall.Refused as refused:
+        if refused.name not in ("already-open", "repeat"):
+            raise
+        reply = refused.reply
+    note(host.db, step, reply)
+
+
+def note(db, step, reply):
+    """What is kept of a reply."""
+    if step["do"] == "post":
+        db.execute("INSERT INTO posted VALUES (?)", [step["number"]])
+    for text in reply.get("outputs", ()):
+        db.execute("INSERT INTO done (tenant, unit, text) VALUES (?, ?, ?)", ["a", step["unit"], text])
+
+
+def plain_steps(program, seed):
+    """The outputs of one plain run of all steps."""
+    steps = host_steps(seed)
+    given = b"".join(recall._line_of(step) for step in steps)
+    ran = subprocess.run([program, "run", "-q"], input=given, capture_output=True, timeout=SECONDS, check=True)
+    told = zip(steps, map(json.loads, ran.stdout.splitlines()))
+    return [("a", step["unit"], text) for step, reply in told for text in reply.get("outputs", ())]
+
+
+def plain_asking(_, seed):
+    return [("a", 0, f"text {number}") for number in range(40 + seed % 20)]
 
 
 def done_in(room):
@@ -105,10 +183,10 @@ def killed_once(words, chance):
     return client.wait(SECONDS), said, count
 
 
-def survives(program, seed, room):
-    """A flow that is killed several times and comes to its end. Gives how often, and what is wrong, if anything is."""
+def survives(program, client, seed, room):
+    """A client that is killed several times and comes to its end. Gives how often, and what is wrong, if anything is."""
     chance, kills = random.Random(seed + 1000), 0
-    words = [sys.executable, "-B", __file__, "act", program, room, str(seed)]
+    words = [sys.executable, "-B", __file__, client, program, room, str(seed)]
     for _ in range(KILLS):
         status, said, count = killed_once(words, chance)
         kills += count
@@ -117,8 +195,12 @@ def survives(program, seed, room):
     ran = subprocess.run(words, capture_output=True, timeout=SECONDS)
     if ran.returncode:
         return kills, f"at the end: status {ran.returncode}: {ran.stderr.decode(errors='replace')[-300:]}"
-    got, wanted = done_in(room), plain(program, steps_of(seed))
+    got, wanted = done_in(room), CLIENTS[client][1](program, seed)
     return kills, None if got == wanted else f"{len(got)} outputs were acted on, and {len(wanted)} are due"
+
+
+# What a client that is killed does, and what is due of it.
+CLIENTS = {"flow": (act, plain), "steps": (act_steps, plain_steps), "asking": (act_asking, plain_asking)}
 
 
 def own_flow(program, room, count, refused=None, name=None):
@@ -261,7 +343,87 @@ def pip_installs_it(_, room):
     return None if found == due else f"{found}: {ran.stderr.decode(errors='replace')[-300:]}"
 
 
+def own_host(program, room):
+    return DurableHost(program, os.path.join(room, "journal"), os.path.join(room, "seen.db"))
+
+
+def a_transaction_that_is_left_did_nothing(program, room):
+    """Its replies are missed, and no call comes before they are taken; a call that fails within one undoes it."""
+    with own_host(program, room) as host:
+        tenant = host.open("a", ["echo"])
+        host.db.execute("CREATE TABLE done (text TEXT)")
+        try:
+            with host.transaction():
+                tenant.post(0, "x", 0)
+                host.db.execute("INSERT INTO done VALUES ('x')")
+                raise KeyError
+        except KeyError:
+            pass
+        try:
+            tenant.status(0)
+            return "a call came before what was missed"
+        except ValueError:
+            pass
+        missed = [(step["do"], reply["ok"]) for step, reply in host.missed()]
+        if missed != [("post", "accepted")] or host.db.execute("SELECT * FROM done").fetchall():
+            return f"{missed} was missed, or something was done"
+        try:
+            with host.transaction():
+                with host.transaction():
+                    return "a transaction within another"
+        except ValueError:
+            pass
+        return None if tenant.status(0)["volatile"] == 1 else "the post was lost"
+
+
+def steps_of_another_run_are_told(program, room):
+    opening = {"do": "open", "tenant": "a", "units": ["echo"]}
+    with own_host(program, room) as host:
+        list(host.run([opening]))
+    for steps in ([{**opening, "tenant": "b"}], []):
+        with own_host(program, room) as host:
+            try:
+                return f"{list(host.run(steps))} of {steps}"
+            except ValueError as why:
+                if "line 0 of the journal" not in str(why):
+                    return str(why)
+    return None
+
+
+def a_program_that_fails_is_an_error(program, room):
+    with DurableHost(program, os.path.join(room, "none", "j"), os.path.join(room, "seen.db")) as host:
+        try:
+            host.open("a", ["echo"])
+            return "a journal that can't be is no error"
+        except recall.Ended as ended:
+            return None if ended.status == 1 and "none" in ended.complaint else str(ended)
+
+
+def an_event_loop_has_hosts_too(program, room):
+    async def go():
+        async with AsyncDurableHost(program, os.path.join(room, "journal"), os.path.join(room, "seen.db")) as host:
+            tenant = await host.open("a", ["echo"])
+            try:
+                async with host.transaction():
+                    await tenant.post(0, "x", 0)
+                    raise KeyError
+            except KeyError:
+                pass
+            missed = [step["text"] async for step, _ in host.missed()]
+            async with host.transaction():
+                await tenant.flush(0)
+                texts = await tenant.release(0)
+            return missed, texts, await host.execute("SELECT count FROM recall_replies")
+
+    found = asyncio.run(go())
+    return None if found == (["x"], ["x"], [(4,)]) else str(found)
+
+
 CHECKS = (
+    a_transaction_that_is_left_did_nothing,
+    steps_of_another_run_are_told,
+    a_program_that_fails_is_an_error,
+    an_event_loop_has_hosts_too,
     pip_installs_it,
     each_comes_once,
     a_journal_of_any_name_is_taken,
@@ -279,28 +441,29 @@ def work(task):
     program, which, room = task
     own = tempfile.mkdtemp(dir=room)
     try:
-        if isinstance(which, int):
-            kills, wrong = survives(program, which, own)
-            return f"flow {which}", kills, wrong
+        if isinstance(which, tuple):
+            kills, wrong = survives(program, *which, own)
+            return f"{which}", kills, wrong
         return which.__name__, 0, which(program, own)
     except Exception as error:
         return str(which), 0, f"{type(error).__name__}: {error}"
 
 
 def main():
-    if sys.argv[1:2] == ["act"] and len(sys.argv) == 5:
-        return act(sys.argv[2], sys.argv[3], int(sys.argv[4]))
+    if len(sys.argv) == 5 and sys.argv[1] in CLIENTS:
+        return CLIENTS[sys.argv[1]][0](sys.argv[2], sys.argv[3], int(sys.argv[4]))
     if len(sys.argv) != 2:
         sys.exit(__doc__)
     passed = failed = kills = 0
+    clients = [(client, seed) for seed in range(FLOWS) for client in ("flow", ("steps", "asking")[seed % 2])]
     with tempfile.TemporaryDirectory() as room, Pool(os.cpu_count()) as pool:
-        tasks = [(os.path.abspath(sys.argv[1]), which, room) for which in [*CHECKS, *range(FLOWS)]]
+        tasks = [(os.path.abspath(sys.argv[1]), which, room) for which in [*CHECKS, *clients]]
         for name, count, wrong in pool.imap_unordered(work, tasks):
             passed, failed, kills = passed + (wrong is None), failed + (wrong is not None), kills + count
             if wrong is not None:
                 print(f"durable: {name}: {wrong}", flush=True)
     print(f"durable: {kills} kills of programs and clients")
-    failed += kills < FLOWS
+    failed += kills < len(clients)
     print(f"{passed} passed, {failed} failed")
     return 1 if failed else 0
 

@@ -12,4 +12,8 @@ if [ "$*" = --version ]; then
     done <"$library/MANIFEST"
     exit 0
 fi
+if [ "${1-}" = diff ]; then
+    shift
+    RECALL_PROGRAM=$library/recall exec "$library/diff" "$@"
+fi
 exec "$library/recall" "$@"

@@ -44,6 +44,8 @@ pub(crate) struct Interval<'a> {
     pub unit: Unit,
     pub mark: Mark,
     pub column: usize,
+    /// How many entries the history had before the one by which it began.
+    pub entry: usize,
     pub cause: Cause<'a>,
     /// The greatest mark of each unit in its past.
     pub vector: DepVector,

@@ -5,6 +5,7 @@
 //!   flushes, releases, checkpoints, kills, restarts and notices.
 //! - `find_tenant`: whose picture to draw.
 //! - `why_waits`: for what a letter has to wait, which the same replay tells.
+//! - `Situation`: how each unit stands, and what its held outputs wait for, by the same replay.
 //! - `Window`: which columns of it. Each event that changed something has a column of its own, in
 //!   the order of the tenant's history, so that time goes from left to right.
 //!
@@ -24,10 +25,12 @@ mod page;
 mod picture;
 mod recovery;
 mod replay;
+mod situation;
 mod style;
 mod untold;
 mod window;
 
 pub use page::{draw, find_tenant};
+pub use situation::{Awaited, Held, Situation, Standing};
 pub use untold::{Untold, why_waits};
 pub use window::Window;

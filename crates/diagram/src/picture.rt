@@ -127,8 +127,16 @@ impl<'a> Picture<'a> {
         true
     }
 
+    /// Whether the unit's interval of this mark is on its path.
+    pub(crate) fn is_on_path(&self, unit: Unit, mark: Mark) -> bool {
+        match self.lane(unit) {
+            Some(lane) => self.is_at(lane, mark.index as usize, mark),
+            None => false,
+        }
+    }
+
     /// Whether the unit's interval of this mark is on its path, and logged.
-    fn is_stable(&self, unit: usize, mark: Mark) -> bool {
+    pub(crate) fn is_stable(&self, unit: usize, mark: Mark) -> bool {
         let Some(lane) = self.lanes.get(unit) else {
             return false;
         };

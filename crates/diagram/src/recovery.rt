@@ -87,6 +87,9 @@ impl<'a> Picture<'a> {
                 downtime.end = Some(end);
             }
         }
+        if let Some(lane) = self.lane_mut(unit) {
+            lane.down = None;
+        }
         self.roll_back(unit, Event::Restart { row }, row)
     }
 

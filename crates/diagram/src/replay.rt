@@ -23,6 +23,8 @@ struct Replay<'h, 'a, H: Handler> {
     handler: &'h H,
     /// The state at each interval.
     states: Vec<H::State>,
+    /// How many entries the history has before the present one.
+    entry: usize,
     picture: Picture<'a>,
 }
 
@@ -37,12 +39,14 @@ pub(crate) fn picture_of<'a, H: Handler>(
         alloc,
         handler,
         states: Vec::new(alloc),
+        entry: 0,
         picture: Picture::new(alloc),
     };
     for entry in history {
         if *tenant == *entry.step.tenant() {
             replay.enter(entry)?;
         }
+        replay.entry = replay.entry.saturating_add(1);
     }
     let Replay { mut picture, .. } = replay;
     mark_received(&mut picture);
@@ -260,6 +264,7 @@ impl<'h, 'a, H: Handler> Replay<'h, 'a, H> {
             unit,
             mark,
             column,
+            entry: self.entry,
             cause,
             vector,
             outputs,

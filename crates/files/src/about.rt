@@ -8,6 +8,7 @@ use std::io::{ErrorKind, Write};
 use std::os::unix::fs::OpenOptionsExt;
 use std::time::{Clock, SystemTime, UNIX_EPOCH};
 use std::{fmt, fs, io};
+use terminal::Plural;
 
 /// What is added to the journal's name.
 const SUFFIX: &str = ".about";
@@ -26,9 +27,9 @@ pub struct Owner<'a> {
     pub handler_version: &'a str,
 }
 
-/// What the page beside a journal says. A page that says less says nothing of that.
+/// What a page says of a program and its handler. A page that says less says nothing of that.
 #[derive(Debug, Drop)]
-pub struct About {
+pub struct Maker {
     version: Option<String>,
     handler: Option<String>,
     handler_version: Option<String>,
@@ -42,8 +43,8 @@ fn text_in(text: &Option<String>) -> Option<&str> {
     }
 }
 
-impl About {
-    /// The version of the program that made the journal.
+impl Maker {
+    /// The version of the program.
     pub fn version(&self) -> Option<&str> {
         text_in(&self.version)
     }
@@ -58,10 +59,38 @@ impl About {
         text_in(&self.handler_version)
     }
 
+    /// What a value says.
+    fn of(alloc: Global, value: &Value) -> Result<Maker, AllocError> {
+        Ok(Maker {
+            version: text_of(alloc, value, "recall")?,
+            handler: text_of(alloc, value, "handler")?,
+            handler_version: text_of(alloc, value, "handler_version")?,
+        })
+    }
+}
+
+/// A program and its handler that had the journal before another.
+#[derive(Debug, Drop)]
+pub struct Earlier {
+    pub maker: Maker,
+    /// How many lines the journal had when the next began.
+    pub lines: u64,
+}
+
+/// What the page beside a journal says.
+#[derive(Debug, Drop)]
+pub struct About {
+    /// Whose the journal is.
+    pub maker: Maker,
+    /// Whose it was before, in order.
+    pub earlier: Vec<Earlier>,
+}
+
+impl About {
     /// Whether it is of this handler, in this version.
     pub fn is_of(&self, owner: &Owner<'_>) -> bool {
-        self.handler() == Some(owner.handler)
-            && self.handler_version() == Some(owner.handler_version)
+        self.maker.handler() == Some(owner.handler)
+            && self.maker.handler_version() == Some(owner.handler_version)
     }
 
     /// The page beside a journal, if there is one.
@@ -90,14 +119,34 @@ impl About {
     /// What a value says.
     fn of(alloc: Global, value: &Value) -> Result<About, AllocError> {
         Ok(About {
-            version: text_of(alloc, value, "recall")?,
-            handler: text_of(alloc, value, "handler")?,
-            handler_version: text_of(alloc, value, "handler_version")?,
+            maker: Maker::of(alloc, value)?,
+            earlier: earlier_in(alloc, value)?,
         })
+    }
+
+    /// What is said of the journal once another has it, from behind so many lines on: those that had it before.
+    pub(crate) fn ended(self, lines: u64) -> Result<Vec<Earlier>, AllocError> {
+        let About { maker, mut earlier } = self;
+        earlier.push(Earlier { maker, lines })?;
+        Ok(earlier)
     }
 }
 
-impl Display for About {
+/// Whose a value says that the journal was before.
+fn earlier_in(alloc: Global, value: &Value) -> Result<Vec<Earlier>, AllocError> {
+    let mut found = Vec::new(alloc);
+    if let Some(values) = value.get("earlier").and_then(Value::as_array) {
+        for value in values {
+            found.push(Earlier {
+                maker: Maker::of(alloc, value)?,
+                lines: value.get("lines").and_then(Value::as_u64).unwrap_or(0),
+            })?;
+        }
+    }
+    Ok(found)
+}
+
+impl Display for Maker {
     fn fmt<W: fmt::Write>(&self, out: &mut Formatter<W>) -> fmt::Result {
         write!(
             out,
@@ -105,6 +154,17 @@ impl Display for About {
             self.handler().unwrap_or("?"),
             self.handler_version().unwrap_or("?")
         )
+    }
+}
+
+impl Display for About {
+    fn fmt<W: fmt::Write>(&self, out: &mut Formatter<W>) -> fmt::Result {
+        write!(out, "{}", self.maker)?;
+        for earlier in &self.earlier {
+            let lines = Plural(earlier.lines, "line");
+            write!(out, "; its first {lines} are of {}", earlier.maker)?;
+        }
+        Ok(())
     }
 }
 
@@ -135,8 +195,9 @@ pub(crate) fn write_about<R: Files<File = File> + Clock>(
     alloc: Global,
     journal: &str,
     owner: &Owner<'_>,
+    earlier: &[Earlier],
 ) -> io::Result<()> {
-    let text = page(alloc, owner, now(rt))?;
+    let text = page(alloc, owner, earlier, now(rt))?;
     let path = path_of(alloc, journal)?;
     let new = format!(in alloc; "{}{NEW}", path.as_str())?;
     // A name left by an earlier run, or put there by somebody else, is no file of ours: it goes, and isn't followed.
@@ -149,17 +210,57 @@ pub(crate) fn write_about<R: Files<File = File> + Clock>(
     fs::rename(rt, new.as_str(), path.as_str())
 }
 
-/// The text of the page.
-fn page(alloc: Global, owner: &Owner<'_>, when: u64) -> Result<String, AllocError> {
-    let value = json!(in alloc; {
+/// The text of the page. It says nothing of those before where there were none.
+fn page(
+    alloc: Global,
+    owner: &Owner<'_>,
+    earlier: &[Earlier],
+    when: u64,
+) -> Result<String, AllocError> {
+    let mut value = json!(in alloc; {
         "handler": owner.handler,
         "handler_version": owner.handler_version,
         "recall": owner.version,
         "when": when,
     })?;
+    if !earlier.is_empty() {
+        if let Some(members) = value.as_object_mut() {
+            members.insert(
+                String::from_str(alloc, "earlier")?,
+                earlier_value(alloc, earlier)?,
+            )?;
+        }
+    }
     let mut text = value.to_string(alloc)?;
     text.push('\n')?;
     Ok(text)
+}
+
+/// Those that had the journal before.
+pub(crate) fn earlier_value(alloc: Global, earlier: &[Earlier]) -> Result<Value, AllocError> {
+    let mut values = Vec::new(alloc);
+    for each in earlier {
+        let maker = &each.maker;
+        let handler = text_or_null(alloc, maker.handler())?;
+        let handler_version = text_or_null(alloc, maker.handler_version())?;
+        let version = text_or_null(alloc, maker.version())?;
+        let value = json!(in alloc; {
+            "handler": handler,
+            "handler_version": handler_version,
+            "lines": each.lines,
+            "recall": version,
+        })?;
+        values.push(value)?;
+    }
+    Ok(Value::Array(values))
+}
+
+/// A text, or null where there is none.
+pub(crate) fn text_or_null(alloc: Global, text: Option<&str>) -> Result<Value, AllocError> {
+    match text {
+        Some(text) => Ok(Value::String(String::from_str(alloc, text)?)),
+        None => Ok(Value::Null),
+    }
 }
 
 /// The seconds since 1970, or 0 where the clock can't be read.

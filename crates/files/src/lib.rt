@@ -3,7 +3,7 @@
 //! - `fill_descriptors`: the descriptors of the standard streams are taken before any file is opened;
 //! - `open_journal` (`opening`): the file of `run --journal`, found fit, locked, cut to whole lines and synced;
 //! - `LastingFile` (`lasting`): that file as lines are appended to it, which is cut back where that fails;
-//! - `About`: the page beside a journal, which tells whose it is;
+//! - `About`: the page beside a journal, which tells whose it is and was; `Takeover`: whether another may go on with it;
 //! - `Told` (`telling`): how many lines and bytes a journal has;
 //! - `make_log` (`log_file`): the file of `run --log`, and `LogFile`, which tells that it fails;
 //! - `Fitness` (`fitness`): why a file must not be written to.
@@ -22,10 +22,10 @@ mod place;
 mod tail;
 mod telling;
 
-pub use about::{About, Owner};
+pub use about::{About, Earlier, Maker, Owner};
 pub use descriptors::fill_descriptors;
 pub use fitness::{Unfit, why_unfit};
 pub use lasting::{LastingFile, Standing};
 pub use log_file::{LogFile, make_log};
-pub use opening::{JournalFile, open_journal};
-pub use telling::{Told, tell_journal};
+pub use opening::{JournalFile, Takeover, open_journal};
+pub use telling::{Told, read_journal, tell_journal};

@@ -24,12 +24,32 @@ pub struct JournalFile<'a, R> {
     pub extent: Extent,
 }
 
+/// Which journals a run takes besides those that are known to be of its program and handler.
+#[derive(Clone, Copy, Debug)]
+pub struct Takeover {
+    /// One of which nothing tells whose it is.
+    pub adopt: bool,
+    /// One of another handler, or of another version of its own.
+    pub accept_upgrade: bool,
+}
+
+/// Whose a journal is.
+#[derive(Drop)]
+enum Ownership {
+    /// It is of this program's handler.
+    Own,
+    /// It is new, or adopted.
+    New,
+    /// It is of another handler, with which this one goes on.
+    Upgraded(About),
+}
+
 /// Opens the journal, or makes it, with mode 0600, and its page beside it. A last line that isn't whole is cut off, and
 /// what a crash of the machine left of it. How many lines there are is told, where there are some or one was cut off.
 ///
 /// Where that fails it is told, and the status to end with is given: 2 where `from` is past the last line, and then nothing
 /// is changed; 1 where another run has the journal, where the file is unfit or not known to be a journal of this program
-/// and its handler, and isn't to be `adopt`ed, or where it can't be opened, read, cut or synced.
+/// and its handler, and isn't to be taken over, or where it can't be opened, read, cut or synced.
 pub fn open_journal<'a, R: Files<File = File> + Clock, L: Log>(
     rt: &'a R,
     told: &L,
@@ -37,22 +57,20 @@ pub fn open_journal<'a, R: Files<File = File> + Clock, L: Log>(
     path: &'a str,
     owner: &Owner<'_>,
     from: Option<u64>,
-    adopt: bool,
+    takeover: Takeover,
 ) -> Result<JournalFile<'a, R>, u8> {
     let file = open_fit(rt, told, path)?;
     lock(rt, told, path, &file)?;
     let length = length_of(told, path, &file)?;
-    let is_known = is_known(rt, told, alloc, path, owner, length, adopt)?;
+    let ownership = owned_by(rt, told, alloc, path, owner, length, takeover)?;
     let extent = measured(told, alloc, path, &file, length, from)?;
     if let Err(error) = make_whole(alloc, &file, length, &extent) {
         error!(told; "can't cut, write or sync the journal {path:?}: {error}");
         return Err(1);
     }
-    if !is_known {
-        if let Err(error) = write_about(rt, alloc, path, owner) {
-            error!(told; "can't write the page beside the journal {path:?}: {error}");
-            return Err(1);
-        }
+    if let Err(error) = make_page(rt, alloc, path, owner, ownership, extent.lines) {
+        error!(told; "can't write the page beside the journal {path:?}: {error}");
+        return Err(1);
     }
     if sync_folder(rt, path).is_err() {
         warn!(told; "the folder of the journal {path:?} can't be synced: a crash of the machine may lose a new journal");
@@ -149,28 +167,30 @@ fn cannot_read<L: Log>(told: &L, path: &str, error: &io::Error) -> u8 {
     1
 }
 
-/// Whether the page beside the journal says that it is of this program and its handler. Where it doesn't, a journal that
-/// has bytes is refused, but for one that is to be adopted.
-fn is_known<R: Files<File = File>, L: Log>(
+/// Whose the journal is by the page beside it. One that has bytes and isn't this program's is refused, but for what is to be
+/// taken over.
+fn owned_by<R: Files<File = File>, L: Log>(
     rt: &R,
     told: &L,
     alloc: Global,
     path: &str,
     owner: &Owner<'_>,
     length: u64,
-    adopt: bool,
-) -> Result<bool, u8> {
-    if length == 0 || adopt {
-        return Ok(false);
+    takeover: Takeover,
+) -> Result<Ownership, u8> {
+    if length == 0 {
+        return Ok(Ownership::New);
     }
     match About::read(rt, alloc, path) {
-        Ok(Some(about)) if about.is_of(owner) => Ok(true),
+        Ok(Some(about)) if about.is_of(owner) => Ok(Ownership::Own),
+        Ok(Some(about)) if takeover.accept_upgrade => Ok(Ownership::Upgraded(about)),
         Ok(Some(about)) => {
             let own = owner.handler;
             let version = owner.handler_version;
-            error!(told; "the journal {path:?} is of {about}, and this program has handler {own:?}, version {version:?}: its replies may differ; --adopt takes it over");
+            error!(told; "the journal {path:?} is of {}, and this program has handler {own:?}, version {version:?}: its replies may differ; --accept-upgrade goes on with it", about.maker);
             Err(1)
         }
+        Ok(None) | Err(_) if takeover.adopt => Ok(Ownership::New),
         Ok(None) => {
             error!(told; "{path:?} is not known to be a journal: it has {}, and no page {path:?}.about beside it; --adopt takes it over", Plural(length, "byte"));
             Err(1)
@@ -178,6 +198,25 @@ fn is_known<R: Files<File = File>, L: Log>(
         Err(error) => {
             error!(told; "can't read the page beside the journal {path:?}: {error}; --adopt takes it over");
             Err(1)
+        }
+    }
+}
+
+/// Writes the page beside a journal of so many lines, but where it says whose the journal is.
+fn make_page<R: Files<File = File> + Clock>(
+    rt: &R,
+    alloc: Global,
+    path: &str,
+    owner: &Owner<'_>,
+    ownership: Ownership,
+    lines: u64,
+) -> io::Result<()> {
+    match ownership {
+        Ownership::Own => Ok(()),
+        Ownership::New => write_about(rt, alloc, path, owner, &[]),
+        Ownership::Upgraded(about) => {
+            let earlier = about.ended(lines)?;
+            write_about(rt, alloc, path, owner, earlier.as_slice())
         }
     }
 }

@@ -1,13 +1,13 @@
 //! What a journal has, told at any time.
 
-use crate::about::About;
+use crate::about::{About, Maker, earlier_value, text_or_null};
 use crate::tail::trusted_length;
-use durable::{Extent, measure};
+use durable::measure;
 use serde_json::{Value, json};
 use std::alloc::{AllocError, Global};
 use std::fmt::{Display, Formatter};
 use std::fs::{File, Files};
-use std::io::{BufReader, Read};
+use std::io::{BufReader, Read, Seek, SeekFrom, Take};
 use std::{fmt, io};
 use terminal::{BLOCK, Plural};
 
@@ -30,28 +30,51 @@ pub struct Told {
 ///
 /// That of the system, where the file or the page beside it can't be read.
 pub fn tell_journal<R: Files<File = File>>(rt: &R, alloc: Global, path: &str) -> io::Result<Told> {
-    let file = File::open(rt, path)?;
+    let (told, _) = read_journal(rt, alloc, path)?;
+    Ok(told)
+}
+
+/// The same, and a reader of its whole lines. The file isn't locked, and nothing is written to it.
+///
+/// # Errors
+///
+/// That of the system, where the file or the page beside it can't be read.
+pub fn read_journal<R: Files<File = File>>(
+    rt: &R,
+    alloc: Global,
+    path: &str,
+) -> io::Result<(Told, Take<File>)> {
+    let mut file = File::open(rt, path)?;
     let length = file.metadata()?.len();
     let trusted = trusted_length(alloc, &file, length)?;
-    let mut reader = BufReader::with_capacity(alloc, BLOCK, file.take(trusted))?;
-    let Extent { lines, whole, .. } = measure(&mut reader, 0)?;
-    Ok(Told {
-        lines,
-        bytes: whole,
-        torn: length.saturating_sub(whole),
+    let whole = {
+        let mut reader = BufReader::with_capacity(alloc, BLOCK, (&file).take(trusted))?;
+        measure(&mut reader, 0)?
+    };
+    file.seek(SeekFrom::Start(0))?;
+    let told = Told {
+        lines: whole.lines,
+        bytes: whole.whole,
+        torn: length.saturating_sub(whole.whole),
         about: About::read(rt, alloc, path)?,
-    })
+    };
+    Ok((told, file.take(whole.whole)))
 }
 
 impl Told {
     /// The object that says it.
     pub fn to_json(&self, alloc: Global) -> Result<String, AllocError> {
-        let about = self.about.as_ref();
-        let version = value_of(alloc, about.and_then(About::version))?;
-        let handler = value_of(alloc, about.and_then(About::handler))?;
-        let handler_version = value_of(alloc, about.and_then(About::handler_version))?;
+        let maker = self.about.as_ref().map(|about| &about.maker);
+        let version = text_or_null(alloc, maker.and_then(Maker::version))?;
+        let handler = text_or_null(alloc, maker.and_then(Maker::handler))?;
+        let handler_version = text_or_null(alloc, maker.and_then(Maker::handler_version))?;
+        let earlier = match &self.about {
+            Some(about) => earlier_value(alloc, about.earlier.as_slice())?,
+            None => Value::Array(Vec::new(alloc)),
+        };
         let value = json!(in alloc; {
             "bytes": self.bytes,
+            "earlier": earlier,
             "handler": handler,
             "handler_version": handler_version,
             "lines": self.lines,
@@ -59,14 +82,6 @@ impl Told {
             "torn": self.torn,
         })?;
         value.to_string(alloc)
-    }
-}
-
-/// A text, or null where there is none.
-fn value_of(alloc: Global, text: Option<&str>) -> Result<Value, AllocError> {
-    match text {
-        Some(text) => Ok(Value::String(String::from_str(alloc, text)?)),
-        None => Ok(Value::Null),
     }
 }
 

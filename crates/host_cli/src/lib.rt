@@ -3,7 +3,7 @@
 //! - `run_program` (`program_run`): reads the words and does what they ask for; `run_either`: so with a second handler;
 //! - `journals`: `journal`, thin over `files`.
 //!
-//! `run`, `feeds`, `draw` and `load` stand in `runs`, `feed_runs`, `drawings` and `images`.
+//! `run`, `feeds`, `draw`, `why`, `status` and `load` stand in `runs`, `feed_runs`, `drawings`, `views` and `images`.
 //!
 //! For whoever has a handler and wants a program. A caller:
 //!

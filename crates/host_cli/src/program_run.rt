@@ -3,10 +3,10 @@
 use crate::journals::journal_as_asked;
 use drawings::draw_on;
 use feed_runs::feeds_on;
-use files::{LogFile, Owner, fill_descriptors, make_log, open_journal};
+use files::{LogFile, Owner, Takeover, fill_descriptors, make_log, open_journal};
 use handler::Handler;
 use images::load_on;
-use log::{LevelFilter, Log, Logged, error, warn};
+use log::{LevelFilter, Log, Logged, error, info, warn};
 use runs::{Hosted, run_journaled, run_on};
 use shared_log::MemoryStore;
 use stable_log::WriterStore;
@@ -16,7 +16,8 @@ use std::io::{self, ErrorKind, Input};
 use std::sync::Wait;
 use std::thread::Threads;
 use std::time::Clock;
-use terminal::{Bar, Diagnostics, Patient, Watched, input_size};
+use terminal::{Bar, Diagnostics, Patient, Plural, Progress, Watched, input_size};
+use views::{status_on, why_on};
 use words::{Asked, FeedsWords, Pages, Program, RunWords, Verbosity, read_words};
 
 /// Which standard streams are terminals.
@@ -101,6 +102,20 @@ pub fn run_either<
                 draw_on(rt, &told, handler, &draw)
             }
         }
+        Asked::Why(why) => {
+            if why.view.programs {
+                why_on(rt, &told, programs, &why)
+            } else {
+                why_on(rt, &told, handler, &why)
+            }
+        }
+        Asked::Status(status) => {
+            if status.view.programs {
+                status_on(rt, &told, programs, &status)
+            } else {
+                status_on(rt, &told, handler, &status)
+            }
+        }
         Asked::Load(load) => load_on(rt, &told, &load),
         Asked::Journal(journal) => journal_as_asked(rt, &told, rt.alloc(), &journal),
         Asked::Ended(status) => status,
@@ -141,7 +156,14 @@ fn run_as_asked<
         ..*asked
     };
     let work = if shows { input_size(rt) } else { None };
-    let bar = Bar::new(rt, work);
+    let bar = Bar::new(
+        rt,
+        Progress {
+            work,
+            report: run.report,
+            counts: run.verbosity == Verbosity::Verbose,
+        },
+    );
     let diagnostics = Diagnostics {
         rt,
         name: program.name,
@@ -159,6 +181,9 @@ fn run_as_asked<
     };
     let status = run_watched(rt, &told, host, program, &run, &bar);
     bar.clear();
+    let pace = bar.pace_so_far();
+    let (lines, rate) = (Plural(pace.lines, "line"), Plural(pace.rate(), "line"));
+    info!(&told; "read {lines} in {} ms, {rate} a second", pace.millis);
     status
 }
 
@@ -186,7 +211,11 @@ fn run_watched<
         } else {
             run.from
         };
-        return match open_journal(rt, told, alloc, path, &owner, from, run.adopt) {
+        let takeover = Takeover {
+            adopt: run.adopt,
+            accept_upgrade: run.accept_upgrade,
+        };
+        return match open_journal(rt, told, alloc, path, &owner, from, takeover) {
             Ok(journal) => run_journaled(told, alloc, host, input, output, journal, run),
             Err(status) => status,
         };

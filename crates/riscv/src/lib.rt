@@ -41,6 +41,7 @@
 mod accesses;
 mod apart;
 mod arithmetic;
+mod body;
 mod computing;
 mod fault;
 mod hart;

@@ -1,16 +1,16 @@
 //! `run --explain` and `drive --explain`: lines are answered one by one, and each refusal is told with its reason, and each
-//! letter that waits.
+//! letter that waits, and what a release left behind.
 
 use crate::hosted::Hosted;
 use crate::waits::tell_news;
 use book::Book;
-use diagram::{Untold, why_waits};
+use diagram::{Situation, Untold, why_waits};
 use driver::{Driver, drive};
 use handler::Handler;
 use lines::{Counted, ServeFault, read_step, serve};
 use log::{Log, warn};
-use model::{Entry, Letter, MAX_LINE_BYTES, NoMemory, Row, Step, TenantName};
-use reasons::{reason, refusal_in, wait_reason};
+use model::{Entry, Letter, MAX_LINE_BYTES, NoMemory, Row, Step, TenantName, Unit};
+use reasons::{left_behind, reason, refusal_in, wait_reason};
 use shared_log::Store;
 use std::alloc::Global;
 use std::io::{BufRead, ErrorKind, Read, Write};
@@ -18,6 +18,12 @@ use std::{io, str};
 
 /// A line that is no longer than it may be, with its line feed.
 const WHOLE_LINE: u64 = MAX_LINE_BYTES as u64 + 1;
+
+/// How many entries of the history may be followed for a line, and for all lines together besides, to tell what a release
+/// left behind: so that takes no longer than the lines do.
+const FOLLOWED: u64 = 4;
+
+const FOLLOWED_BESIDES: u64 = 1_000_000;
 
 /// Answers each line as `serve` answers it, or as `drive` does where there is a driver, and tells for each that was refused its number, why, and what would help.
 /// Each reply is out before its reason, and before the next line is read. `before` lines came before the first. Tells how
@@ -33,11 +39,13 @@ pub(crate) fn serve_explained<L: Log, R: BufRead, W: Write, H: Handler, S: Store
     before: u64,
 ) -> Result<u64, ServeFault> {
     let mut line = Vec::new(alloc);
+    let mut left = FOLLOWED_BESIDES;
     for count in 1..u64::MAX {
         line.clear();
         if !read_line(alloc, reader, &mut line)? {
             return Ok(count - 1);
         }
+        left = left.saturating_add(FOLLOWED);
         let reply = reply_to(alloc, line.as_slice(), book, driver)?;
         put(writer, reply.as_slice())?;
         let number = before.saturating_add(count);
@@ -49,6 +57,15 @@ pub(crate) fn serve_explained<L: Log, R: BufRead, W: Write, H: Handler, S: Store
             number,
             line.as_slice(),
             reply.as_slice(),
+        );
+        explain_release(
+            told,
+            alloc,
+            hosted,
+            book,
+            number,
+            line.as_slice(),
+            &mut left,
         );
         if let Some(driver) = driver {
             tell_news(told, alloc, driver, line.as_slice());
@@ -195,6 +212,59 @@ fn waits_for<H: Handler, S: Store>(
         &tenant,
         letter,
     )
+}
+
+/// Tells what the first output waits for that a release left behind, as long as so many entries are left to follow.
+fn explain_release<L: Log, H: Handler, S: Store>(
+    told: &L,
+    alloc: Global,
+    hosted: &Hosted<'_, H>,
+    book: &Book<H, S>,
+    number: u64,
+    line: &[u8],
+    left: &mut u64,
+) {
+    let history = history_of(book);
+    let Some((tenant, unit)) = releasing(alloc, line) else {
+        return;
+    };
+    let Some(rest) = left.checked_sub(history.len() as u64) else {
+        return;
+    };
+    *left = rest;
+    if let Ok(Some(reason)) = reason_left(alloc, hosted, history, &tenant, unit) {
+        warn!(told; "line {number}: {reason}");
+    }
+}
+
+/// What the first output waits for that the unit holds.
+fn reason_left<H: Handler>(
+    alloc: Global,
+    hosted: &Hosted<'_, H>,
+    history: &[Entry],
+    tenant: &TenantName,
+    unit: Unit,
+) -> Result<Option<String>, NoMemory> {
+    let situation = Situation::of(alloc, &hosted.handler, history, tenant)?;
+    if !situation.is_up(unit) {
+        return Ok(None);
+    }
+    left_behind(alloc, &situation, unit)
+}
+
+/// Whose outputs a line releases.
+fn releasing(alloc: Global, line: &[u8]) -> Option<(TenantName, Unit)> {
+    match read_step(alloc, line) {
+        Ok(step) => released_by(&step),
+        Err(_) => None,
+    }
+}
+
+fn released_by(step: &Step) -> Option<(TenantName, Unit)> {
+    match step {
+        Step::Release { tenant, unit } => Some((tenant.copy(), *unit)),
+        _ => None,
+    }
 }
 
 /// The letter that a line delivers.

@@ -26,54 +26,104 @@ pub fn input_size<R: Files>(rt: &R) -> Option<u64> {
     }
 }
 
+/// What is told of how far a run is.
+#[derive(Clone, Copy, Debug)]
+pub struct Progress {
+    /// The work, in bytes or in steps, where a bar is drawn.
+    pub work: Option<u64>,
+    /// After how many seconds each a line is written, where any is.
+    pub report: Option<u64>,
+    /// Whether bytes and lines are counted whatever is drawn or written.
+    pub counts: bool,
+}
+
 /// How far a run is. Nothing is drawn where the work isn't known, as where none is wanted.
 #[derive(Drop)]
 pub struct Bar<'a, R> {
     rt: &'a R,
-    /// The work, in bytes or in steps.
-    work: Option<u64>,
+    told: Progress,
     begun: Option<Instant>,
     done: AtomicU64,
     lines: AtomicU64,
     /// After how many milliseconds it was drawn last; 0 where it wasn't.
     drawn: AtomicU64,
+    /// After how many milliseconds a line was written last.
+    reported: AtomicU64,
 }
 
 impl<'a, R: Eprint + Clock> Bar<'a, R> {
-    /// A bar for so much work.
-    pub fn new(rt: &'a R, work: Option<u64>) -> Bar<'a, R> {
+    /// A bar, and lines.
+    pub fn new(rt: &'a R, told: Progress) -> Bar<'a, R> {
         Bar {
             rt,
-            work,
+            told,
             begun: Instant::now(rt).ok(),
             done: AtomicU64::new(0),
             lines: AtomicU64::new(0),
             drawn: AtomicU64::new(0),
+            reported: AtomicU64::new(0),
         }
     }
 
-    /// Whether it is drawn at all.
+    /// Whether anything is told or counted.
     fn is_wanted(&self) -> bool {
-        self.work.is_some()
+        self.told.work.is_some() || self.told.report.is_some() || self.told.counts
     }
 
     /// So much more is done, and so many lines with it.
     pub fn go_on(&self, done: u64, lines: u64) {
-        let Some(work) = self.work else {
+        if !self.is_wanted() {
+            return;
+        }
+        add(&self.done, done);
+        add(&self.lines, lines);
+        let now = self.millis();
+        self.draw(now);
+        self.report(now);
+    }
+
+    /// Draws it, where it is drawn and was not just before.
+    fn draw(&self, now: u64) {
+        let Some(work) = self.told.work else {
             return;
         };
-        let done = add(&self.done, done);
-        let lines = add(&self.lines, lines);
-        let now = self.millis();
         if now.saturating_sub(self.drawn.load(Ordering::SeqCst)) >= PAUSE {
             self.drawn.store(now, Ordering::SeqCst);
             let reached = Reached {
                 work,
-                done,
-                lines,
-                millis: now,
+                done: self.done.load(Ordering::SeqCst),
+                pace: self.pace(now),
             };
             let _ = eprint!(self.rt; "{CLEAR}{reached}");
+        }
+    }
+
+    /// Writes a line, where it is time.
+    fn report(&self, now: u64) {
+        let Some(seconds) = self.told.report else {
+            return;
+        };
+        let pause = seconds.saturating_mul(1000);
+        if now.saturating_sub(self.reported.load(Ordering::SeqCst)) >= pause {
+            self.reported.store(now, Ordering::SeqCst);
+            self.clear();
+            let _ = eprintln!(self.rt;
+                "progress {} bytes={}",
+                Words(self.pace(now)),
+                self.done.load(Ordering::SeqCst)
+            );
+        }
+    }
+
+    /// How many lines there were, and in what time.
+    pub fn pace_so_far(&self) -> Pace {
+        self.pace(self.millis())
+    }
+
+    fn pace(&self, millis: u64) -> Pace {
+        Pace {
+            lines: self.lines.load(Ordering::SeqCst),
+            millis,
         }
     }
 
@@ -111,18 +161,47 @@ fn line_feeds(bytes: &[u8]) -> u64 {
     bytes.iter().filter(|byte| **byte == b'\n').count() as u64
 }
 
-/// What a bar shows.
+/// How many lines there were in how many milliseconds.
 #[derive(Clone, Copy, Debug)]
-struct Reached {
-    work: u64,
-    done: u64,
-    lines: u64,
-    millis: u64,
+pub struct Pace {
+    pub lines: u64,
+    pub millis: u64,
 }
 
 /// A part of a whole; 0 of nothing.
 fn part(number: u64, of: u64) -> u64 {
     if of == 0 { 0 } else { number / of }
+}
+
+impl Pace {
+    /// How many lines a second.
+    pub fn rate(&self) -> u64 {
+        part(self.lines.saturating_mul(1000), self.millis)
+    }
+}
+
+/// A pace as `key=value` words.
+#[derive(Clone, Copy, Debug)]
+struct Words(Pace);
+
+impl Display for Words {
+    fn fmt<W: fmt::Write>(&self, out: &mut Formatter<W>) -> fmt::Result {
+        let Words(pace) = *self;
+        let (seconds, rate) = (pace.millis / 1000, pace.rate());
+        write!(
+            out,
+            "seconds={seconds} lines={} lines_per_second={rate}",
+            pace.lines
+        )
+    }
+}
+
+/// What a bar shows.
+#[derive(Clone, Copy, Debug)]
+struct Reached {
+    work: u64,
+    done: u64,
+    pace: Pace,
 }
 
 impl Reached {
@@ -131,15 +210,10 @@ impl Reached {
         part(self.done.saturating_mul(CELLS), self.work).min(CELLS)
     }
 
-    /// How many lines a second.
-    fn rate(&self) -> u64 {
-        part(self.lines.saturating_mul(1000), self.millis)
-    }
-
     /// How many seconds are left, if it goes on so.
     fn seconds_left(&self) -> u64 {
         let left = self.work.saturating_sub(self.done);
-        part(self.millis.saturating_mul(left), self.done) / 1000
+        part(self.pace.millis.saturating_mul(left), self.done) / 1000
     }
 }
 
@@ -153,8 +227,8 @@ impl Display for Reached {
         write!(
             out,
             " {} lines, {} a second, {}:{:02} left",
-            self.lines,
-            self.rate(),
+            self.pace.lines,
+            self.pace.rate(),
             seconds / 60,
             seconds % 60
         )

@@ -1,7 +1,7 @@
 //! What a program tells people, and how it waits for its streams.
 //!
 //! - `Diagnostics`: what is logged goes to standard error, line by line;
-//! - `Bar` and `Watched` (`bar`): how far a run is, where standard error is a terminal;
+//! - `Bar` and `Watched` (`bar`): how far a run is, where standard error is a terminal, or line by line;
 //! - `Patient`: a stream that is non-blocking is waited for; `BLOCK`: how much of one is read or written at once;
 //! - `Plural`: a number with its noun.
 //!
@@ -17,7 +17,7 @@ mod diagnostics;
 mod patient;
 mod plural;
 
-pub use bar::{Bar, Watched, input_size};
+pub use bar::{Bar, Pace, Progress, Watched, input_size};
 pub use diagnostics::Diagnostics;
 pub use patient::{BLOCK, Patient};
 pub use plural::Plural;

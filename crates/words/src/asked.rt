@@ -13,6 +13,10 @@ pub enum Asked<'a> {
     Draw(DrawWords<'a>),
     /// `journal`.
     Journal(JournalWords<'a>),
+    /// `why`.
+    Why(WhyWords<'a>),
+    /// `status`.
+    Status(StatusWords<'a>),
     /// `load`.
     Load(LoadWords<'a>),
     /// Help was printed, or the words were bad: the status to end with.
@@ -38,8 +42,12 @@ pub struct RunWords<'a> {
     pub journal: Option<&'a str>,
     /// The line of the journal from which on replies are written; of `drive` the line of what the journal's lines give.
     pub from: Option<u64>,
-    /// Take over a journal that isn't known to be of this program and its handler.
+    /// Take over a journal of which nothing tells whose it is.
     pub adopt: bool,
+    /// Go on with a journal of another handler, or of another version of it.
+    pub accept_upgrade: bool,
+    /// After how many seconds each it is told how far the run is.
+    pub report: Option<u64>,
     /// How much is told.
     pub verbosity: Verbosity,
 }
@@ -75,6 +83,39 @@ pub struct DrawWords<'a> {
 pub struct JournalWords<'a> {
     /// The journal.
     pub file: &'a str,
+    /// Tell it as JSON.
+    pub json: bool,
+}
+
+/// Which lines `why` and `status` look at.
+#[derive(Clone, Copy, Debug)]
+pub struct ViewWords<'a> {
+    /// Carry on behind each line.
+    pub drives: bool,
+    /// Host programs, by the second handler.
+    pub programs: bool,
+    /// The journal that has the lines, or else the input.
+    pub journal: Option<&'a str>,
+}
+
+/// What `why` is to tell.
+#[derive(Clone, Copy, Debug)]
+pub struct WhyWords<'a> {
+    /// The lines.
+    pub view: ViewWords<'a>,
+    /// The tenant.
+    pub tenant: &'a str,
+    /// The number of the unit.
+    pub unit: u64,
+    /// Tell it as JSON.
+    pub json: bool,
+}
+
+/// What `status` is to tell.
+#[derive(Clone, Copy, Debug)]
+pub struct StatusWords<'a> {
+    /// The lines.
+    pub view: ViewWords<'a>,
     /// Tell it as JSON.
     pub json: bool,
 }

@@ -1,6 +1,9 @@
 //! The words, read with `clap`.
 
-use crate::asked::{Asked, DrawWords, FeedsWords, JournalWords, LoadWords, RunWords};
+use crate::asked::{
+    Asked, DrawWords, FeedsWords, JournalWords, LoadWords, RunWords, StatusWords, ViewWords,
+    WhyWords,
+};
 use crate::pages::Pages;
 use crate::verbosity::Verbosity;
 use clap::error::ErrorKind;
@@ -20,6 +23,9 @@ const STRICT: &str = "strict";
 
 /// The flag that takes over a journal.
 const ADOPT: &str = "adopt";
+
+/// The flag that goes on with a journal of another handler.
+const ACCEPT_UPGRADE: &str = "accept-upgrade";
 
 /// The flag that asks for JSON.
 const JSON: &str = "json";
@@ -51,6 +57,9 @@ const FROM: &str = "from";
 /// The option that has how many last columns.
 const LAST: &str = "last";
 
+/// The flag that has the lines driven.
+const DRIVE: &str = "drive";
+
 /// The flag that asks for the second handler.
 const PROGRAMS: &str = "programs";
 
@@ -62,6 +71,9 @@ const UNIT: &str = "unit";
 
 /// The option that has the number of a line from outside.
 const NUMBER: &str = "number";
+
+/// The option that has after how many seconds each progress is told.
+const REPORT: &str = "report";
 
 /// What `--from` asks of `run`.
 const RUN_FROM: &str = "Writes the replies to the lines of the journal from N on (from 0)";
@@ -201,8 +213,20 @@ fn adopt_flag<'a>(alloc: Global) -> Result<Arg<'a>, Error> {
         .long(ADOPT)
         .action(ArgAction::SetTrue)
         .requires_arg(JOURNAL)?
-        .help("Takes over a FILE that isn't known to be a journal of this program and its handler");
+        .help("Takes over a FILE that has bytes, and of which no page beside it tells whose it is");
     Ok(adopt)
+}
+
+/// The flag that goes on with a journal of another handler.
+fn accept_upgrade_flag<'a>(alloc: Global) -> Result<Arg<'a>, Error> {
+    let accept = Arg::new(alloc, ACCEPT_UPGRADE)
+        .long(ACCEPT_UPGRADE)
+        .action(ArgAction::SetTrue)
+        .requires_arg(JOURNAL)?
+        .help(
+            "Goes on with a FILE of another handler, or of another version of it, steps its lines by this one, and notes in FILE.about at which line that was",
+        );
+    Ok(accept)
 }
 
 /// The flag that asks for reasons.
@@ -213,6 +237,13 @@ fn explain_flag<'a>(alloc: Global) -> Arg<'a> {
         .help(
             "Writes to standard error why each line was refused, and what would help; always, where that is a terminal",
         )
+}
+
+/// The option that has after how many seconds each progress is told.
+fn report_option<'a>(alloc: Global) -> Arg<'a> {
+    whole_number(alloc, REPORT).help(
+        "Writes a line of key=value words to standard error each N seconds in which lines come, which tells how far the run is",
+    )
 }
 
 /// The flag that asks for another status where a line was refused.
@@ -269,8 +300,10 @@ fn with_running<'a>(
     command: Result<Command<'a>, Error>,
 ) -> Result<Command<'a>, Error> {
     let command = with(command, adopt_flag(alloc));
+    let command = with(command, accept_upgrade_flag(alloc));
     let command = with(command, Ok(explain_flag(alloc)));
     let command = with(command, Ok(strict_flag(alloc)));
+    let command = with(command, Ok(report_option(alloc)));
     with_common(alloc, with_programs(alloc, pages, command))
 }
 
@@ -290,11 +323,57 @@ fn journal_command<'a>(alloc: Global) -> Result<Command<'a>, Error> {
         "Tells how many lines and bytes a journal has, also while a run has it",
     );
     let file = Arg::new(alloc, FILE).required(true).help("The journal");
-    let json = Arg::new(alloc, JSON)
+    with(with(Ok(journal), Ok(file)), Ok(json_flag(alloc)))
+}
+
+/// The flag that asks for JSON.
+fn json_flag<'a>(alloc: Global) -> Arg<'a> {
+    Arg::new(alloc, JSON)
         .long(JSON)
         .action(ArgAction::SetTrue)
-        .help("Writes one JSON object");
-    with(with(Ok(journal), Ok(file)), Ok(json))
+        .help("Writes one JSON object a line")
+}
+
+/// The command `why`.
+fn why_command<'a>(alloc: Global, pages: &'a Pages) -> Result<Command<'a>, Error> {
+    let why = Command::new(alloc, "why").about(
+        "Tells of each output that a unit holds what it waits for, and which steps would let it go or lose it",
+    );
+    let tenant = Arg::new(alloc, TENANT)
+        .long(TENANT)
+        .value_name("NAME")
+        .required(true)
+        .help("The tenant");
+    let unit = whole_number(alloc, UNIT)
+        .required(true)
+        .help("The unit's number, from 0");
+    with_view(alloc, pages, with(with(Ok(why), Ok(tenant)), Ok(unit)))
+}
+
+/// The command `status`.
+fn status_command<'a>(alloc: Global, pages: &'a Pages) -> Result<Command<'a>, Error> {
+    let status = Command::new(alloc, "status").about(
+        "Tells how each unit stands, what is stuck longest first, also while a run has the journal",
+    );
+    with_view(alloc, pages, Ok(status))
+}
+
+/// The command with the words that tell which lines are looked at, and how that is told.
+fn with_view<'a>(
+    alloc: Global,
+    pages: &'a Pages,
+    command: Result<Command<'a>, Error>,
+) -> Result<Command<'a>, Error> {
+    let journal = Arg::new(alloc, JOURNAL)
+        .long(JOURNAL)
+        .value_name("FILE")
+        .help("Steps the lines that the journal FILE has; without it those of standard input");
+    let drive = Arg::new(alloc, DRIVE)
+        .long(DRIVE)
+        .action(ArgAction::SetTrue)
+        .help("Steps them as `drive` does; without it as `run`");
+    let command = with(with(command, Ok(journal)), Ok(drive));
+    with_programs(alloc, pages, with(command, Ok(json_flag(alloc))))
 }
 
 /// The command `feeds`.
@@ -434,6 +513,8 @@ fn running_words<'a>(pages: &Pages, run: &ArgMatches<'a>, drives: bool) -> RunWo
         journal: run.get_str(JOURNAL),
         from: run.get_one::<u64>(FROM),
         adopt: run.get_flag(ADOPT),
+        accept_upgrade: run.get_flag(ACCEPT_UPGRADE),
+        report: run.get_one::<u64>(REPORT),
         verbosity: verbosity_of(run),
     }
 }
@@ -452,6 +533,8 @@ fn command_of<'a>(alloc: Global, pages: &'a Pages) -> Result<Command<'a>, Error>
     let command = with_command(command, feeds_command(alloc, pages));
     let command = with_command(command, draw_command(alloc, pages));
     let command = with_command(command, journal_command(alloc));
+    let command = with_command(command, status_command(alloc, pages));
+    let command = with_command(command, why_command(alloc, pages));
     if pages.has_programs {
         with_command(command, load_command(alloc))
     } else {
@@ -493,6 +576,15 @@ fn asked_by<'a>(
     if let Some(journal) = matches.subcommand_matches("journal") {
         return Ok(Asked::Journal(journal_words(journal)));
     }
+    if let Some(status) = matches.subcommand_matches("status") {
+        return Ok(Asked::Status(StatusWords {
+            view: view_words(pages, status),
+            json: status.get_flag(JSON),
+        }));
+    }
+    if let Some(why) = matches.subcommand_matches("why") {
+        return Ok(Asked::Why(why_words(pages, why)));
+    }
     if let Some(load) = matches.subcommand_matches("load") {
         return Ok(Asked::Load(load_words(load)));
     }
@@ -518,6 +610,25 @@ fn journal_words<'a>(journal: &ArgMatches<'a>) -> JournalWords<'a> {
     JournalWords {
         file: journal.get_str(FILE).unwrap_or(""),
         json: journal.get_flag(JSON),
+    }
+}
+
+/// What `why` is to tell.
+fn why_words<'a>(pages: &Pages, why: &ArgMatches<'a>) -> WhyWords<'a> {
+    WhyWords {
+        view: view_words(pages, why),
+        tenant: why.get_str(TENANT).unwrap_or(""),
+        unit: why.get_one::<u64>(UNIT).unwrap_or(0),
+        json: why.get_flag(JSON),
+    }
+}
+
+/// Which lines `why` or `status` looks at.
+fn view_words<'a>(pages: &Pages, view: &ArgMatches<'a>) -> ViewWords<'a> {
+    ViewWords {
+        drives: view.get_flag(DRIVE),
+        programs: asks_programs(pages, view),
+        journal: view.get_str(JOURNAL),
     }
 }
 

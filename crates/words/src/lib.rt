@@ -21,7 +21,10 @@ mod pages;
 mod program;
 mod verbosity;
 
-pub use asked::{Asked, DrawWords, FeedsWords, JournalWords, LoadWords, RunWords};
+pub use asked::{
+    Asked, DrawWords, FeedsWords, JournalWords, LoadWords, RunWords, StatusWords, ViewWords,
+    WhyWords,
+};
 pub use command::read_words;
 pub use pages::Pages;
 pub use program::{Hosting, Program};

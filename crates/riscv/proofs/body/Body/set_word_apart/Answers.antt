@@ -2,7 +2,7 @@ use Rattle.std.proofs.Common.{◌∙◌, ap, Some}
 use Rattle.std.specs.Prelude.{unwrap_or}
 use Rattle.riscv.specs.Storages.{items_of, words_of}
 use Rattle.riscv.proofs.KeptCode.{page_written}
-use Rattle.riscv.proofs.page.Page.set_word_apart.Goals as goal
+use Rattle.riscv.proofs.body.Body.set_word_apart.Goals as goal
 
 pub invariant_of-self-2 : goal.invariant_of-self-2
 invariant_of-self-2 c =

@@ -1,7 +1,7 @@
 use Rattle.std.proofs.Common.{◌∙◌}
 use Rattle.std.proofs.lemmas.List.{length-set}
 use Rattle.riscv.proofs.KeptCode.{keeps_set}
-use Rattle.riscv.proofs.page.Page.set_word.Goals as goal
+use Rattle.riscv.proofs.body.Body.set_word.Goals as goal
 
 pub invariant_of-self-in-Own-code : goal.invariant_of-self-in-Own-code
 invariant_of-self-in-Own-code c =

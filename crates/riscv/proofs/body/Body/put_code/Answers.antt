@@ -4,7 +4,7 @@ use Rattle.std.specs.Prelude.{slice_set}
 use Rattle.riscv.specs.Storages.{items_of, words_of}
 use Rattle.riscv.specs.Predecoding.{Decodes}
 use Rattle.riscv.proofs.KeptCode.{decodes_read}
-use Rattle.riscv.proofs.page.Page.put_code.Goals as goal
+use Rattle.riscv.proofs.body.Body.put_code.Goals as goal
 
 pub invariant_of-self-2 : goal.invariant_of-self-2
 invariant_of-self-2 c =

@@ -1,0 +1,108 @@
+//! The lines that are looked at, stepped anew.
+
+use book::Book;
+use driver::{Driver, drive};
+use files::{Told, read_journal};
+use handler::Handler;
+use lines::{Counted, ServeFault, serve};
+use log::{Log, error};
+use shared_log::MemoryStore;
+use std::alloc::Global;
+use std::fs::{File, Files};
+use std::io::{self, BufReader, Input, Read};
+use std::time::Clock;
+use terminal::{BLOCK, Patient};
+use words::ViewWords;
+
+/// What the lines came to.
+#[derive(Drop)]
+pub(crate) struct Replayed<H: Handler> {
+    pub book: Book<H, MemoryStore>,
+    /// What the journal has, where the lines are of one.
+    pub journal: Option<Told>,
+}
+
+/// Steps the lines of the journal that is named, or of the input, over a store in memory. Nothing where they can't be read or
+/// stepped, which is told.
+pub(crate) fn replay_of<
+    R: Files<File = File> + Clock + Input + AllocGlobal,
+    L: Log,
+    H: Handler + Copy,
+>(rt: &R, told: &L, handler: H, view: &ViewWords<'_>) -> Option<Replayed<H>> {
+    let alloc = rt.alloc();
+    let Some(path) = view.journal else {
+        let input = Patient::new(rt, rt.reader());
+        let book = stepped(told, alloc, handler, input, view.drives)?;
+        return Some(Replayed {
+            book,
+            journal: None,
+        });
+    };
+    match read_journal(rt, alloc, path) {
+        Ok((journal, file)) => {
+            let book = stepped(told, alloc, handler, file, view.drives)?;
+            Some(Replayed {
+                book,
+                journal: Some(journal),
+            })
+        }
+        Err(error) => {
+            error!(told; "can't read the journal {path:?}: {error}");
+            None
+        }
+    }
+}
+
+/// The book after all lines, whose replies go nowhere.
+fn stepped<L: Log, H: Handler, R: Read + Drop>(
+    told: &L,
+    alloc: Global,
+    handler: H,
+    lines: R,
+    drives: bool,
+) -> Option<Book<H, MemoryStore>> {
+    let mut book = Book::new(alloc, handler, MemoryStore::new(alloc));
+    match step_all(alloc, &mut book, lines, drives) {
+        Ok(_) => Some(book),
+        Err(fault) => {
+            tell(told, fault);
+            None
+        }
+    }
+}
+
+fn step_all<H: Handler, R: Read + Drop>(
+    alloc: Global,
+    book: &mut Book<H, MemoryStore>,
+    lines: R,
+    drives: bool,
+) -> Result<u64, ServeFault> {
+    let Ok(reader) = BufReader::with_capacity(alloc, BLOCK, lines) else {
+        return Err(ServeFault::NoMemory);
+    };
+    let mut reader = Counted::new(reader);
+    let mut nowhere = Counted::new(io::sink());
+    if drives {
+        drive(
+            alloc,
+            &mut reader,
+            &mut nowhere,
+            book,
+            &mut Driver::new(alloc),
+        )
+    } else {
+        serve(alloc, &mut reader, &mut nowhere, book)
+    }
+}
+
+/// Says why nothing is told.
+fn tell<L: Log>(told: &L, fault: ServeFault) {
+    match fault {
+        ServeFault::NoMemory => {
+            error!(told; "there is no memory for the lines: nothing is told of them");
+        }
+        _ => {
+            error!(told; "the lines can't be read: nothing is told of them");
+        }
+    }
+}

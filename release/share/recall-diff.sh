@@ -1,0 +1,85 @@
+#!/bin/sh
+# recall diff --journal FILE --with PROGRAM [--drive] [--programs]
+#
+# Steps the whole lines of FILE by this program and by PROGRAM, and tells the first line that they answer otherwise: what is to
+# be known before PROGRAM goes on with FILE. FILE is only read. With --drive both carry on behind each line, as `drive` does;
+# with --programs both host programs.
+#
+# Status: 0 all lines are the same, 1 one differs, 2 the words are bad, or a file or a program failed.
+set -eu
+recall=$RECALL_PROGRAM
+journal='' with='' command=run programs=''
+
+fail() {
+    echo "recall: diff: $1" >&2
+    exit 2
+}
+
+while [ $# -gt 0 ]; do
+    case $1 in
+    --journal | --with)
+        [ $# -ge 2 ] || fail "a value is required for $1"
+        case $1 in
+        --journal) journal=$2 ;;
+        --with) with=$2 ;;
+        esac
+        shift
+        ;;
+    --journal=*) journal=${1#*=} ;;
+    --with=*) with=${1#*=} ;;
+    --drive) command=drive ;;
+    --programs) programs=--programs ;;
+    -h | --help)
+        sed -n '2,8s/^# \{0,1\}//p' "$0"
+        exit 0
+        ;;
+    *) fail "there is no word $1: see recall diff --help" ;;
+    esac
+    shift
+done
+[ -n "$journal" ] && [ -n "$with" ] || fail "name the journal by --journal FILE, and the other program by --with PROGRAM"
+told=$("$recall" journal --json "$journal") || exit 2
+lines=${told#*\"lines\":}
+lines=${lines%%[!0-9]*}
+room=$(mktemp -d)
+trap 'rm -rf "$room"' EXIT
+
+# Steps the lines by a program, and keeps what it writes. A program that isn't there, or fails, says why itself.
+answer() {
+    head -n "$lines" "$journal" | "$1" $command -q $programs >"$room/$2" || fail "$1 failed on $journal"
+}
+
+answer "$recall" old
+answer "$with" new
+if cmp -s "$room/old" "$room/new"; then
+    echo "all of $lines lines are answered the same"
+    exit 0
+fi
+
+# How many lines are the same, and of which step the next one is: a line that isn't an output is a reply.
+count() {
+    wc -l <"$room/$1"
+}
+
+place=$(cmp "$room/old" "$room/new" 2>/dev/null || true)
+if [ -n "$place" ]; then
+    same=$((${place##*line } - 1))
+elif [ "$(count old)" -lt "$(count new)" ]; then
+    same=$(count old)
+else
+    same=$(count new)
+fi
+step=$(head -n "$same" "$room/old" | grep -cv '^{"output":' || true)
+old=$(tail -n "+$((same + 1))" "$room/old" | head -n 1)
+new=$(tail -n "+$((same + 1))" "$room/new" | head -n 1)
+case $old in
+'{"output":'*) ;;
+*) case $new in
+    '{"output":'*) ;;
+    *) step=$((step + 1)) ;;
+    esac ;;
+esac
+echo "line $step of $lines is answered otherwise: $(sed -n "${step}p" "$journal" | cut -c 1-1000)"
+echo "  $("$recall" --version | head -n 1): ${old:-nothing}"
+echo "  $with: ${new:-nothing}"
+exit 1
