@@ -121,7 +121,7 @@ fn add_row(
     let held = format!(in alloc; "{} of {}", standing.held, row.quota.held)?;
     let stuck = match row.stuck_since() {
         Some(since) => format!(in alloc; "{}", entries.saturating_sub(since))?,
-        None => String::new(alloc),
+        None => String::from_str(alloc, "-")?,
     };
     write!(
         text,
