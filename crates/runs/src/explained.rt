@@ -4,7 +4,7 @@
 use crate::hosted::Hosted;
 use crate::waits::tell_news;
 use book::Book;
-use diagram::{Situation, Untold, why_waits};
+use diagram::{MissingNotice, Situation, why_waits};
 use driver::{Driver, drive};
 use handler::Handler;
 use lines::{Counted, ServeFault, read_step, serve};
@@ -184,8 +184,8 @@ fn reason_of<H: Handler, S: Store>(
     refusal: &str,
 ) -> Result<String, NoMemory> {
     if refusal == "wait" {
-        if let Some(untold) = waits_for(alloc, hosted, book, line)? {
-            return wait_reason(alloc, untold.receiver, untold.unit);
+        if let Some(missing) = waits_for(alloc, hosted, book, line)? {
+            return wait_reason(alloc, missing.receiver, missing.unit);
         }
     }
     reason(alloc, &hosted.handler, hosted.kinds, line, refusal)
@@ -197,7 +197,7 @@ fn waits_for<H: Handler, S: Store>(
     hosted: &Hosted<'_, H>,
     book: &Book<H, S>,
     line: &[u8],
-) -> Result<Option<Untold>, NoMemory> {
+) -> Result<Option<MissingNotice>, NoMemory> {
     let Some((tenant, letter)) = delivered(alloc, line) else {
         return Ok(None);
     };

@@ -9,7 +9,7 @@ use std::alloc::Global;
 /// The receiver of a letter, and the first unit with a restart or rollback that the letter rests on and the receiver
 /// isn't told of.
 #[derive(Clone, Copy, Debug, PartialEq, Eq)]
-pub struct Untold {
+pub struct MissingNotice {
     pub receiver: Unit,
     pub unit: Unit,
 }
@@ -27,26 +27,26 @@ pub fn why_waits<H: Handler>(
     rows: &[Row],
     tenant: &TenantName,
     letter: Letter,
-) -> Result<Option<Untold>, NoMemory> {
+) -> Result<Option<MissingNotice>, NoMemory> {
     let picture = picture_of(alloc, handler, history, tenant)?;
-    Ok(untold_in(&picture, rows, letter))
+    Ok(missing_in(&picture, rows, letter))
 }
 
-fn untold_in(picture: &Picture<'_>, rows: &[Row], letter: Letter) -> Option<Untold> {
+fn missing_in(picture: &Picture<'_>, rows: &[Row], letter: Letter) -> Option<MissingNotice> {
     let place = picture.letter_place(letter)?;
     let sent = picture.letters.get(place)?;
     let sender = picture.intervals.get(sent.sender)?;
     let known = picture.lane(sent.receiver)?.known;
     let told = rows.get(..known).unwrap_or(rows);
-    let unit = first_untold(sender.vector.as_slice(), told)?;
-    Some(Untold {
+    let unit = first_unnoticed(sender.vector.as_slice(), told)?;
+    Some(MissingNotice {
         receiver: sent.receiver,
         unit,
     })
 }
 
 /// The first unit whose mark has an incarnation that these rows don't tell of.
-fn first_untold(vector: &[Mark], told: &[Row]) -> Option<Unit> {
+fn first_unnoticed(vector: &[Mark], told: &[Row]) -> Option<Unit> {
     let mut number = 0u8;
     for mark in vector {
         let unit = Unit::new(number);
