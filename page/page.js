@@ -1,58 +1,62 @@
 'use strict';
 // What the page of `recall draw --html` does: what an interval, a letter or an output depends on, and the diagram as it
-// stood at an event. Texts of steps are data: they are read off attributes, and shown by textContent and setAttribute alone.
+// stood at an event. Texts of steps are data: they are read off titles, and shown by textContent and setAttribute alone.
 
 const one = (id) => document.getElementById(id);
 const all = (selector) => [...document.querySelectorAll(selector)];
+const view = one('view');
 const svg = one('diagram');
 const slider = one('time');
 const NEVER = Infinity;
 const STATUSES = ['firm', 'stable', 'volatile', 'lost', 'cut'];
 
 let now = NEVER; // the last event that has happened
-let chosen = null; // what the keyboard is at
+let pinned = null; // what was chosen, by a click or the keyboard
+let rover = null; // where the keyboard is
 let shown = null; // what is lit up
 
-// What the elements say. Numbers are columns, units and lines; one that isn't there is NEVER.
+// What the elements say: events, units and lines by their numbers. A number that isn't there is NEVER.
 
 function number(element, name) {
   const text = element.dataset[name];
   return text === undefined ? NEVER : Number(text);
 }
 
+const numbers = (element, ...names) => Object.fromEntries(names.map((name) => [name, number(element, name)]));
+
 function readInterval(element) {
-  const { before, past, mark, text } = element.dataset;
-  const numbers = ['unit', 'column', 'line', 'logged', 'lost', 'cut', 'released'];
-  const read = Object.fromEntries(numbers.map((name) => [name, number(element, name)]));
+  const { before, past, mark } = element.dataset;
+  const read = numbers(element, 'unit', 'column', 'line', 'logged', 'lost', 'cut', 'released');
   const gone = Math.min(read.lost, read.cut);
-  return { ...read, element, kind: 'interval', id: element.id, mark, before, tops: past.split(' '), text, gone };
+  return { ...read, element, kind: 'interval', id: element.id, mark, before, tops: past.split(' '), gone };
 }
 
 function readOutputs(element) {
   const base = intervals.get(element.dataset.of);
-  const entries = all('.output').filter((entry) => entry.dataset.of === base.id);
-  return { element, kind: 'outputs', base, unit: base.unit, column: base.column, entries };
+  return { element, kind: 'outputs', base, unit: base.unit, column: base.column };
 }
 
 function readLetter(element) {
-  const { from, to, text } = element.dataset;
-  const read = { element, kind: 'letter', base: intervals.get(from), from, to, text, letter: number(element, 'letter') };
-  const [column, unit, until] = ['column', 'receiver', 'until'].map((name) => number(element, name));
-  return { ...read, column, receiver: unit, until, unit: read.base ? read.base.unit : unit };
+  const { from, to } = element.dataset;
+  const read = numbers(element, 'letter', 'receiver', 'column', 'until', 'gone');
+  const base = intervals.get(from);
+  return { ...read, element, kind: 'letter', base, to, unit: base ? base.unit : read.receiver };
 }
 
-function readSign(element) {
-  const [unit, column, line] = ['unit', 'column', 'line'].map((name) => number(element, name));
-  return { element, kind: 'sign', unit, column, line };
-}
+const readSign = (element) => ({ ...numbers(element, 'unit', 'column', 'line'), element, kind: 'sign' });
+const readDowntime = (element) => ({ ...numbers(element, 'unit', 'first', 'end'), element });
 
-const readDowntime = (element) =>
-  ({ element, unit: number(element, 'unit'), first: number(element, 'first'), end: number(element, 'end') });
+function grouped(some, keyOf) {
+  const groups = new Map();
+  for (const each of some) groups.set(keyOf(each), [...(groups.get(keyOf(each)) || []), each]);
+  return groups;
+}
 
 const intervals = new Map(all('#diagram .interval[id]').map(readInterval).map((read) => [read.id, read]));
 const drawn = [...intervals.values()].filter((read) => !read.element.classList.contains('undrawn'));
 const outputs = all('#diagram .outputs').map(readOutputs);
 const letters = all('#diagram .send').map(readLetter);
+const receipts = grouped(letters.filter((read) => read.to), (read) => read.letter);
 const signs = all('#diagram .event').map(readSign);
 const downtimes = all('#diagram .down').map(readDowntime);
 const items = [...drawn, ...outputs, ...letters.filter((read) => read.base), ...signs];
@@ -61,7 +65,6 @@ const shapes = Object.fromEntries(STATUSES.map((name) => [name, document.querySe
 
 // How things stand at the present event.
 
-const isHere = (interval) => interval.column <= now;
 const isGone = (interval) => interval.gone <= now;
 const isStable = (interval) => interval.logged <= now && !isGone(interval);
 // A unit's intervals in one past lie on one line, and what is logged of a line is its front: the last one tells of them all.
@@ -84,134 +87,129 @@ function pastOf(interval) {
   return past;
 }
 
-/** Whether some of the past isn't there: it was logged for good before the first event that is drawn. */
+/** Whether some of the past isn't in the page. */
 function hasEarlier(interval, past) {
-  const ids = [...interval.tops, ...[...past].map((each) => each.before)];
-  return ids.some((id) => id && !intervals.has(id));
+  return [...interval.tops, ...[...past].map((each) => each.before)].some((id) => id && !intervals.has(id));
 }
 
 const isDown = (unit) => downtimes.some((time) => time.unit === unit && time.first <= now && now < time.end);
-// A kill's loss is known to others by the row of the restart that ends the downtime.
-const hasNoRow = (lost) => downtimes.some((time) => time.unit === lost.unit && time.first === lost.gone && now < time.end);
+// That a kill lost an interval is told to other units by the row of the restart behind it.
+const hasNoRow = (lost) => downtimes.some((time) => time.unit === lost.unit && time.first === lost.lost && now < time.end);
 
 // Sentences.
 
-function listed(words) {
-  return words.length < 2 ? words.join('') : `${words.slice(0, -1).join(', ')} and ${words[words.length - 1]}`;
+const noteOf = (item) => item.element.querySelector('title').textContent;
+const baseOf = (item) => (item.kind === 'interval' ? item : item.base);
+
+function listed(words, last = 'and') {
+  return words.length < 2 ? words.join('') : `${words.slice(0, -1).join(', ')} ${last} ${words[words.length - 1]}`;
 }
 
-/** Numbers in rising order, with a dash for three and more in a row. */
-function ranges(numbers) {
-  const sorted = [...new Set(numbers)].sort((a, b) => a - b);
-  const runs = [];
-  for (const each of sorted) {
-    const run = runs[runs.length - 1];
-    if (run && each === run[1] + 1) run[1] = each;
-    else runs.push([each, each]);
-  }
-  return runs.flatMap(([a, b]) => (b > a + 1 ? [`${a} to ${b}`] : b > a ? [`${a}`, `${b}`] : [`${a}`]));
-}
-
-/** The intervals of each unit, by its number. */
-function byUnit(some) {
-  const units = new Map();
-  for (const each of [...some].sort((a, b) => a.unit - b.unit || a.column - b.column)) {
-    units.set(each.unit, [...(units.get(each.unit) || []), each]);
-  }
-  return [...units];
-}
+const unitsOf = (some) => [...new Set(some.map((each) => each.unit))].sort((a, b) => a - b);
+const namesOf = (units, last) => listed(units.map((unit) => `unit ${unit}`), last);
 
 function marksOf(some) {
-  const marks = some.map((each) => `[${each.mark}]`);
-  return marks.length > 4 ? `${marks[0]} to ${marks[marks.length - 1]} (${marks.length})` : listed(marks);
+  const marks = [...some].sort((a, b) => a.column - b.column).map((each) => `[${each.mark}]`);
+  return marks.length > 4 ? `${marks[0]} to ${marks[marks.length - 1]} (${marks.length} intervals)` : listed(marks);
 }
 
-function lossOf(some) {
-  return listed(byUnit(some).map(([unit, own]) => `${marksOf(own)} of unit ${unit}`));
+const ownOf = (some, unit) => some.filter((each) => each.unit === unit);
+
+/** The line of what happened at this event. */
+function by(event) {
+  const sign = signs.find((each) => each.column === event);
+  return sign ? `by line ${sign.line}` : `at event ${event}`;
 }
 
 /** Why an interval that is undone is. */
 function undone(interval) {
   return interval.lost <= now
-    ? `unit ${interval.unit} was killed before it logged this`
-    : `unit ${interval.unit} rolled back, since this rested on what was lost`;
+    ? `unit ${interval.unit} was killed ${by(interval.lost)} before it logged this`
+    : `unit ${interval.unit} was rolled back ${by(interval.cut)}, since this rested on what was lost`;
 }
 
 /** What an orphan rests on, and what undoes it. */
 function orphaned(interval, gone) {
-  const untold = gone.every((each) => each.lost <= now && hasNoRow(each));
-  const after = untold ? ` once ${listed(byUnit(gone).map(([unit]) => `unit ${unit}`))} is restarted` : '';
-  const undoes = isDown(interval.unit) ? `the restart of unit ${interval.unit}` : `a notice to unit ${interval.unit}`;
-  return `it rests on ${lossOf(gone)}, which is undone: it can never be firm, and ${undoes} undoes it${after}`;
+  const units = unitsOf(gone);
+  const lost = listed(units.map((unit) => `${marksOf(ownOf(gone, unit))} of unit ${unit}`));
+  const after = gone.every(hasNoRow) ? `, once ${namesOf(units, 'or')} is restarted` : '';
+  const undoes = isDown(interval.unit) ? `restart ${interval.unit}` : `notice ${interval.unit}`;
+  return `rests on ${lost}, undone for good, so it can never be firm; ${undoes} would undo it${after}`;
 }
 
 /** What isn't logged yet, and what would log it. */
 function awaited(open) {
-  const units = byUnit(open);
-  const missing = units.map(([unit, own]) => `unit ${unit} has not logged ${marksOf(own)}`).join('; ');
-  return `${missing}; ${listed(units.map(([unit]) => `flush ${unit}`))} would make it firm`;
+  const units = unitsOf(open);
+  const missing = units.map((unit) => `unit ${unit} has not logged ${marksOf(ownOf(open, unit))}`).join('; ');
+  return `${missing}; ${listed(units.map((unit) => `flush ${unit}`))} would make it firm`;
 }
 
-const losers = (open) => byUnit(open).map(([unit]) => `unit ${unit}`);
+/** What would lose it before that. */
+function losses(interval, open, it) {
+  const [own, others] = [true, false].map((is) => unitsOf(open).filter((unit) => (unit === interval.unit) === is));
+  const other = `a kill of ${namesOf(others, 'or')}`;
+  if (!own.length) return `${other.replace('a', 'A')} before that would lose what ${it} rests on.`;
+  return `A kill of ${namesOf(own)} before that would lose ${it}${others.length ? `, ${other} what ${it} rests on` : ''}.`;
+}
 
 /** How an interval stands: what it waits for, and what would lose it. */
-function standing(interval) {
+function standing(interval, it = 'it') {
   if (isGone(interval)) return { waits: undone(interval), loses: '' };
-  const unstable = [...pastOf(interval)].filter((each) => !isStable(each));
-  const gone = unstable.filter(isGone);
+  const open = [...pastOf(interval)].filter((each) => !isStable(each));
+  const gone = open.filter(isGone);
   if (gone.length) return { waits: orphaned(interval, gone), loses: '' };
-  if (!unstable.length) return { waits: 'all of its past is logged', loses: 'No kill can undo it.' };
-  const killed = losers(unstable);
-  const kill = killed.length > 1 ? `A kill of one of ${listed(killed)}` : `A kill of ${killed[0]}`;
-  return { waits: awaited(unstable), loses: `${kill} before that would undo it.` };
+  if (!open.length) return { waits: 'all of its past is logged', loses: `Nothing can undo ${it}.` };
+  return { waits: awaited(open), loses: losses(interval, open, it) };
 }
 
-function letting(unit) {
-  return isDown(unit) ? `restart ${unit} and then release ${unit}` : `release ${unit}`;
-}
-
-function outputSentence(base) {
+function outputSentence({ base }) {
   const { waits, loses } = standing(base);
-  if (base.released <= now) return { state: `released: it left at event ${base.released}`, loses: 'It is never withdrawn.' };
+  if (base.released <= now) return { state: `released ${by(base.released)}`, loses: 'It is never withdrawn.' };
   if (isGone(base)) return { state: `undone: ${waits}`, loses };
-  if (isFirm(base)) return { state: `held: ${waits}; ${letting(base.unit)} would let it out`, loses };
-  return { state: `held: ${waits}`, loses };
+  if (!isFirm(base)) return { state: `held: ${waits}`, loses };
+  const release = isDown(base.unit) ? `restart ${base.unit} and release ${base.unit}` : `release ${base.unit}`;
+  return { state: `held: ${waits}; ${release} would let it out`, loses };
 }
 
 function letterSentence(letter) {
-  const { waits, loses } = standing(letter.base);
-  const taken = letter.to && letter.until > now ? `received as ${letter.to}` : 'not received';
-  return { state: `${taken}; its sender is ${statusOf(letter.base)}: ${waits}`, loses: loses && loses.replace('it.', 'what rests on it.') };
+  const { waits, loses } = standing(letter.base, 'its sender');
+  const taken = letter.to ? `received by unit ${letter.receiver}` : 'not received';
+  return { state: `${taken}; its sender is ${statusOf(letter.base)}: ${waits}`, loses };
 }
 
 function sentence(item) {
   if (item.kind === 'sign') return { state: '', loses: '' };
-  if (item.kind === 'outputs') return outputSentence(item.base);
+  if (item.kind === 'outputs') return outputSentence(item);
   if (item.kind === 'letter') return letterSentence(item);
   const { waits, loses } = standing(item);
   return { state: `${statusOf(item)}: ${waits}`, loses };
 }
 
-const noteOf = (item) => item.element.querySelector('title').textContent;
-const baseOf = (item) => (item.kind === 'interval' ? item : item.base);
+/** Numbers in rising order, those in a row as a first and a last one. */
+function ranges(some) {
+  const runs = [];
+  for (const each of [...new Set(some)].sort((a, b) => a - b)) {
+    const run = runs[runs.length - 1];
+    if (run && each === run[1] + 1) run[1] = each;
+    else runs.push([each, each]);
+  }
+  return runs.map(([first, last]) => (last === first ? `${first}` : `${first} to ${last}`));
+}
 
 /** The lines that made an item, and those that made its past. */
 function lineSentence(item) {
   const base = baseOf(item);
   if (!base) return `Line ${item.line}.`;
   const past = pastOf(base);
-  const lines = ranges([...past].filter((each) => each !== base).map((each) => each.line));
-  const earlier = hasEarlier(base, past) ? ['lines before the first event drawn'] : [];
-  const made = `Made by line ${base.line}`;
-  const all = [...earlier, ...lines];
-  return all.length ? `${made}; its past by ${listed(all)}.` : `${made}.`;
+  const others = [...past].filter((each) => each !== base && each.line !== base.line).map((each) => each.line);
+  const lines = [...(hasEarlier(base, past) ? ['some that are not in this page'] : []), ...ranges(others)];
+  const logged = base.logged <= now && base.logged > base.column ? `, logged ${by(base.logged)}` : '';
+  return `Made by line ${base.line}${logged}${lines.length ? `; its past by lines ${listed(lines)}` : ''}.`;
 }
 
 // Lighting up.
 
-function mark(element, name, is) {
-  element.classList.toggle(name, is);
-}
+const mark = (element, name, is) => element.classList.toggle(name, is);
 
 function light(item) {
   const base = item && baseOf(item);
@@ -221,21 +219,15 @@ function light(item) {
     mark(each.element, 'past', past.has(each));
     mark(each.element, 'open', past.has(each) && !isStable(each));
   }
-  for (const letter of letters) {
-    const isPast = past.has(intervals.get(letter.to)) && past.has(letter.base);
-    mark(letter.element, 'past', isPast || item === letter);
-  }
-  for (const each of outputs) mark(each.element, 'past', each === item);
+  for (const each of letters) mark(each.element, 'past', past.has(intervals.get(each.to)));
   for (const each of items) mark(each.element, 'chosen', each === item);
 }
 
 function tell(item) {
+  const [what, ...text] = item ? noteOf(item).split('\n') : ['Point at an interval, a letter or an output'];
   const { state, loses } = item ? sentence(item) : { state: '', loses: '' };
-  one('what').textContent = item ? noteOf(item).split('\n')[0] : 'Point at an interval, a letter or an output.';
-  one('text').textContent = item ? noteOf(item).split('\n').slice(1).join('\n') : '';
-  one('state').textContent = state;
-  one('loses').textContent = loses;
-  one('lines').textContent = item ? lineSentence(item) : '';
+  const told = { what, text: text.join('\n'), state, loses, lines: item ? lineSentence(item) : '' };
+  Object.entries(told).forEach(([id, words]) => (one(id).textContent = words));
 }
 
 function show(item) {
@@ -246,10 +238,12 @@ function show(item) {
 
 // The diagram at an event.
 
+const isOff = (item) => item.element.classList.contains('off');
+
 function drawInterval(interval) {
-  const { element } = interval;
+  const { element, column } = interval;
   const status = statusOf(interval);
-  mark(element, 'off', !isHere(interval));
+  mark(element, 'off', now < column);
   if (!element.classList.contains(status)) {
     STATUSES.forEach((name) => mark(element, name, name === status));
     element.querySelector('.shape').replaceWith(shapes[status].cloneNode());
@@ -257,155 +251,169 @@ function drawInterval(interval) {
   element.setAttribute('aria-label', `${noteOf(interval)}, ${status}`);
 }
 
-function drawOutputs({ element, base, entries }) {
+function drawOutputs(item) {
+  const { element, base } = item;
   const isReleased = base.released <= now;
-  mark(element, 'off', !isHere(base) || isGone(base));
-  const badge = element.querySelector('circle');
+  mark(element, 'off', now < base.column || isGone(base));
+  const badge = element.querySelector('.held, .released');
   mark(badge, 'released', isReleased);
   mark(badge, 'held', !isReleased);
-  entries.forEach((entry) => mark(entry, 'off', !isReleased));
-  element.setAttribute('aria-label', `${noteOf({ element })}, ${isReleased ? 'released' : 'held'}`);
+  element.setAttribute('aria-label', `${noteOf(item)}, ${isReleased ? 'released' : 'held'}`);
 }
 
-const isOnItsWay = (letter) =>
-  !letters.some((other) => other.to && other.letter === letter.letter && other.column <= now && now < other.until);
+const isReceived = ({ letter }) => (receipts.get(letter) || []).some((each) => each.column <= now && now < each.until);
 
 function drawLetter(letter) {
-  const { element, base, column, to } = letter;
-  const isThere = column <= now && (Boolean(to) || isOnItsWay(letter));
-  mark(element, 'off', !isThere);
-  mark(element.querySelector('.letter'), 'gone', Math.min(number(element, 'gone'), letter.until) <= now);
+  const { element, column, gone, to } = letter;
+  mark(element, 'off', now < column || (!to && isReceived(letter)));
+  mark(element.querySelector('.letter'), 'gone', gone <= now);
   element.setAttribute('aria-label', noteOf(letter));
 }
 
+function drawSign(sign) {
+  mark(sign.element, 'off', now < sign.column);
+  sign.element.setAttribute('aria-label', noteOf(sign));
+}
+
+/** A unit that is down is so up to the present event. */
 function drawDowntime({ element, first, end }) {
-  mark(element, 'off', first > now);
-  const last = Math.min(end, now + 1);
-  const x = Number(svg.dataset.x) + Number(svg.dataset.step) * (last - Number(svg.dataset.first) + 0.5);
-  element.setAttribute('d', element.getAttribute('d').replace(/H.*/, `H${Math.min(x, Number(svg.dataset.right))}`));
+  const { first: from, left, step, right } = numbers(svg, 'first', 'left', 'step', 'right');
+  const x = left + step * (Math.min(end, now + 1) - from) + step / 2;
+  mark(element, 'off', now < first);
+  element.setAttribute('d', element.getAttribute('d').replace(/H.*/, `H${Math.min(x, right)}`));
+}
+
+function drawList(section) {
+  const entries = [...section.querySelectorAll('.output')];
+  entries.forEach((entry) => mark(entry, 'off', now < intervals.get(entry.dataset.of).released));
+  mark(section, 'off', !section.querySelector('.more, .output:not(.off)'));
 }
 
 function nowSentence() {
   if (now === NEVER) return 'the end';
-  const there = items.filter((item) => item.column === now && (item.kind === 'interval' || item.kind === 'sign'));
-  const notes = there.map((item) => noteOf(item).replace('\n', ': '));
-  return `event ${now}${there.length ? `, line ${there[0].line}: ${notes.join('; ')}` : ''}`;
+  const there = [...drawn, ...signs].filter((item) => item.column === now);
+  const notes = there.map((item) => noteOf(item).replace('\n', ': ')).join('; ');
+  return there.length ? `${now}, line ${there[0].line}: ${notes}` : String(now);
 }
 
 function draw() {
   drawn.forEach(drawInterval);
   outputs.forEach(drawOutputs);
   letters.forEach(drawLetter);
-  signs.forEach(({ element, column }) => mark(element, 'off', column > now));
+  signs.forEach(drawSign);
   downtimes.forEach(drawDowntime);
+  all('.unit').forEach(drawList);
+  mark(one('counts'), 'off', slider.value !== slider.max);
+  mark(one('none'), 'off', Boolean(document.querySelector('.unit:not(.off)')));
   one('now').textContent = nowSentence();
   slider.setAttribute('aria-valuetext', nowSentence());
-  if (shown) show(shown.element.classList.contains('off') ? null : shown);
+  if (!rover || isOff(rover)) rove(items.find((item) => !isOff(item)));
+  show(shown && !isOff(shown) ? shown : null);
 }
 
+/** Shows the diagram as it stood once this event had happened; behind the last one that is drawn, as it stands in the end. */
 function goTo(event) {
   slider.value = event;
-  now = Number(slider.value) === Number(svg.dataset.all) ? NEVER : Number(slider.value);
+  now = Number(slider.value) < number(svg, 'end') ? Number(slider.value) : NEVER;
   draw();
 }
 
-const step = (by) => goTo(Number(slider.value) + by);
+const step = (count) => goTo(Number(slider.value) + count);
+const isAtEnd = () => slider.value === slider.max;
 
 let playing = 0;
 
 function play(isWanted) {
   clearInterval(playing);
-  playing = isWanted ? setInterval(playOn, 800) : 0;
-  one('play').setAttribute('aria-pressed', String(isWanted));
+  playing = isWanted ? setInterval(() => (isAtEnd() ? play(false) : step(1)), 800) : 0;
   one('play').textContent = isWanted ? 'pause' : 'play';
 }
 
-function playOn() {
-  if (Number(slider.value) === Number(slider.max)) play(false);
-  else step(1);
-}
-
 function togglePlay() {
-  if (!playing && Number(slider.value) === Number(slider.max)) goTo(slider.min);
+  if (!playing && isAtEnd()) goTo(slider.min);
   play(!playing);
 }
 
-// Moving from item to item.
+// From item to item: along a unit's line, and from line to line.
 
 const RANKS = { interval: 0, sign: 0, outputs: 1, letter: 2 };
-const order = (a, b) => a.column - b.column || RANKS[a.kind] - RANKS[b.kind];
-const lanes = byUnit(items).map(([, own]) => own.sort(order));
-const present = (lane) => lane.filter((item) => !item.element.classList.contains('off'));
+const inOrder = (a, b) => a.column - b.column || RANKS[a.kind] - RANKS[b.kind];
+const lanes = grouped([...items].sort(inOrder), (item) => item.unit);
+const present = (unit) => (lanes.get(unit) || []).filter((item) => !isOff(item));
+
+/** One item can be reached by the Tab key: the one that the arrow keys go on from. */
+function rove(item) {
+  if (rover) rover.element.setAttribute('tabindex', '-1');
+  rover = item || null;
+  if (rover) rover.element.setAttribute('tabindex', '0');
+}
 
 function choose(item) {
   if (!item) return;
-  if (chosen) chosen.element.setAttribute('tabindex', '-1');
-  chosen = item;
-  item.element.setAttribute('tabindex', '0');
+  rove(item);
+  pinned = item;
   item.element.focus({ preventScroll: true });
   item.element.scrollIntoView({ block: 'nearest', inline: 'nearest' });
   show(item);
 }
 
-function along(by) {
-  const lane = present(lanes.find((own) => own.includes(chosen)) || lanes[0]);
-  choose(chosen ? lane[lane.indexOf(chosen) + by] : lane[0]);
+function along(count) {
+  const lane = present(rover.unit);
+  choose(lane[lane.indexOf(rover) + count]);
 }
 
-function across(by) {
-  const place = lanes.findIndex((own) => own.includes(chosen)) + by;
-  const there = present(lanes[place] || []).filter((item) => item.kind === 'interval');
-  const gap = (item) => Math.abs(item.column - chosen.column);
-  choose(there.reduce((best, item) => (best && gap(best) <= gap(item) ? best : item), null));
+function across(count) {
+  const there = present(rover.unit + count).filter((item) => item.kind === 'interval');
+  const gap = (item) => Math.abs(item.column - rover.column);
+  choose(there.sort((a, b) => gap(a) - gap(b))[0]);
 }
 
-function toEnd(isLast) {
-  const lane = present(lanes.find((own) => own.includes(chosen)) || lanes[0]);
-  choose(lane[isLast ? lane.length - 1 : 0]);
+function unpin() {
+  pinned = null;
+  show(null);
 }
 
-// Zoom and search.
+// Size and search.
 
 let zoom = 1;
 
 function zoomTo(factor) {
   zoom = Math.min(4, Math.max(0.05, factor));
-  svg.setAttribute('width', Math.round(zoom * svg.viewBox.baseVal.width));
-  svg.setAttribute('height', Math.round(zoom * svg.viewBox.baseVal.height));
-  if (chosen) chosen.element.scrollIntoView({ block: 'nearest', inline: 'nearest' });
+  const { width, height } = svg.viewBox.baseVal;
+  svg.setAttribute('width', Math.round(zoom * width));
+  svg.setAttribute('height', Math.round(zoom * height));
+  if (shown) shown.element.scrollIntoView({ block: 'nearest', inline: 'nearest' });
   keepLabels();
 }
 
-const fit = () => zoomTo((one('view').clientWidth - 4) / svg.viewBox.baseVal.width);
-
-/** The units' labels stay in sight. */
-function keepLabels() {
-  one('labels').setAttribute('transform', `translate(${one('view').scrollLeft / zoom} 0)`);
-}
+const fit = () => zoomTo(view.clientWidth / svg.viewBox.baseVal.width);
+const keepLabels = () => one('labels').setAttribute('transform', `translate(${view.scrollLeft / zoom} 0)`);
 
 function isFound(item, wanted) {
-  const base = baseOf(item);
-  const line = base ? base.line : item.line;
-  const places = [`line ${line}`, String(line), base && item.kind === 'interval' ? `[${base.mark}]` : '', base && base.mark];
-  return places.includes(wanted) || noteOf(item).toLowerCase().includes(wanted.toLowerCase());
+  const { line, mark: name } = baseOf(item) || item;
+  const isNamed = item.kind === 'interval' && [name, `[${name}]`].includes(wanted);
+  return isNamed || [`${line}`, `line ${line}`].includes(wanted) || noteOf(item).toLowerCase().includes(wanted);
 }
 
 let found = [];
 
 function search() {
-  const wanted = one('search').value.trim();
-  found = wanted ? items.filter((item) => isFound(item, wanted)).sort(order) : [];
+  const wanted = one('search').value.trim().toLowerCase();
+  found = wanted ? items.filter((item) => isFound(item, wanted)).sort(inOrder) : [];
   items.forEach((item) => mark(item.element, 'found', found.includes(item)));
   one('count').textContent = wanted ? `${found.length} found` : '';
 }
 
-function nextFound(by) {
-  const place = found.indexOf(shown) + (found.includes(shown) || by > 0 ? by : 0);
-  const item = found[(place + found.length) % found.length];
-  if (!item) return;
+function reach(item) {
   if (item.column > now) goTo(item.column);
   choose(item);
-  one('count').textContent = `${found.indexOf(item) + 1} of ${found.length}`;
+}
+
+function nextFound(count) {
+  if (!found.length) return;
+  const place = found.includes(shown) ? found.indexOf(shown) + count : 0;
+  reach(found[(place + found.length) % found.length]);
+  one('count').textContent = `${found.indexOf(shown) + 1} of ${found.length}`;
   one('search').focus();
 }
 
@@ -416,9 +424,9 @@ const KEYS = {
   ArrowLeft: () => along(-1),
   ArrowDown: () => across(1),
   ArrowUp: () => across(-1),
-  Home: () => toEnd(false),
-  End: () => toEnd(true),
-  Escape: () => show(null),
+  Home: () => choose(present(rover.unit)[0]),
+  End: () => choose(present(rover.unit).pop()),
+  Escape: unpin,
   '+': () => zoomTo(zoom * 1.25),
   '-': () => zoomTo(zoom / 1.25),
   0: fit,
@@ -429,32 +437,25 @@ const KEYS = {
 
 function onKey(event) {
   const act = KEYS[event.key];
-  if (!act || event.ctrlKey || event.metaKey || event.altKey) return;
+  if (!act || !rover || event.ctrlKey || event.metaKey || event.altKey) return;
   event.preventDefault();
   act();
 }
 
-function itemAt(target) {
-  const element = target.closest('.outputs, .send, .event, .interval[id]');
-  return element && itemOf.get(element);
-}
+const itemAt = (target) => itemOf.get(target.closest('#diagram .outputs, #diagram .send, #diagram .event, #diagram .interval'));
 
 function follow(event) {
-  const item = intervals.get(event.target.closest('.output').dataset.of);
   event.preventDefault();
-  if (item.column > now) goTo(item.column);
-  choose(item);
+  reach(intervals.get(event.target.closest('.output').dataset.of));
 }
 
 function listen() {
-  const view = one('view');
   view.addEventListener('keydown', onKey);
-  view.addEventListener('focus', () => choose(chosen || lanes[0][0]));
   view.addEventListener('scroll', keepLabels);
-  svg.addEventListener('pointerover', (event) => show(itemAt(event.target) || chosen));
-  svg.addEventListener('pointerleave', () => show(chosen));
+  svg.addEventListener('pointerover', (event) => show(itemAt(event.target) || pinned));
+  svg.addEventListener('pointerleave', () => show(pinned));
   svg.addEventListener('click', (event) => choose(itemAt(event.target)));
-  svg.addEventListener('focusin', (event) => itemAt(event.target) && show(itemAt(event.target)));
+  svg.addEventListener('focusin', (event) => shown !== itemAt(event.target) && choose(itemAt(event.target)));
   slider.addEventListener('input', () => goTo(slider.value));
   const clicks = { play: togglePlay, back: () => step(-1), on: () => step(1), larger: KEYS['+'], smaller: KEYS['-'], fit };
   Object.entries(clicks).forEach(([id, act]) => one(id).addEventListener('click', act));
@@ -463,8 +464,7 @@ function listen() {
   all('.output a').forEach((link) => link.addEventListener('click', follow));
 }
 
-items.forEach(({ element }) => element.setAttribute('tabindex', '-1'));
+items.forEach((item) => item.element.setAttribute('tabindex', '-1'));
 listen();
-goTo(slider.max);
 one('controls').hidden = false;
-show(null);
+goTo(slider.max);

@@ -53,7 +53,7 @@ impl<'a, R: Eprint + Clock> Bar<'a, R> {
     }
 
     /// Whether it is drawn at all.
-    fn is_wanted(&self) -> bool {
+    pub fn is_wanted(&self) -> bool {
         self.work.is_some()
     }
 
