@@ -10,12 +10,11 @@ use std::alloc::Global;
 use std::io::Read;
 use std::mem;
 use std::time::Clock;
-use terminal::Bar;
 use words::DrawWords;
 
 /// The diagram of the tenant that is named, or of the first one opened, after all step lines of the
 /// input, over a store in memory. A line that is no step changes nothing. None where it can't be
-/// drawn, which is told. The bar tells how far the reading is, and another one of as much the steps.
+/// drawn, which is told. Where the input has so many bytes, bars tell how far it is.
 pub(crate) fn diagram_of<R: Eprint + Clock, L: Log, H: Handler + Copy, I: Read + Drop>(
     rt: &R,
     told: &L,
@@ -23,9 +22,9 @@ pub(crate) fn diagram_of<R: Eprint + Clock, L: Log, H: Handler + Copy, I: Read +
     handler: H,
     input: I,
     draw: &DrawWords<'_>,
-    bar: &Bar<'_, R>,
+    size: Option<u64>,
 ) -> Option<String> {
-    let followed = match follow(rt, alloc, handler, input, bar) {
+    let followed = match follow(rt, alloc, handler, input, size) {
         Ok(followed) => followed,
         Err(fault) => {
             tell(told, fault);

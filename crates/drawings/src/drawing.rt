@@ -7,7 +7,7 @@ use log::{Log, error};
 use std::fs::{File, Files, OpenOptions};
 use std::io::{self, ErrorKind, Input, Write};
 use std::time::Clock;
-use terminal::{Bar, Patient, input_size};
+use terminal::{Patient, input_size};
 use words::DrawWords;
 
 /// `draw`: draws to the file that is named, or to standard output. Where it `shows`, bars tell how far it is.
@@ -16,10 +16,9 @@ pub fn draw_on<
     L: Log,
     H: Handler + Copy,
 >(rt: &R, told: &L, handler: H, draw: &DrawWords<'_>, shows: bool) -> u8 {
-    let work = if shows { input_size(rt) } else { None };
-    let bar = Bar::new(rt, work);
+    let size = if shows { input_size(rt) } else { None };
     let input = Patient::new(rt, rt.reader());
-    let Some(diagram) = diagram_of(rt, told, rt.alloc(), handler, input, draw, &bar) else {
+    let Some(diagram) = diagram_of(rt, told, rt.alloc(), handler, input, draw, size) else {
         return 1;
     };
     let Some(path) = draw.to else {

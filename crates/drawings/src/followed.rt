@@ -18,20 +18,23 @@ pub(crate) struct Followed<H: Handler> {
     pub lines: Vec<u64>,
 }
 
-/// Reads the input, beside a bar for its bytes, and then does its steps, beside one for its lines where the first is drawn.
+/// Reads the input, and then does its steps. Where the input has so many bytes, a bar tells how far the reading is, and
+/// another one how far the steps.
 pub(crate) fn follow<R: Eprint + Clock, H: Handler, I: Read + Drop>(
     rt: &R,
     alloc: Global,
     handler: H,
     input: I,
-    bar: &Bar<'_, R>,
+    size: Option<u64>,
 ) -> Result<Followed<H>, ServeFault> {
-    let read = read_lines(alloc, Watched::new(bar, input));
+    let bar = Bar::new(rt, size);
+    let read = read_lines(alloc, Watched::new(&bar, input));
     bar.clear();
     let lines = read?;
-    let steps = Bar::new(rt, bar.is_wanted().then_some(lines.len() as u64));
-    let followed = do_steps(alloc, handler, lines, &steps);
-    steps.clear();
+    let steps = size.map(|_| lines.len() as u64);
+    let bar = Bar::new(rt, steps);
+    let followed = do_steps(alloc, handler, lines, &bar);
+    bar.clear();
     followed
 }
 

@@ -53,7 +53,7 @@ impl<'a, R: Eprint + Clock> Bar<'a, R> {
     }
 
     /// Whether it is drawn at all.
-    pub fn is_wanted(&self) -> bool {
+    fn is_wanted(&self) -> bool {
         self.work.is_some()
     }
 
