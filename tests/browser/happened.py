@@ -60,12 +60,15 @@ class Flow:
         self.units, self.intervals, self.letters, self.events = [], [], {}, []
         self.rows, self.tenant = 0, tenant
         for place, (line, reply) in enumerate(zip(lines, replies), 1):
-            try:
-                step, reply = json.loads(line), json.loads(reply)
-            except ValueError:
-                continue
-            if isinstance(step, dict) and step.get("tenant") == tenant and "ok" in reply:
-                self.follow(place, step, reply)
+            self.enter(place, line, reply)
+
+    def enter(self, place, line, reply):
+        try:
+            step, reply = json.loads(line), json.loads(reply)
+        except ValueError:
+            return
+        if isinstance(step, dict) and step.get("tenant") == self.tenant and "ok" in reply:
+            self.follow(place, step, reply)
 
     def follow(self, line, step, reply):
         said = reply["ok"]

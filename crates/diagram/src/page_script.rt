@@ -4,7 +4,7 @@
 pub(crate) const SCRIPT: &str = r#"
 'use strict';
 // What the page of `recall draw --html` does: what an interval, a letter or an output depends on, and the diagram as it
-// stood at an event. Texts of steps are data: they are read off titles, and shown by textContent and setAttribute alone.
+// stood at an event. Texts of steps are data: read off titles, and shown by textContent and setAttribute alone.
 
 const one = (id) => document.getElementById(id);
 const all = (selector) => [...document.querySelectorAll(selector)];
@@ -71,8 +71,8 @@ const shapes = Object.fromEntries(STATUSES.map((name) => [name, document.querySe
 
 const isGone = (interval) => interval.gone <= now;
 const isStable = (interval) => interval.logged <= now && !isGone(interval);
-// A unit's intervals in one past lie on one line, and what is logged of a line is its front: the last one tells of them all.
-// One that the page doesn't have was logged for good before the first event that is drawn.
+// A unit's intervals in one past lie on one line, and what is logged of a line is its front: its last one tells of them
+// all. One that the page doesn't have was logged for good before the first event that is drawn.
 const isFirm = (interval) => interval.tops.every((id) => !intervals.has(id) || isStable(intervals.get(id)));
 
 function statusOf(interval) {
@@ -98,7 +98,8 @@ function hasEarlier(interval, past) {
 
 const isDown = (unit) => downtimes.some((time) => time.unit === unit && time.first <= now && now < time.end);
 // That a kill lost an interval is told to other units by the row of the restart behind it.
-const hasNoRow = (lost) => downtimes.some((time) => time.unit === lost.unit && time.first === lost.lost && now < time.end);
+const isOfKill = (time, { unit, lost }) => time.unit === unit && time.first === lost;
+const hasNoRow = (interval) => downtimes.some((time) => isOfKill(time, interval) && now < time.end);
 
 // Sentences.
 
@@ -153,7 +154,8 @@ function losses(interval, open, it) {
   const [own, others] = [true, false].map((is) => unitsOf(open).filter((unit) => (unit === interval.unit) === is));
   const other = `a kill of ${namesOf(others, 'or')}`;
   if (!own.length) return `${other.replace('a', 'A')} before that would lose what ${it} rests on.`;
-  return `A kill of ${namesOf(own)} before that would lose ${it}${others.length ? `, ${other} what ${it} rests on` : ''}.`;
+  const rest = others.length ? `, ${other} what ${it} rests on` : '';
+  return `A kill of ${namesOf(own)} before that would lose ${it}${rest}.`;
 }
 
 /** How an interval stands: what it waits for, and what would lose it. */
@@ -197,7 +199,7 @@ function ranges(some) {
     if (run && each === run[1] + 1) run[1] = each;
     else runs.push([each, each]);
   }
-  return runs.map(([first, last]) => (last === first ? `${first}` : `${first} to ${last}`));
+  return runs.flatMap(([first, last]) => (last < first + 2 ? [...new Set([first, last])] : [`${first} to ${last}`]));
 }
 
 /** The lines that made an item, and those that made its past. */
@@ -315,7 +317,7 @@ function draw() {
   show(shown && !isOff(shown) ? shown : null);
 }
 
-/** Shows the diagram as it stood once this event had happened; behind the last one that is drawn, as it stands in the end. */
+/** Shows the diagram as it stood at this event; behind the last one that is drawn, as it stands at the end. */
 function goTo(event) {
   slider.value = event;
   now = Number(slider.value) < number(svg, 'end') ? Number(slider.value) : NEVER;
@@ -393,10 +395,12 @@ function zoomTo(factor) {
 const fit = () => zoomTo(view.clientWidth / svg.viewBox.baseVal.width);
 const keepLabels = () => one('labels').setAttribute('transform', `translate(${view.scrollLeft / zoom} 0)`);
 
+const MARK = /^\[?(\d+,\d+)\]?$/;
+
 function isFound(item, wanted) {
   const { line, mark: name } = baseOf(item) || item;
-  const isNamed = item.kind === 'interval' && [name, `[${name}]`].includes(wanted);
-  return isNamed || [`${line}`, `line ${line}`].includes(wanted) || noteOf(item).toLowerCase().includes(wanted);
+  if (MARK.test(wanted)) return item.kind === 'interval' && name === MARK.exec(wanted)[1];
+  return [`${line}`, `line ${line}`].includes(wanted) || noteOf(item).toLowerCase().includes(wanted);
 }
 
 let found = [];
@@ -446,7 +450,7 @@ function onKey(event) {
   act();
 }
 
-const itemAt = (target) => itemOf.get(target.closest('#diagram .outputs, #diagram .send, #diagram .event, #diagram .interval'));
+const itemAt = (target) => itemOf.get(target.closest('.outputs, .send, .event, .interval'));
 
 function follow(event) {
   event.preventDefault();
@@ -461,7 +465,7 @@ function listen() {
   svg.addEventListener('click', (event) => choose(itemAt(event.target)));
   svg.addEventListener('focusin', (event) => shown !== itemAt(event.target) && choose(itemAt(event.target)));
   slider.addEventListener('input', () => goTo(slider.value));
-  const clicks = { play: togglePlay, back: () => step(-1), on: () => step(1), larger: KEYS['+'], smaller: KEYS['-'], fit };
+  const clicks = { play: togglePlay, back: KEYS[','], on: KEYS['.'], larger: KEYS['+'], smaller: KEYS['-'], fit };
   Object.entries(clicks).forEach(([id, act]) => one(id).addEventListener('click', act));
   one('search').addEventListener('input', search);
   one('search').addEventListener('keydown', (event) => event.key === 'Enter' && nextFound(event.shiftKey ? -1 : 1));

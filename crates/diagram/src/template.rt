@@ -5,7 +5,7 @@ pub(crate) const HEAD: &str = r#"<!DOCTYPE html>
 <html lang="en">
 <head>
 <meta charset="utf-8">
-<meta http-equiv="Content-Security-Policy" content="default-src 'none'; style-src 'sha256-W5z3BEnwad5eHWK9qBnuIH4uPI9SJjFnYsAx1ZkHgb0='; script-src 'sha256-O2aVDi5uihELPzQhvZAMETAHxbIZXXA55F5ixJ6iiFM='; base-uri 'none'; form-action 'none'">
+<meta http-equiv="Content-Security-Policy" content="default-src 'none'; style-src 'sha256-W5z3BEnwad5eHWK9qBnuIH4uPI9SJjFnYsAx1ZkHgb0='; script-src 'sha256-+3IwxZPqK/ZN8Lblga9XMUGXlnlbQRGrBbCRDYU9ReA='; base-uri 'none'; form-action 'none'">
 <meta name="viewport" content="width=device-width, initial-scale=1">
 <title>recall: what depends on what</title>
 <style>"#;
