@@ -171,7 +171,8 @@ def try_pictures(tried, flow, folder):
     for place, event in enumerate(moments(flow), 1):
         tried.browser.dark(place == 2)
         tried.go_to(event)
-        for one in held(flow, event)[-1:] or flow.intervals[-1:]:
+        there = [one for one in flow.intervals if one.event <= event]
+        for one in held(flow, event)[-1:] or there[-1:]:
             tried.value(f"choose(outputs.find((each) => each.base.id === '{one.id}') || intervals.get('{one.id}'))")
         tried.browser.picture(os.path.join(folder, f"{tried.name}-{place}.png"))
     tried.browser.dark(False)

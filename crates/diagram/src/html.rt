@@ -11,12 +11,15 @@ use crate::page_script::SCRIPT;
 use crate::page_style::STYLE;
 use crate::picture::Picture;
 use crate::replay::picture_of;
-use crate::style::COLOURS;
-use crate::template::{ARROWS, CONTROLS, END, HEAD, NOTHING, OUTPUTS, SIDE, VIEW};
+use crate::style::{ARROWS, COLOURS};
+use crate::template::{CLOSE, CONTROLS, END, HEAD, SIDE, VIEW};
 use crate::window::Window;
 use handler::Handler;
 use model::{Entry, NoMemory, TenantName};
 use std::alloc::Global;
+
+/// The end of the page that is drawn where no tenant is open.
+const NOTHING: &str = "</style>\n</head>\n<body>\n<p>no tenant is open</p>\n</body>\n</html>\n";
 
 /// Draws a tenant's diagram as one page of HTML that shows what depends on what, by the tenant's entries of a history, and
 /// `lines`, the number of the input's line of each entry of the history; an entry past their end has none.
@@ -55,7 +58,7 @@ pub fn draw_page<H: Handler>(
     add_diagram(alloc, &mut page, &view, tenant)?;
     page.push_str(SIDE)?;
     add_released(alloc, &mut page, &view)?;
-    for part in [OUTPUTS, SCRIPT, END] {
+    for part in [CLOSE, SCRIPT, END] {
         page.push_str(part)?;
     }
     Ok(page)

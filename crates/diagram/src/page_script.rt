@@ -1,6 +1,6 @@
 //! The script of a page. Made by `page/make` of `page/page.js`.
 
-/// The whole script.
+/// All of it.
 pub(crate) const SCRIPT: &str = r#"
 'use strict';
 // What the page of `recall draw --html` does: what an interval, a letter or an output depends on, and the diagram as it

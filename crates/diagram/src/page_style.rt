@@ -4,7 +4,8 @@
 pub(crate) const STYLE: &str = r#":root { color-scheme: light dark; }
 html, body { margin: 0; height: 100%; }
 body { display: grid; grid-template-rows: auto 1fr; font: 14px/1.45 sans-serif; color: #1f2328; background: #ffffff; }
-#controls { display: flex; flex-wrap: wrap; gap: 6px 18px; align-items: center; padding: 8px 16px; border-bottom: 1px solid #9aa3ad; }
+#controls { display: flex; flex-wrap: wrap; gap: 6px 18px; align-items: center; padding: 8px 16px; }
+#controls { border-bottom: 1px solid #9aa3ad; }
 #controls[hidden] { display: none; }
 #controls > div { display: flex; gap: 6px; align-items: center; }
 #controls .time { flex: 1 1 24rem; }
@@ -18,7 +19,8 @@ aside h2 { font-size: 15px; margin: 12px 0 4px; }
 aside h3 { font-size: 14px; margin: 10px 0 2px; }
 aside p { margin: 4px 0; overflow-wrap: anywhere; }
 aside ol { margin: 0; padding-left: 2em; }
-#text, .output a { display: block; white-space: pre-wrap; overflow-wrap: anywhere; max-height: 7em; overflow: auto; unicode-bidi: isolate; }
+#text, .output a { display: block; max-height: 7em; overflow: auto; white-space: pre-wrap; overflow-wrap: anywhere; }
+#now, #text, .output a { unicode-bidi: isolate; }
 #state { font-weight: bold; }
 .keys { color: #6b7280; font-size: 12px; }
 .none, .more { color: #6b7280; }

@@ -5,7 +5,7 @@ pub(crate) const HEAD: &str = r#"<!DOCTYPE html>
 <html lang="en">
 <head>
 <meta charset="utf-8">
-<meta http-equiv="Content-Security-Policy" content="default-src 'none'; style-src 'sha256-W5z3BEnwad5eHWK9qBnuIH4uPI9SJjFnYsAx1ZkHgb0='; script-src 'sha256-+3IwxZPqK/ZN8Lblga9XMUGXlnlbQRGrBbCRDYU9ReA='; base-uri 'none'; form-action 'none'">
+<meta http-equiv="Content-Security-Policy" content="default-src 'none'; style-src 'sha256-qMkYKEzR/XNz5zPXjNtyeZOXU4zGda5Dg+J/ogmMgJM='; script-src 'sha256-+3IwxZPqK/ZN8Lblga9XMUGXlnlbQRGrBbCRDYU9ReA='; base-uri 'none'; form-action 'none'">
 <meta name="viewport" content="width=device-width, initial-scale=1">
 <title>recall: what depends on what</title>
 <style>"#;
@@ -29,7 +29,10 @@ pub(crate) const VIEW: &str = r#"><span id="now"></span></div>
 <button id="larger" type="button" aria-label="larger">+</button>
 <button id="fit" type="button" aria-label="fit the width">fit</button>
 </div>
-<div><label for="search">find</label><input id="search" type="search" placeholder="text, mark or line"><output id="count" for="search"></output></div>
+<div>
+<label for="search">find</label><input id="search" type="search" placeholder="text, mark or line">
+<output id="count" for="search"></output>
+</div>
 </div>
 <main>
 <div id="view" role="application" aria-label="diagram; the arrow keys go from one to the next">
@@ -45,7 +48,8 @@ pub(crate) const SIDE: &str = r#"</div>
 <p id="loses"></p>
 <p id="lines"></p>
 </section>
-<p class="keys">Keys, once something is chosen: arrows, Home and End move; comma and full stop go an event back and on; space plays; plus, minus and 0 size; Escape lets go.</p>
+<p class="keys">Keys, once something is chosen: arrows, Home and End move; comma and full stop go an event back and on;
+space plays; plus, minus and 0 change the size; Escape lets go.</p>
 <h2>Released outputs</h2>
 <p id="none">none</p>
 "#;
