@@ -241,6 +241,7 @@ function show(item) {
 // The diagram at an event.
 
 const isOff = (item) => item.element.classList.contains('off');
+const ifThere = (item) => (item && !isOff(item) ? item : null);
 
 function drawInterval(interval) {
   const { element, column } = interval;
@@ -310,7 +311,7 @@ function draw() {
   one('now').textContent = nowSentence();
   slider.setAttribute('aria-valuetext', nowSentence());
   if (!rover || isOff(rover)) rove(items.find((item) => !isOff(item)));
-  show(shown && !isOff(shown) ? shown : null);
+  show(ifThere(shown));
 }
 
 /** Shows the diagram as it stood at this event; behind the last one that is drawn, as it stands at the end. */
@@ -399,25 +400,33 @@ function isFound(item, wanted) {
   return [`${line}`, `line ${line}`].includes(wanted) || noteOf(item).toLowerCase().includes(wanted);
 }
 
+// A letter that was received is drawn twice: on its way, and as received.
+const isTwin = (item) => item.kind === 'letter' && !item.to && receipts.has(item.letter);
+
 let found = [];
+let sought = null;
 
 function search() {
   const wanted = one('search').value.trim().toLowerCase();
-  found = wanted ? items.filter((item) => isFound(item, wanted)).sort(inOrder) : [];
+  found = wanted ? items.filter((item) => !isTwin(item) && isFound(item, wanted)).sort(inOrder) : [];
+  sought = null;
   items.forEach((item) => mark(item.element, 'found', found.includes(item)));
   one('count').textContent = wanted ? `${found.length} found` : '';
 }
 
+/** Chooses an item, at an event where it is there; of what is undone, or received, the interval that it is of. */
 function reach(item) {
   if (item.column > now) goTo(item.column);
-  choose(item);
+  choose(ifThere(item) || baseOf(item));
 }
 
 function nextFound(count) {
   if (!found.length) return;
-  const place = found.includes(shown) ? found.indexOf(shown) + count : 0;
-  reach(found[(place + found.length) % found.length]);
-  one('count').textContent = `${found.indexOf(shown) + 1} of ${found.length}`;
+  const from = found.indexOf(sought);
+  const place = (from < 0 ? 0 : from + count + found.length) % found.length;
+  sought = found[place];
+  reach(sought);
+  one('count').textContent = `${place + 1} of ${found.length}`;
   one('search').focus();
 }
 
@@ -432,6 +441,7 @@ const KEYS = {
   End: () => choose(present(rover.unit).pop()),
   Escape: unpin,
   '+': () => zoomTo(zoom * 1.25),
+  '=': () => zoomTo(zoom * 1.25),
   '-': () => zoomTo(zoom / 1.25),
   0: fit,
   ',': () => step(-1),
@@ -456,8 +466,8 @@ function follow(event) {
 function listen() {
   view.addEventListener('keydown', onKey);
   view.addEventListener('scroll', keepLabels);
-  svg.addEventListener('pointerover', (event) => show(itemAt(event.target) || pinned));
-  svg.addEventListener('pointerleave', () => show(pinned));
+  svg.addEventListener('pointerover', (event) => show(itemAt(event.target) || ifThere(pinned)));
+  svg.addEventListener('pointerleave', () => show(ifThere(pinned)));
   svg.addEventListener('click', (event) => choose(itemAt(event.target)));
   svg.addEventListener('focusin', (event) => shown !== itemAt(event.target) && choose(itemAt(event.target)));
   slider.addEventListener('input', () => goTo(slider.value));
