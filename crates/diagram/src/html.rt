@@ -149,7 +149,11 @@ fn add_downtime(
         Some(column) => view.layout.x(column),
         None => view.layout.right(),
     };
-    write!(page, "<path class=\"down\" data-unit=\"{}\"", downtime.unit.number())?;
+    write!(
+        page,
+        "<path class=\"down\" data-unit=\"{}\"",
+        downtime.unit.number()
+    )?;
     add_number(page, "first", Some(downtime.first))?;
     add_number(page, "end", downtime.end)?;
     write!(page, " d=\"M{x} {y}H{end}\"/>\n")?;
@@ -193,7 +197,10 @@ fn add_list<'a>(
     let earlier = earlier_outputs(view.picture, view.layout, lane);
     write!(page, "<section class=\"unit\"><h3>unit {number}</h3>\n")?;
     if earlier > 0 {
-        write!(page, "<p class=\"more\">before the first event drawn: {earlier}</p>\n")?;
+        write!(
+            page,
+            "<p class=\"more\">before the first event drawn: {earlier}</p>\n"
+        )?;
     }
     let start = earlier.saturating_add(1);
     write!(page, "<ol start=\"{start}\">\n")?;
@@ -202,7 +209,10 @@ fn add_list<'a>(
             if view.draws(interval) && interval.released.is_some() {
                 let name = name_of(interval);
                 for output in &interval.outputs {
-                    write!(page, "<li class=\"output\" data-of=\"{name}\"><a href=\"#{name}\">")?;
+                    write!(
+                        page,
+                        "<li class=\"output\" data-of=\"{name}\"><a href=\"#{name}\">"
+                    )?;
                     add_text(alloc, page, output.as_str())?;
                     page.push_str("</a></li>\n")?;
                 }

@@ -64,7 +64,10 @@ fn add_arrow<'a>(
     page.push_str("<path class=\"hit\" d=\"")?;
     add_course(page, view.layout, sender, receipt)?;
     let class = if undone.is_some() { " gone" } else { "" };
-    write!(page, "\"/><path class=\"letter{class}\" marker-end=\"url(#head)\" d=\"")?;
+    write!(
+        page,
+        "\"/><path class=\"letter{class}\" marker-end=\"url(#head)\" d=\""
+    )?;
     add_course(page, view.layout, sender, receipt)?;
     page.push_str("\"/></g>\n")?;
     Ok(())
@@ -90,7 +93,11 @@ fn add_short_arrow(
     add_note(alloc, page, view, letter)?;
     page.push_str("<path class=\"hit\" d=\"")?;
     add_short_course(page, view.layout, letter, sender)?;
-    let class = if sender.removal.is_some() { " gone" } else { "" };
+    let class = if sender.removal.is_some() {
+        " gone"
+    } else {
+        ""
+    };
     write!(
         page,
         "\"/><path class=\"letter undelivered{class}\" marker-end=\"url(#tip)\" d=\"",

@@ -72,7 +72,12 @@ fn add_interval<'a>(
     write!(page, "<g class=\"interval {name}\" role=\"img\"")?;
     add_facts(page, view, interval)?;
     add_position(page, view, interval)?;
-    write!(page, "<title>unit {} {}\n", interval.unit.number(), Shown(interval.mark))?;
+    write!(
+        page,
+        "<title>unit {} {}\n",
+        interval.unit.number(),
+        Shown(interval.mark)
+    )?;
     add_source(alloc, page, view.picture, interval)?;
     page.push_str("</title>")?;
     page.push_str(HIT)?;
@@ -106,11 +111,23 @@ fn add_outputs<'a>(
     if interval.outputs.is_empty() {
         return Ok(());
     }
-    let off = if interval.removal.is_some() { " off" } else { "" };
+    let off = if interval.removal.is_some() {
+        " off"
+    } else {
+        ""
+    };
     let name = name_of(interval);
-    write!(page, "<g class=\"outputs{off}\" role=\"img\" data-of=\"{name}\"")?;
+    write!(
+        page,
+        "<g class=\"outputs{off}\" role=\"img\" data-of=\"{name}\""
+    )?;
     add_position(page, view, interval)?;
-    write!(page, "<title>outputs of unit {} {}", interval.unit.number(), Shown(interval.mark))?;
+    write!(
+        page,
+        "<title>outputs of unit {} {}",
+        interval.unit.number(),
+        Shown(interval.mark)
+    )?;
     for output in &interval.outputs {
         page.push_str("\n")?;
         add_text(alloc, page, output.as_str())?;

@@ -75,7 +75,11 @@ pub(crate) fn add_source<'a>(
 }
 
 /// Adds the letter's number and its sender.
-pub(crate) fn add_letter(svg: &mut String, picture: &Picture<'_>, letter: &Sent) -> Result<(), NoMemory> {
+pub(crate) fn add_letter(
+    svg: &mut String,
+    picture: &Picture<'_>,
+    letter: &Sent,
+) -> Result<(), NoMemory> {
     let number = letter.number.number();
     let source = letter.source.number();
     write!(svg, "letter {number} from unit {source}")?;

@@ -57,11 +57,13 @@ text { fill: #1f2328; stroke: #ffffff; paint-order: stroke; stroke-width: 3px; s
 "#;
 
 /// The heads of arrows.
-pub(crate) const HEADS: &str = r#"<defs><marker id="head" viewBox="0 0 10 10" refX="21" refY="5" markerWidth="8" markerHeight="8" markerUnits="userSpaceOnUse" orient="auto"><path d="M0 0L10 5L0 10Z" style="fill: context-stroke"/></marker><marker id="tip" viewBox="0 0 10 10" refX="9" refY="5" markerWidth="7" markerHeight="7" markerUnits="userSpaceOnUse" orient="auto"><path d="M0 0L10 5L0 10Z" style="fill: context-stroke"/></marker></defs>
+pub(crate) const HEADS: &str =
+    r#"<defs><marker id="head" viewBox="0 0 10 10" refX="21" refY="5" markerWidth="8" markerHeight="8" markerUnits="userSpaceOnUse" orient="auto"><path d="M0 0L10 5L0 10Z" style="fill: context-stroke"/></marker><marker id="tip" viewBox="0 0 10 10" refX="9" refY="5" markerWidth="7" markerHeight="7" markerUnits="userSpaceOnUse" orient="auto"><path d="M0 0L10 5L0 10Z" style="fill: context-stroke"/></marker></defs>
 "#;
 
 /// The same in a page, whose style colours them, since its policy allows no attribute for that.
-pub(crate) const ARROWS: &str = r#"<defs><marker id="head" viewBox="0 0 10 10" refX="21" refY="5" markerWidth="8" markerHeight="8" markerUnits="userSpaceOnUse" orient="auto"><path d="M0 0L10 5L0 10Z" class="tip"/></marker><marker id="tip" viewBox="0 0 10 10" refX="9" refY="5" markerWidth="7" markerHeight="7" markerUnits="userSpaceOnUse" orient="auto"><path d="M0 0L10 5L0 10Z" class="tip"/></marker></defs>
+pub(crate) const ARROWS: &str =
+    r#"<defs><marker id="head" viewBox="0 0 10 10" refX="21" refY="5" markerWidth="8" markerHeight="8" markerUnits="userSpaceOnUse" orient="auto"><path d="M0 0L10 5L0 10Z" class="tip"/></marker><marker id="tip" viewBox="0 0 10 10" refX="9" refY="5" markerWidth="7" markerHeight="7" markerUnits="userSpaceOnUse" orient="auto"><path d="M0 0L10 5L0 10Z" class="tip"/></marker></defs>
 "#;
 
 /// The shapes of intervals.
