@@ -199,6 +199,7 @@ def memory(runs):
     runs.refused(LINES, "run")
     runs.refused(LINES, "run", "--audit", "--verbose")
     runs.refused(LINES, "draw")
+    runs.refused(LINES, "draw", "--html")
     runs.refused(LINES, "feeds", "--audit", "-v", "given")
     runs.refused(LINES, "run", "--journal", "small", fresh=("small",))
     runs.refused(LINES, "drive", "--journal", "other", fresh=("other",))

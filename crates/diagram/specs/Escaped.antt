@@ -1,5 +1,5 @@
--- Text that XML reads as characters alone.
-use Rattle.std.specs.Prelude.{◌≡◌, ◌==◌, ◌&&◌, ◌||◌, ◌⊎◌, not, nat_lt, ℕ, Bool, List, [], ◌∷◌, codes}
+-- Text that XML, and HTML, read as characters alone: in an element, and in an attribute between quotes.
+use Rattle.std.specs.Prelude.{◌≡◌, ◌==◌, ◌&&◌, ◌||◌, ◌⊎◌, not, nat_lt, ℕ, Bool, List, [], ◌∷◌, ◌++◌, codes}
 use Rattle.std.specs.List.{All, Contains, concat}
 use Rattle.std.specs.Str.{NoCharPasses}
 
@@ -22,3 +22,7 @@ IsPiece piece = Contains references piece ⊎ NoCharPasses is_markup piece
 -- the text is such pieces, one behind the other: it has markup in references alone, and no forbidden character
 abbrev pub IsEscaped : List ℕ → Type 0
 IsEscaped text = (pieces : List (List ℕ)) × (concat pieces ≡ text) × All IsPiece pieces
+
+-- a page grew by escaped text alone
+abbrev pub GrewByText : List ℕ → List ℕ → Type 0
+GrewByText before after = (added : List ℕ) × (after ≡ before ++ added) × IsEscaped added

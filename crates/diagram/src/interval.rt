@@ -14,13 +14,21 @@ pub(crate) enum Cause<'a> {
     Letter { place: usize },
 }
 
-/// What took an interval off its unit's path.
+/// What took an interval off its unit's path, and in which column.
 #[derive(Clone, Copy)]
 pub(crate) enum Removal {
     /// A kill: it was not logged.
-    Kill,
+    Kill { column: usize },
     /// The row of a restart or a notice: it was an orphan.
-    Rollback,
+    Rollback { column: usize },
+}
+
+impl Removal {
+    pub(crate) fn column(self) -> usize {
+        match self {
+            Removal::Kill { column } | Removal::Rollback { column } => column,
+        }
+    }
 }
 
 /// What an interval has come to.
@@ -47,12 +55,18 @@ pub(crate) struct Interval<'a> {
     /// How many entries the history had before the one by which it began.
     pub entry: usize,
     pub cause: Cause<'a>,
+    /// The place of the interval before it on its unit's path. A beginning has none.
+    pub before: Option<usize>,
     /// The greatest mark of each unit in its past.
     pub vector: DepVector,
     /// What it put out.
     pub outputs: Vec<Text>,
     /// How many outputs the path had before it.
     pub outputs_before: usize,
+    /// The column in which it was logged, if it was: that of a beginning is its own.
+    pub logged: Option<usize>,
+    /// The column in which its outputs left, if they did.
+    pub released: Option<usize>,
     /// What took it off the path, if anything did.
     pub removal: Option<Removal>,
 }
@@ -85,6 +99,8 @@ pub(crate) struct Lane<'a> {
     pub known: usize,
     /// How many of its outputs were released.
     pub released: usize,
+    /// How many intervals at the front of the path put nothing out that is still held.
+    pub passed: usize,
     /// The place of the downtime that it is in, if it is down.
     pub down: Option<usize>,
 }

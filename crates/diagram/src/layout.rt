@@ -5,7 +5,7 @@ use crate::window::{Columns, Window};
 use model::{Mark, Unit};
 
 /// Left of the first column stand the labels of the units.
-const LEFT: usize = 112;
+pub(crate) const LEFT: usize = 112;
 
 /// Right of the last column.
 const RIGHT: usize = 32;
@@ -74,6 +74,11 @@ impl Layout {
             step,
             units: picture.lanes.len(),
         }
+    }
+
+    /// How wide a column is.
+    pub(crate) fn step(&self) -> usize {
+        self.step
     }
 
     /// The middle of the column. One that isn't drawn stands at the edge that it lies beyond.

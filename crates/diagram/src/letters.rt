@@ -60,7 +60,7 @@ fn add_arrow<'a>(
 }
 
 /// Adds the course from one interval to another: straight, or in an arc where they are of one unit.
-fn add_course(
+pub(crate) fn add_course(
     svg: &mut String,
     layout: &Layout,
     sender: &Interval<'_>,
@@ -96,6 +96,24 @@ fn add_short_arrow(
     } else {
         ""
     };
+    write!(
+        svg,
+        "<path class=\"letter undelivered{gone}\" marker-end=\"url(#tip)\" d=\"",
+    )?;
+    add_short_course(svg, layout, letter, sender)?;
+    svg.push_str("\">")?;
+    add_letter_note(alloc, svg, picture, letter)?;
+    svg.push_str("</path>\n")?;
+    Ok(())
+}
+
+/// Adds a short course from the sender towards the letter's receiver.
+pub(crate) fn add_short_course(
+    svg: &mut String,
+    layout: &Layout,
+    letter: &Sent,
+    sender: &Interval<'_>,
+) -> Result<(), NoMemory> {
     let (x, y) = (layout.x(sender.column), layout.y(sender.unit));
     // Downwards to a unit below, past the mark's label, or else upwards, past its badge.
     let course = if letter.source < letter.receiver {
@@ -103,11 +121,6 @@ fn add_short_arrow(
     } else {
         "l8 -36"
     };
-    write!(
-        svg,
-        "<path class=\"letter undelivered{gone}\" marker-end=\"url(#tip)\" d=\"M{x} {y}{course}\">",
-    )?;
-    add_letter_note(alloc, svg, picture, letter)?;
-    svg.push_str("</path>\n")?;
+    write!(svg, "M{x} {y}{course}")?;
     Ok(())
 }

@@ -52,7 +52,7 @@ fn add_interval<'a>(
 }
 
 /// The shape of an interval's mark.
-fn shape(status: Status) -> &'static str {
+pub(crate) fn shape(status: Status) -> &'static str {
     match status {
         Status::Firm => FIRM,
         Status::Stable => STABLE,
@@ -100,7 +100,7 @@ fn add_sign(svg: &mut String, layout: &Layout, sign: &Sign) -> Result<(), NoMemo
 }
 
 /// Adds the row below a sign.
-fn add_row_label(svg: &mut String, row: Start) -> Result<(), NoMemory> {
+pub(crate) fn add_row_label(svg: &mut String, row: Start) -> Result<(), NoMemory> {
     let Start { incarnation, index } = row;
     write!(
         svg,
@@ -110,7 +110,7 @@ fn add_row_label(svg: &mut String, row: Start) -> Result<(), NoMemory> {
 }
 
 /// The shape of a sign.
-fn sign_shape(event: Event) -> &'static str {
+pub(crate) fn sign_shape(event: Event) -> &'static str {
     match event {
         Event::Flush { .. } => FLUSH,
         Event::Release { .. } => RELEASE,

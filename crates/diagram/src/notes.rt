@@ -1,6 +1,6 @@
 //! What is told of a mark, a letter or a sign by its title.
 
-use crate::escape::escape;
+use crate::escape::add_text;
 use crate::interval::{Cause, Event, Interval, Sent, Sign, Status};
 use crate::picture::Picture;
 use model::{Mark, NoMemory, Start};
@@ -51,23 +51,23 @@ pub(crate) fn add_interval_note<'a>(
 }
 
 /// Adds where what the interval received came from, and its text.
-fn add_source<'a>(
+pub(crate) fn add_source<'a>(
     alloc: Global,
     svg: &mut String,
     picture: &Picture<'a>,
     interval: &Interval<'a>,
 ) -> Result<(), NoMemory> {
-    let (_, text) = picture.received(interval.cause);
-    let text = escape(alloc, text)?;
     match interval.cause {
         Cause::Begin => svg.push_str("its beginning")?,
-        Cause::Outside { number, .. } => {
-            write!(svg, "from outside, number {number}: {text}")?;
+        Cause::Outside { number, text } => {
+            write!(svg, "from outside, number {number}: ")?;
+            add_text(alloc, svg, text)?;
         }
         Cause::Letter { .. } => {
             if let Some(letter) = picture.letter(interval.cause) {
                 add_letter(svg, picture, letter)?;
-                write!(svg, ": {text}")?;
+                svg.push_str(": ")?;
+                add_text(alloc, svg, letter.text.as_str())?;
             }
         }
     }
@@ -75,7 +75,11 @@ fn add_source<'a>(
 }
 
 /// Adds the letter's number and its sender.
-fn add_letter(svg: &mut String, picture: &Picture<'_>, letter: &Sent) -> Result<(), NoMemory> {
+pub(crate) fn add_letter(
+    svg: &mut String,
+    picture: &Picture<'_>,
+    letter: &Sent,
+) -> Result<(), NoMemory> {
     let number = letter.number.number();
     let source = letter.source.number();
     write!(svg, "letter {number} from unit {source}")?;
@@ -101,8 +105,8 @@ fn add_outputs<'a>(
         },
     };
     for output in &interval.outputs {
-        let text = escape(alloc, output.as_str())?;
-        write!(svg, "\noutput, {state}: {text}")?;
+        write!(svg, "\noutput, {state}: ")?;
+        add_text(alloc, svg, output.as_str())?;
     }
     Ok(())
 }
@@ -114,11 +118,12 @@ pub(crate) fn add_letter_note(
     picture: &Picture<'_>,
     letter: &Sent,
 ) -> Result<(), NoMemory> {
-    let text = escape(alloc, letter.text.as_str())?;
     svg.push_str("<title>")?;
     add_letter(svg, picture, letter)?;
     let receiver = letter.receiver.number();
-    write!(svg, " to unit {receiver}: {text}</title>")?;
+    write!(svg, " to unit {receiver}: ")?;
+    add_text(alloc, svg, letter.text.as_str())?;
+    svg.push_str("</title>")?;
     Ok(())
 }
 

@@ -1,13 +1,13 @@
 //! The page.
 
-use crate::escape::escape;
+use crate::escape::add_text;
 use crate::interval::{Downtime, Lane, Status};
 use crate::layout::Layout;
 use crate::letters::add_letters;
 use crate::marks::{add_intervals, add_signs};
 use crate::picture::Picture;
 use crate::replay::picture_of;
-use crate::style::{LEGEND, STYLE};
+use crate::style::{COLOURS, HEADS, LEGEND};
 use crate::window::Window;
 use handler::Handler;
 use model::{Entry, NoMemory, Reply, TenantName};
@@ -68,7 +68,10 @@ fn add_head(svg: &mut String, width: usize, height: usize) -> Result<(), NoMemor
         svg,
         "<svg xmlns=\"http://www.w3.org/2000/svg\" width=\"{width}\" height=\"{height}\" viewBox=\"0 0 {width} {height}\">\n",
     )?;
-    svg.push_str(STYLE)?;
+    svg.push_str("<style>")?;
+    svg.push_str(COLOURS)?;
+    svg.push_str("</style>\n")?;
+    svg.push_str(HEADS)?;
     write!(
         svg,
         "<rect class=\"page\" width=\"{width}\" height=\"{height}\"/>\n",
@@ -84,11 +87,7 @@ fn add_title(
     layout: &Layout,
     tenant: &TenantName,
 ) -> Result<(), NoMemory> {
-    let name = escape(alloc, tenant.as_str())?;
-    write!(
-        svg,
-        "<text class=\"name\" x=\"24\" y=\"34\">tenant {name}</text>\n",
-    )?;
+    add_name(alloc, svg, tenant)?;
     add_counts(svg, picture)?;
     let (first, end, all) = (layout.columns.first, layout.columns.end, picture.columns);
     if layout.columns.count() < all {
@@ -100,8 +99,20 @@ fn add_title(
     Ok(())
 }
 
+/// Adds the name of the tenant.
+pub(crate) fn add_name(
+    alloc: Global,
+    svg: &mut String,
+    tenant: &TenantName,
+) -> Result<(), NoMemory> {
+    svg.push_str("<text class=\"name\" x=\"24\" y=\"34\">tenant ")?;
+    add_text(alloc, svg, tenant.as_str())?;
+    svg.push_str("</text>\n")?;
+    Ok(())
+}
+
 /// Adds how many intervals, letters and outputs there are.
-fn add_counts(svg: &mut String, picture: &Picture<'_>) -> Result<(), NoMemory> {
+pub(crate) fn add_counts(svg: &mut String, picture: &Picture<'_>) -> Result<(), NoMemory> {
     let intervals = picture.intervals.len();
     let (firm, stable) = (picture.count(Status::Firm), picture.count(Status::Stable));
     let volatile = picture.count(Status::Volatile);
@@ -126,6 +137,18 @@ fn add_lines(
     picture: &Picture<'_>,
     layout: &Layout,
 ) -> Result<(), NoMemory> {
+    add_ticks(svg, layout)?;
+    for lane in &picture.lanes {
+        add_lane(alloc, svg, layout, lane)?;
+    }
+    for downtime in &picture.downtimes {
+        add_downtime(svg, layout, downtime)?;
+    }
+    Ok(())
+}
+
+/// Adds the numbers of columns.
+pub(crate) fn add_ticks(svg: &mut String, layout: &Layout) -> Result<(), NoMemory> {
     for column in layout.columns.first..layout.columns.end {
         if column % TICKS == 0 {
             let (x, end) = (layout.x(column), layout.legend().saturating_sub(48));
@@ -134,12 +157,6 @@ fn add_lines(
                 "<path class=\"tick\" d=\"M{x} 118V{end}\"/><text class=\"column\" x=\"{x}\" y=\"114\">{column}</text>\n",
             )?;
         }
-    }
-    for lane in &picture.lanes {
-        add_lane(alloc, svg, layout, lane)?;
-    }
-    for downtime in &picture.downtimes {
-        add_downtime(svg, layout, downtime)?;
     }
     Ok(())
 }
@@ -151,7 +168,7 @@ fn add_lane(
     layout: &Layout,
     lane: &Lane<'_>,
 ) -> Result<(), NoMemory> {
-    let (number, kind) = (lane.seat.unit.number(), escape(alloc, lane.kind)?);
+    let number = lane.seat.unit.number();
     let (y, x, end) = (
         layout.y(lane.seat.unit),
         layout.x(lane.column),
@@ -159,8 +176,10 @@ fn add_lane(
     );
     write!(
         svg,
-        "<path class=\"lane\" d=\"M{x} {y}H{end}\"/><g transform=\"translate(24 {y})\"><text y=\"-2\">unit {number}</text><text class=\"kind\" y=\"14\">{kind}</text></g>\n",
+        "<path class=\"lane\" d=\"M{x} {y}H{end}\"/><g transform=\"translate(24 {y})\"><text y=\"-2\">unit {number}</text><text class=\"kind\" y=\"14\">",
     )?;
+    add_text(alloc, svg, lane.kind)?;
+    svg.push_str("</text></g>\n")?;
     Ok(())
 }
 
@@ -176,7 +195,7 @@ fn add_downtime(svg: &mut String, layout: &Layout, downtime: &Downtime) -> Resul
 }
 
 /// Adds the legend, and the end of the page.
-fn add_foot(svg: &mut String, layout: &Layout) -> Result<(), NoMemory> {
+pub(crate) fn add_foot(svg: &mut String, layout: &Layout) -> Result<(), NoMemory> {
     let y = layout.legend();
     write!(svg, "<g class=\"legend\" transform=\"translate(0 {y})\">\n")?;
     svg.push_str(LEGEND)?;

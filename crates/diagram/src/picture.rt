@@ -18,6 +18,10 @@ pub(crate) struct Picture<'a> {
     pub rows: usize,
     /// How many columns there are.
     pub columns: usize,
+    /// For each column the place of its entry in the history.
+    pub entries: Vec<usize>,
+    /// The place of the entry that is followed.
+    pub entry: usize,
 }
 
 impl<'a> Picture<'a> {
@@ -31,7 +35,16 @@ impl<'a> Picture<'a> {
             downtimes: Vec::new(alloc),
             rows: 0,
             columns: 0,
+            entries: Vec::new(alloc),
+            entry: 0,
         }
+    }
+
+    /// The present column is done: what it shows is of the entry that is followed.
+    pub(crate) fn end_column(&mut self) -> Result<(), NoMemory> {
+        self.entries.push(self.entry)?;
+        self.columns = self.columns.saturating_add(1);
+        Ok(())
     }
 
     /// Adds a unit that begins in the present column. The path is empty; its first interval is to be
@@ -51,6 +64,7 @@ impl<'a> Picture<'a> {
             stable: 1,
             known: 0,
             released: 0,
+            passed: 0,
             down: None,
         })?;
         Ok(())
@@ -61,10 +75,14 @@ impl<'a> Picture<'a> {
         self.lanes.get(usize::from(unit.number()))
     }
 
+    /// The place of the last interval of the unit's path.
+    pub(crate) fn last_place(&self, unit: Unit) -> Option<usize> {
+        self.lane(unit)?.path.last().copied()
+    }
+
     /// The last interval of the unit's path.
     pub(crate) fn last(&self, unit: Unit) -> Option<&Interval<'a>> {
-        let place = *self.lane(unit)?.path.last()?;
-        self.intervals.get(place)
+        self.intervals.get(self.last_place(unit)?)
     }
 
     /// The place of the letter of this number, if it was sent.
@@ -99,8 +117,8 @@ impl<'a> Picture<'a> {
     /// What the interval has come to.
     pub(crate) fn status(&self, interval: &Interval<'a>) -> Status {
         match interval.removal {
-            Some(Removal::Kill) => Status::Lost,
-            Some(Removal::Rollback) => Status::Cut,
+            Some(Removal::Kill { .. }) => Status::Lost,
+            Some(Removal::Rollback { .. }) => Status::Cut,
             None => self.standing(interval),
         }
     }

@@ -31,8 +31,7 @@ impl<'a> Picture<'a> {
             column: self.columns,
             event,
         })?;
-        self.columns = self.columns.saturating_add(1);
-        Ok(())
+        self.end_column()
     }
 
     fn lane_mut(&mut self, unit: Unit) -> Option<&mut Lane<'a>> {
@@ -44,10 +43,23 @@ impl<'a> Picture<'a> {
         if count == 0 {
             return Ok(());
         }
-        if let Some(lane) = self.lane_mut(unit) {
-            lane.stable = lane.stable.saturating_add(count as usize);
-        }
+        self.log(unit, count as usize);
         self.add_sign(unit, Event::Flush { count })
+    }
+
+    /// So many more intervals of the path are logged.
+    fn log(&mut self, unit: Unit, count: usize) {
+        let column = self.columns;
+        let Some(lane) = self.lanes.get_mut(usize::from(unit.number())) else {
+            return;
+        };
+        let first = lane.stable;
+        lane.stable = first.saturating_add(count).min(lane.path.len());
+        for place in lane.path.get(first..lane.stable).unwrap_or(&[]) {
+            if let Some(interval) = self.intervals.get_mut(*place) {
+                interval.logged = Some(column);
+            }
+        }
     }
 
     /// So many outputs left.
@@ -55,17 +67,35 @@ impl<'a> Picture<'a> {
         if count == 0 {
             return Ok(());
         }
-        if let Some(lane) = self.lane_mut(unit) {
-            lane.released = lane.released.saturating_add(count);
-        }
+        self.let_out(unit, count);
         self.add_sign(unit, Event::Release { count })
+    }
+
+    /// So many more outputs of the path have left.
+    fn let_out(&mut self, unit: Unit, count: usize) {
+        let column = self.columns;
+        let Some(lane) = self.lanes.get_mut(usize::from(unit.number())) else {
+            return;
+        };
+        lane.released = lane.released.saturating_add(count);
+        for place in lane.path.get(lane.passed..).unwrap_or(&[]) {
+            let Some(interval) = self.intervals.get_mut(*place) else {
+                return;
+            };
+            if lane.released <= interval.outputs_before {
+                return;
+            }
+            interval.released = Some(column);
+            lane.passed = lane.passed.saturating_add(1);
+        }
     }
 
     /// The path loses its last intervals, and the unit is down.
     fn kill(&mut self, unit: Unit, lost: u64) -> Result<(), NoMemory> {
         if let Some(lane) = self.lane(unit) {
             let kept = lane.path.len().saturating_sub(lost as usize);
-            self.cut(unit, kept, Removal::Kill);
+            let column = self.columns;
+            self.cut(unit, kept, Removal::Kill { column });
         }
         let down = self.downtimes.len();
         self.downtimes.push(Downtime {
@@ -100,7 +130,8 @@ impl<'a> Picture<'a> {
 
     /// A row was appended: the path is cut from its start on, and the unit knows all rows.
     fn roll_back(&mut self, unit: Unit, event: Event, row: Start) -> Result<(), NoMemory> {
-        self.cut(unit, row.index as usize, Removal::Rollback);
+        let column = self.columns;
+        self.cut(unit, row.index as usize, Removal::Rollback { column });
         self.rows = self.rows.saturating_add(1);
         let rows = self.rows;
         if let Some(lane) = self.lane_mut(unit) {
@@ -135,5 +166,6 @@ impl<'a> Picture<'a> {
         }
         lane.path.truncate(index);
         lane.stable = lane.stable.min(index);
+        lane.passed = lane.passed.min(index);
     }
 }

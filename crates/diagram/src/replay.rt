@@ -42,8 +42,9 @@ pub(crate) fn picture_of<'a, H: Handler>(
         entry: 0,
         picture: Picture::new(alloc),
     };
-    for entry in history {
+    for (place, entry) in history.iter().enumerate() {
         if *tenant == *entry.step.tenant() {
+            replay.picture.entry = place;
             replay.enter(entry)?;
         }
         replay.entry = replay.entry.saturating_add(1);
@@ -100,7 +101,7 @@ impl<'h, 'a, H: Handler> Replay<'h, 'a, H> {
             for kind in kinds {
                 self.add_unit(kind.as_str(), kinds.len())?;
             }
-            self.picture.columns = self.picture.columns.saturating_add(1);
+            self.picture.end_column()?;
         }
         Ok(())
     }
@@ -110,7 +111,7 @@ impl<'h, 'a, H: Handler> Replay<'h, 'a, H> {
         if let Reply::Joined { .. } = reply {
             let home = self.picture.lanes.len().saturating_add(1);
             self.add_unit(kind, home)?;
-            self.picture.columns = self.picture.columns.saturating_add(1);
+            self.picture.end_column()?;
         }
         Ok(())
     }
@@ -169,8 +170,7 @@ impl<'h, 'a, H: Handler> Replay<'h, 'a, H> {
         self.states.push(state)?;
         self.add_letters(unit, sends, letters.as_slice())?;
         self.add_interval(unit, *at, cause, vector, outputs)?;
-        self.picture.columns = self.picture.columns.saturating_add(1);
-        Ok(())
+        self.picture.end_column()
     }
 
     /// The turn of the unit, if the tenant has the unit.
@@ -260,15 +260,20 @@ impl<'h, 'a, H: Handler> Replay<'h, 'a, H> {
         let place = self.picture.intervals.len();
         let outputs_before = self.picture.outputs(unit);
         let column = self.picture.columns;
+        let before = self.picture.last_place(unit);
+        let logged = before.is_none().then_some(column);
         self.picture.intervals.push(Interval {
             unit,
             mark,
             column,
             entry: self.entry,
             cause,
+            before,
             vector,
             outputs,
             outputs_before,
+            logged,
+            released: None,
             removal: None,
         })?;
         if let Some(lane) = self.picture.lanes.get_mut(usize::from(unit.number())) {

@@ -1,8 +1,8 @@
 //! What each page has, whatever it shows.
 
 /// The colours, as plain values that whatever draws SVG takes: light ones, and dark ones on top for those that know what
-/// the reader prefers; and the heads of arrows.
-pub(crate) const STYLE: &str = r#"<style>
+/// the reader prefers. They stand in a `style` element.
+pub(crate) const COLOURS: &str = r#"
 svg { background: #ffffff; font: 12px sans-serif; }
 text { fill: #1f2328; stroke: #ffffff; paint-order: stroke; stroke-width: 3px; stroke-linejoin: round; }
 .name { font-size: 18px; font-weight: bold; }
@@ -54,8 +54,16 @@ text { fill: #1f2328; stroke: #ffffff; paint-order: stroke; stroke-width: 3px; s
   .sign.notice { fill: #14171c; stroke: #da96d4; }
   .sign.checkpoint { fill: #14171c; }
 }
-</style>
-<defs><marker id="head" viewBox="0 0 10 10" refX="21" refY="5" markerWidth="8" markerHeight="8" markerUnits="userSpaceOnUse" orient="auto"><path d="M0 0L10 5L0 10Z" style="fill: context-stroke"/></marker><marker id="tip" viewBox="0 0 10 10" refX="9" refY="5" markerWidth="7" markerHeight="7" markerUnits="userSpaceOnUse" orient="auto"><path d="M0 0L10 5L0 10Z" style="fill: context-stroke"/></marker></defs>
+"#;
+
+/// The heads of arrows.
+pub(crate) const HEADS: &str =
+    r#"<defs><marker id="head" viewBox="0 0 10 10" refX="21" refY="5" markerWidth="8" markerHeight="8" markerUnits="userSpaceOnUse" orient="auto"><path d="M0 0L10 5L0 10Z" style="fill: context-stroke"/></marker><marker id="tip" viewBox="0 0 10 10" refX="9" refY="5" markerWidth="7" markerHeight="7" markerUnits="userSpaceOnUse" orient="auto"><path d="M0 0L10 5L0 10Z" style="fill: context-stroke"/></marker></defs>
+"#;
+
+/// The same in a page, whose style colours them, since its policy allows no attribute for that.
+pub(crate) const ARROWS: &str =
+    r#"<defs><marker id="head" viewBox="0 0 10 10" refX="21" refY="5" markerWidth="8" markerHeight="8" markerUnits="userSpaceOnUse" orient="auto"><path d="M0 0L10 5L0 10Z" class="tip"/></marker><marker id="tip" viewBox="0 0 10 10" refX="9" refY="5" markerWidth="7" markerHeight="7" markerUnits="userSpaceOnUse" orient="auto"><path d="M0 0L10 5L0 10Z" class="tip"/></marker></defs>
 "#;
 
 /// The shapes of intervals.
@@ -73,6 +81,11 @@ pub(crate) const CUT: &str = r#"<path class="shape" d="M0-10L10 0L0 10L-10 0Z"/>
 pub(crate) const HELD: &str = r#"<circle class="held" cx="11" cy="-12" r="4"/>"#;
 
 pub(crate) const RELEASED: &str = r#"<circle class="released" cx="11" cy="-12" r="4.5"/>"#;
+
+/// What is pointed at on a page, wider than what is seen.
+pub(crate) const HIT: &str = r#"<circle class="hit" r="15"/>"#;
+
+pub(crate) const BADGE_HIT: &str = r#"<circle class="hit" cx="11" cy="-12" r="8"/>"#;
 
 /// The signs.
 pub(crate) const FLUSH: &str = r#"<path class="sign flush" d="M0-9V9"/>"#;

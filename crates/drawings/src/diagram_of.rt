@@ -1,38 +1,39 @@
 //! The step lines of an input are run, and a tenant's diagram is drawn.
 
-use book::Book;
-use diagram::{Window, draw, find_tenant};
+use crate::followed::{Followed, follow};
+use diagram::{draw, draw_page, find_tenant};
 use handler::Handler;
-use lines::{Counted, ServeFault, read_feed};
+use lines::ServeFault;
 use log::{Log, error};
-use model::{Entry, NoMemory, TenantName};
-use shared_log::MemoryStore;
+use model::NoMemory;
 use std::alloc::Global;
-use std::io::{BufReader, Read};
+use std::io::Read;
 use std::mem;
-use terminal::BLOCK;
+use std::time::Clock;
+use words::DrawWords;
 
 /// The diagram of the tenant that is named, or of the first one opened, after all step lines of the
 /// input, over a store in memory. A line that is no step changes nothing. None where it can't be
-/// drawn, which is told.
-pub(crate) fn diagram_of<L: Log, H: Handler + Copy, R: Read + Drop>(
+/// drawn, which is told. Where the input has so many bytes, bars tell how far it is.
+pub(crate) fn diagram_of<R: Eprint + Clock, L: Log, H: Handler + Copy, I: Read + Drop>(
+    rt: &R,
     told: &L,
     alloc: Global,
     handler: H,
-    input: R,
-    name: Option<&str>,
-    window: Window,
+    input: I,
+    draw: &DrawWords<'_>,
+    size: Option<u64>,
 ) -> Option<String> {
-    let book = match book_of(alloc, handler, input) {
-        Ok(book) => book,
+    let followed = match follow(rt, alloc, handler, input, size) {
+        Ok(followed) => followed,
         Err(fault) => {
             tell(told, fault);
             return None;
         }
     };
-    let diagram = drawn(told, alloc, &handler, &book, name, window);
+    let diagram = drawn(told, alloc, &handler, &followed, draw);
     // The process ends with this: to let go of the history takes a while.
-    mem::forget(book);
+    mem::forget(followed);
     diagram
 }
 
@@ -41,41 +42,28 @@ fn drawn<L: Log, H: Handler>(
     told: &L,
     alloc: Global,
     handler: &H,
-    book: &Book<H, MemoryStore>,
-    name: Option<&str>,
-    window: Window,
+    followed: &Followed<H>,
+    asked: &DrawWords<'_>,
 ) -> Option<String> {
-    let tenant = find_tenant(book.history(), name);
-    if let (None, Some(name)) = (tenant, name) {
+    let history = followed.book.history();
+    let tenant = find_tenant(history, asked.tenant);
+    if let (None, Some(name)) = (tenant, asked.tenant) {
         error!(told; "the tenant {name:?} is not open");
         return None;
     }
-    match draw(alloc, handler, book.history(), tenant, window) {
+    let drawn = if asked.html {
+        let lines = followed.lines.as_slice();
+        draw_page(alloc, handler, history, lines, tenant, asked.window)
+    } else {
+        draw(alloc, handler, history, tenant, asked.window)
+    };
+    match drawn {
         Ok(diagram) => Some(diagram),
         Err(NoMemory) => {
             tell(told, ServeFault::NoMemory);
             None
         }
     }
-}
-
-/// The book after all steps of the input.
-fn book_of<H: Handler, R: Read + Drop>(
-    alloc: Global,
-    handler: H,
-    input: R,
-) -> Result<Book<H, MemoryStore>, ServeFault> {
-    let Ok(reader) = BufReader::with_capacity(alloc, BLOCK, input) else {
-        return Err(ServeFault::NoMemory);
-    };
-    let lines = read_feed(alloc, &mut Counted::new(reader))?;
-    let mut book = Book::new(alloc, handler, MemoryStore::new(alloc));
-    for line in lines {
-        if let Ok(step) = line {
-            book.step(step);
-        }
-    }
-    Ok(book)
 }
 
 /// Says why nothing is drawn.

@@ -7,18 +7,18 @@ use log::{Log, error};
 use std::fs::{File, Files, OpenOptions};
 use std::io::{self, ErrorKind, Input, Write};
 use std::time::Clock;
-use terminal::Patient;
+use terminal::{Patient, input_size};
 use words::DrawWords;
 
-/// `draw`: draws to the file that is named, or to standard output.
+/// `draw`: draws to the file that is named, or to standard output. Where it `shows`, bars tell how far it is.
 pub fn draw_on<
-    R: Files<File = File> + Clock + Print + Input + AllocGlobal,
+    R: Files<File = File> + Clock + Print + Eprint + Input + AllocGlobal,
     L: Log,
     H: Handler + Copy,
->(rt: &R, told: &L, handler: H, draw: &DrawWords<'_>) -> u8 {
+>(rt: &R, told: &L, handler: H, draw: &DrawWords<'_>, shows: bool) -> u8 {
+    let size = if shows { input_size(rt) } else { None };
     let input = Patient::new(rt, rt.reader());
-    let found = diagram_of(told, rt.alloc(), handler, input, draw.tenant, draw.window);
-    let Some(diagram) = found else {
+    let Some(diagram) = diagram_of(rt, told, rt.alloc(), handler, input, draw, size) else {
         return 1;
     };
     let Some(path) = draw.to else {

@@ -97,9 +97,9 @@ pub fn run_either<
         }
         Asked::Draw(draw) => {
             if draw.programs {
-                draw_on(rt, &told, programs, &draw)
+                draw_on(rt, &told, programs, &draw, terminals.errors)
             } else {
-                draw_on(rt, &told, handler, &draw)
+                draw_on(rt, &told, handler, &draw, terminals.errors)
             }
         }
         Asked::Why(why) => {

@@ -76,6 +76,8 @@ pub struct DrawWords<'a> {
     pub to: Option<&'a str>,
     /// The columns.
     pub window: Window,
+    /// Draw a page of HTML in place of a picture.
+    pub html: bool,
 }
 
 /// What `journal` is to tell.

@@ -51,6 +51,9 @@ const TENANT: &str = "tenant";
 /// The option that names the drawing's file.
 const TO: &str = "to";
 
+/// The flag that asks for a page in place of a picture.
+const HTML: &str = "html";
+
 /// The option that has the first column, or the first line of a journal.
 const FROM: &str = "from";
 
@@ -398,6 +401,7 @@ fn draw_command<'a>(alloc: Global, pages: &'a Pages) -> Result<Command<'a>, Erro
     );
     let draw = with(Ok(draw), Ok(tenant_option(alloc)));
     let draw = with(draw, Ok(to_option(alloc)));
+    let draw = with(draw, Ok(html_flag(alloc)));
     let draw = with(draw, Ok(first_option(alloc)));
     with_programs(alloc, pages, with(draw, last_option(alloc)))
 }
@@ -448,6 +452,14 @@ fn to_option<'a>(alloc: Global) -> Arg<'a> {
     )
 }
 
+/// The flag of `draw` that asks for a page.
+fn html_flag<'a>(alloc: Global) -> Arg<'a> {
+    Arg::new(alloc, HTML)
+        .long(HTML)
+        .action(ArgAction::SetTrue)
+        .help("Draws a page of HTML, with the diagram, that shows what depends on what")
+}
+
 /// The option of `draw` that has the first column.
 fn first_option<'a>(alloc: Global) -> Arg<'a> {
     column_count(alloc, FROM).help("The first column that is drawn, from 0; 500 at most are drawn")
@@ -481,6 +493,7 @@ fn draw_words<'a>(pages: &Pages, draw: &ArgMatches<'a>) -> DrawWords<'a> {
         tenant: draw.get_str(TENANT),
         to: draw.get_str(TO),
         window,
+        html: draw.get_flag(HTML),
     }
 }
 
