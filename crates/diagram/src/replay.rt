@@ -23,8 +23,6 @@ struct Replay<'h, 'a, H: Handler> {
     handler: &'h H,
     /// The state at each interval.
     states: Vec<H::State>,
-    /// How many entries the history has before the present one.
-    entry: usize,
     picture: Picture<'a>,
 }
 
@@ -39,7 +37,6 @@ pub(crate) fn picture_of<'a, H: Handler>(
         alloc,
         handler,
         states: Vec::new(alloc),
-        entry: 0,
         picture: Picture::new(alloc),
     };
     for (place, entry) in history.iter().enumerate() {
@@ -47,7 +44,6 @@ pub(crate) fn picture_of<'a, H: Handler>(
             replay.picture.entry = place;
             replay.enter(entry)?;
         }
-        replay.entry = replay.entry.saturating_add(1);
     }
     let Replay { mut picture, .. } = replay;
     mark_received(&mut picture);
@@ -266,7 +262,7 @@ impl<'h, 'a, H: Handler> Replay<'h, 'a, H> {
             unit,
             mark,
             column,
-            entry: self.entry,
+            entry: self.picture.entry,
             cause,
             before,
             vector,

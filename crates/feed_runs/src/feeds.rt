@@ -15,7 +15,7 @@ use std::mem;
 use std::sync::Wait;
 use std::thread::Threads;
 use std::time::Clock;
-use terminal::{BLOCK, Bar, Patient, Plural, Progress};
+use terminal::{BLOCK, Bar, Patient, Plural};
 use words::FeedsWords;
 use workers::{Closed, Gate, RunFault, run_feeds};
 
@@ -61,14 +61,7 @@ pub fn feeds_on<
         return 1;
     }
     let count = count_steps(steps.as_slice());
-    let bar = Bar::new(
-        rt,
-        Progress {
-            work: shows.then_some(count),
-            report: None,
-            counts: false,
-        },
-    );
+    let bar = Bar::new(rt, shows.then_some(count));
     let store = MemoryStore::new(alloc);
     let ran = run_feeds(rt, alloc, handler, store, steps, &Counting(&bar));
     bar.clear();

@@ -156,7 +156,7 @@ fn run_as_asked<
         ..*asked
     };
     let work = if shows { input_size(rt) } else { None };
-    let bar = Bar::new(
+    let bar = Bar::telling(
         rt,
         Progress {
             work,

@@ -52,8 +52,18 @@ pub struct Bar<'a, R> {
 }
 
 impl<'a, R: Eprint + Clock> Bar<'a, R> {
+    /// A bar for so much work.
+    pub fn new(rt: &'a R, work: Option<u64>) -> Bar<'a, R> {
+        let told = Progress {
+            work,
+            report: None,
+            counts: false,
+        };
+        Bar::telling(rt, told)
+    }
+
     /// A bar, and lines.
-    pub fn new(rt: &'a R, told: Progress) -> Bar<'a, R> {
+    pub fn telling(rt: &'a R, told: Progress) -> Bar<'a, R> {
         Bar {
             rt,
             told,
