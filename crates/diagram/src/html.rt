@@ -6,7 +6,7 @@ use crate::html_letters::add_letters;
 use crate::html_marks::{add_intervals, add_signs};
 use crate::interval::{Downtime, Lane};
 use crate::layout::{LEFT, Layout};
-use crate::page::{add_counts, add_foot, add_name, add_ticks};
+use crate::page::{add_counts, add_foot, add_name, add_span, add_ticks};
 use crate::page_script::SCRIPT;
 use crate::page_style::STYLE;
 use crate::picture::Picture;
@@ -90,6 +90,7 @@ fn add_diagram(
     page.push_str("<g id=\"counts\">")?;
     add_counts(page, view.picture)?;
     page.push_str("</g>\n")?;
+    add_span(page, view.picture, view.layout)?;
     add_lines(page, view)?;
     add_letters(alloc, page, view)?;
     add_intervals(alloc, page, view)?;

@@ -89,14 +89,7 @@ fn add_title(
 ) -> Result<(), NoMemory> {
     add_name(alloc, svg, tenant)?;
     add_counts(svg, picture)?;
-    let (first, end, all) = (layout.columns.first, layout.columns.end, picture.columns);
-    if layout.columns.count() < all {
-        write!(
-            svg,
-            "<text class=\"kind\" x=\"24\" y=\"96\">columns from {first} to before {end}, of {all}</text>\n",
-        )?;
-    }
-    Ok(())
+    add_span(svg, picture, layout)
 }
 
 /// Adds the name of the tenant.
@@ -108,6 +101,22 @@ pub(crate) fn add_name(
     svg.push_str("<text class=\"name\" x=\"24\" y=\"34\">tenant ")?;
     add_text(alloc, svg, tenant.as_str())?;
     svg.push_str("</text>\n")?;
+    Ok(())
+}
+
+/// Adds which columns are drawn, where not all are.
+pub(crate) fn add_span(
+    svg: &mut String,
+    picture: &Picture<'_>,
+    layout: &Layout,
+) -> Result<(), NoMemory> {
+    let (first, end, all) = (layout.columns.first, layout.columns.end, picture.columns);
+    if layout.columns.count() < all {
+        write!(
+            svg,
+            "<text class=\"kind\" x=\"24\" y=\"96\">columns from {first} to before {end}, of {all}</text>\n",
+        )?;
+    }
     Ok(())
 }
 
