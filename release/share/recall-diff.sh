@@ -1,11 +1,6 @@
 #!/bin/sh
-# recall diff --journal FILE --with PROGRAM [--drive] [--programs]
-#
-# Steps the whole lines of FILE by this program and by PROGRAM, and tells the first line that they answer otherwise: what is to
-# be known before PROGRAM goes on with FILE. FILE is only read. With --drive both carry on behind each line, as `drive` does;
-# with --programs both host programs.
-#
-# Status: 0 all lines are the same, 1 one differs, 2 the words are bad, or a file or a program failed.
+# `recall diff`: steps the lines of a journal by this program and by another, and tells the first line that they write
+# otherwise. The program starts no other one itself, so that is done here.
 set -eu
 recall=$RECALL_PROGRAM
 journal='' with='' command=run programs=''
@@ -13,6 +8,26 @@ journal='' with='' command=run programs=''
 fail() {
     echo "recall: diff: $1" >&2
     exit 2
+}
+
+help() {
+    cat <<'END'
+Steps the whole lines of a journal by this program and by another, and tells the first line that they write otherwise
+
+Usage: recall diff [OPTIONS] --journal <FILE> --with <PROGRAM>
+
+Options:
+      --journal <FILE>  The journal, which is only read
+      --with <PROGRAM>  The other program
+      --drive           Carries on behind each line, as `drive` does
+      --programs        Has both host units that run programs
+  -h, --help            Print help
+
+Exit status:
+  0  all lines are written the same
+  1  one is written otherwise
+  2  the words are bad, or a file or a program failed
+END
 }
 
 while [ $# -gt 0 ]; do
@@ -30,7 +45,7 @@ while [ $# -gt 0 ]; do
     --drive) command=drive ;;
     --programs) programs=--programs ;;
     -h | --help)
-        sed -n '2,8s/^# \{0,1\}//p' "$0"
+        help
         exit 0
         ;;
     *) fail "there is no word $1: see recall diff --help" ;;
