@@ -31,6 +31,7 @@ POST = b'{"do":"post","number":0,"tenant":"a","text":"a text of more than sixtee
 FLUSH = b'{"do":"flush","tenant":"a","unit":0}\n'
 IMAGE = b"RV1\1" + bytes(4000)
 LINES = OPEN + POST + FLUSH + b'{"do":"release","tenant":"a","unit":0}\n'
+WHY = ("why", "--tenant", "a", "--unit", "0")
 
 
 def texts():
@@ -156,7 +157,7 @@ def held(runs, change):
 
 def streams(runs):
     """Input and output that fail."""
-    for words in (["run"], ["draw"], ["feeds", "given"], ["run", "--audit"]):
+    for words in (["run"], ["draw"], ["feeds", "given"], ["run", "--audit"], ["status"], WHY):
         runs.run(LINES, *words, read=10)
         runs.run(LINES, *words, write=0)
     tenants = b"".join(b'{"do":"open","tenant":"t%d","units":["echo"]}\n' % each for each in range(3000))
@@ -182,6 +183,13 @@ def driven(runs):
     runs.run(b"", "drive", "--journal", "driven", "--from", "99")
 
 
+def views(runs):
+    """What can't be told of units."""
+    runs.run(b"", "status", "--journal", "none")
+    runs.run(LINES, "why", "--tenant", "nobody", "--unit", "0")
+    runs.run(LINES, "why", "--tenant", "a", "--unit", "1")
+
+
 def images(runs):
     """Images that can't be loaded, and words that name no unit."""
     unit = ("--tenant", "a", "--unit", "0")
@@ -204,6 +212,8 @@ def memory(runs):
     runs.refused(LINES, "run", "--journal", "small", fresh=("small",))
     runs.refused(LINES, "drive", "--journal", "other", fresh=("other",))
     runs.refused(b"", "journal", "whole")
+    runs.refused(OPEN + POST, "status", "--json")
+    runs.refused(OPEN + POST, *WHY)
     runs.refused(IMAGE, "load", "given", "--tenant", "a", "--unit", "0")
 
 
@@ -211,7 +221,7 @@ def each_text(program):
     """Whether each text was seen."""
     with tempfile.TemporaryDirectory(dir=program.room) as room:
         runs = Runs(program, room)
-        for scene in (files, journals, streams, driven, images, memory):
+        for scene in (files, journals, streams, driven, views, images, memory):
             scene(runs)
     wanted = texts()
     wrong = [f"{text!r} is no text of the sources" for text in UNSEEN if text not in wanted]
