@@ -12,30 +12,32 @@ the program has steps in its hands and wrote nothing for the lease's time: then 
 Replies are appended up to 8 MB at a time, unless one alone has more: the longest has 25 MB (1,024 outputs of 4,096 bytes,
 each of which takes six in JSON). A server that takes no words of 32 MB is a fault, before any step is read.
 
+PROGRAM is the file of the program itself. A script is refused, such as `./recall`: what it runs may change between two workers
+of an epoch. URL is RECALL_REDIS of the environment where it isn't said: a password in it isn't seen by other users there.
+
 Status 0: ended by SIGTERM, and the lease given back. 1: a fault. 2: bad words. 3: fenced: a write was refused. 4: the server
-can't be reached. 5: the program ended.
+can't be reached. 5: the program ended. A fault is noted in the server, if that can be reached: `recallctl status` shows it.
 """
 
 import argparse
-import collections
 import os
 import queue
 import re
 import secrets
 import signal
-import subprocess
+import socket
 import sys
 import threading
-import time
 
 import redis
 
+import reaching
+from reaching import told  # (this finds the modules of the folder above)
+import running
+from running import Fault
+
 BATCH, AHEAD, PAUSE = 100, 4, 0.1  # (steps read at once, such batches that may wait for their replies, seconds)
-PIECE, MOST, WORD = 1 << 16, 8 << 20, 32 << 20  # (bytes: read at once; appended at once; of a word that a server must take)
-
-
-class Fault(Exception):
-    """What ends a worker: its status, and why."""
+MOST, WORD = 8 << 20, 32 << 20  # (bytes: appended at once; of a word that a server must take)
 
 
 class Partition:
@@ -81,7 +83,8 @@ class Lease:
 
     def take(self):
         """Takes it, if nobody has it."""
-        self.held = self.partition.call("take", [self.key, self.partition.key("fence")], secrets.token_hex(8), self.length)
+        keys = [self.key, *map(self.partition.key, ("fence", "holder"))]
+        self.held = self.partition.call("take", keys, secrets.token_hex(8), self.length, socket.gethostname(), os.getpid())
         return self.held is not None
 
     def keep(self, is_stuck):
@@ -114,47 +117,6 @@ class Lease:
         self.partition.call("give_back", [self.key], self.held)
 
 
-class Run:
-    """One run of the program."""
-
-    def __init__(self, program):
-        self.process = subprocess.Popen([program, "run"], stdin=subprocess.PIPE, stdout=subprocess.PIPE)
-        self.pieces, self.lines, self.waits_since = [], collections.deque(), None
-
-    def give(self, steps):
-        """Gives it these lines. One with a line feed in it would be answered twice: it is given as a blank one."""
-        lines = (step.get(b"line", b"") for _, step in steps)
-        self.process.stdin.write(b"".join((b"" if b"\n" in line else line) + b"\n" for line in lines))
-        self.process.stdin.flush()
-
-    def is_stuck(self, seconds):
-        """Whether a reply is waited for, and nothing of it came for so long."""
-        since = self.waits_since
-        return since is not None and time.monotonic() - since > seconds
-
-    def read(self):
-        """Waits for the next bytes of replies."""
-        self.waits_since = time.monotonic()
-        piece = os.read(self.process.stdout.fileno(), PIECE)
-        self.waits_since = None
-        if not piece:
-            raise Fault(5, f"the program ended with status {self.process.wait()}")
-        self.pieces.append(piece)
-        if b"\n" in piece:
-            *lines, rest = b"".join(self.pieces).split(b"\n")
-            self.lines += lines
-            self.pieces = [rest]
-
-    def reply(self):
-        """The next reply. One that tells of this run's machine, and not of the steps, is none to record."""
-        while not self.lines:
-            self.read()
-        line = self.lines.popleft()
-        if line.endswith((b'"no":"memory"}', b'"no":"store"}')):
-            raise Fault(1, f"the program answered {line.decode()}")
-        return line
-
-
 class Worker:
     """What a worker has while it holds its lease: the streams, the run, and how many replies are recorded."""
 
@@ -172,7 +134,7 @@ class Worker:
             while True:
                 for _, steps in self.server.xread({self.streams[0]: last}, count=BATCH, block=1000):
                     self.batches.put(steps)
-                    self.run.give(steps)
+                    self.run.give([step.get(b"line", b"") for _, step in steps])
                     last = steps[-1][0]
         except BrokenPipeError:
             pass  # (the reply that is missing tells of it)
@@ -231,46 +193,70 @@ def words_of(page):
     reader = argparse.ArgumentParser(description=page, formatter_class=argparse.RawDescriptionHelpFormatter)
     reader.add_argument("program")
     reader.add_argument("partition", type=int)
-    reader.add_argument("--redis", default="redis://127.0.0.1:6379")
+    reader.add_argument("--redis", default=reaching.URL)
     reader.add_argument("--name", default="recall")
     reader.add_argument("--lease", type=int, default=5000)
     return reader.parse_args()
 
 
-def serve(words, stopping, say):
+def partition_of_words(words):
+    """The partition that the words name. Where the server knows how many there are, it must be one of them."""
+    server = reaching.connect(words.redis)
+    count = int(server.get(f"{words.name}:partitions") or 0)
+    if words.partition < 0 or count and words.partition >= count:
+        raise Fault(2, f"{words.name} has no partition {words.partition}" + (f": they are 0 to {count - 1}" if count else ""))
+    return Partition(server, words.name, words.partition)
+
+
+def serve(partition, program, length, stopping, say):
     """Waits for the lease, works until it is told to stop or something fails, and gives the lease back."""
-    partition = Partition(redis.Redis.from_url(words.redis), words.name, words.partition)
-    lease = Lease(partition, words.lease)
+    lease = Lease(partition, length)
     look_at_limits(partition.server)
     while not lease.take():
         if stopping.wait(PAUSE):
             return
-    run = Run(words.program)
+    run = running.Run(program)
     lease.keep(run.is_stuck)
     try:
         worker = Worker(partition, lease, run)
         say(f"lease {lease.held.decode()}, {worker.streams[1]} has {worker.count}, program {run.process.pid}")
         worker.work(stopping)
     finally:
-        run.process.kill()
+        run.kill()
         lease.give_back()
+
+
+def note(partition, fault, say):
+    """Notes in the server why a worker ended, if it can be reached."""
+    status, why = fault.args
+    try:
+        if status != 4:
+            keys = [partition.key("fault"), partition.key("faults")]
+            partition.call("fault", keys, socket.gethostname(), os.getpid(), status, why.encode(errors="replace")[:1000])
+    except redis.RedisError as gone:
+        say(f"what follows can't be noted in the server: {gone}")
 
 
 def main():
     words, stopping = words_of(__doc__), threading.Event()
-    signal.signal(signal.SIGTERM, lambda *_: stopping.set())
-    say = lambda what: print(f"worker of {words.name}:{words.partition}: {what}", file=sys.stderr, flush=True)
-    try:
-        serve(words, stopping, say)
-        status, why = 0, "ended"
-    except (redis.ConnectionError, redis.TimeoutError) as gone:
-        status, why = 4, f"the server can't be reached: {gone}"
-    except redis.ResponseError as refused:
-        status, why = 3 if str(refused).startswith("FENCED") else 1, f"refused: {refused}"
-    except Fault as fault:
-        status, why = fault.args
-    say(why)
-    sys.exit(status)
+    name = f"worker of {words.name}:{words.partition}"
+    say = lambda what: print(f"{name}: {what}", file=sys.stderr, flush=True)
+    for number in (signal.SIGTERM, signal.SIGINT):
+        signal.signal(number, lambda *_: stopping.set())
+
+    def work():
+        program = running.program_file(words.program)
+        with told():
+            partition = partition_of_words(words)
+        try:
+            with told():
+                serve(partition, program, words.lease, stopping, say)
+        except Fault as fault:
+            note(partition, fault, say)
+            raise
+        say("ended")
+
+    running.end(name, work)
 
 
 if __name__ == "__main__":
