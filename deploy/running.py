@@ -7,12 +7,14 @@ refused. 4: the server can't be reached. 5: the program ended. 6: no reply for s
 import collections
 import json
 import os
+import select
 import subprocess
 import sys
 import time
 import zlib
 
 PIECE, LONGEST = 1 << 16, 65_537  # (bytes: read at once; of a line, enough for it to be too long)
+PAUSE = 0.1  # (seconds between two looks)
 
 
 class Fault(Exception):
@@ -52,9 +54,10 @@ def program_file(path):
 
 
 class Run:
-    """One run of the program."""
+    """One run of the program. While a reply is waited for, `meanwhile` is asked, which may raise why to end."""
 
-    def __init__(self, program):
+    def __init__(self, program, meanwhile=lambda: None):
+        self.meanwhile = meanwhile
         self.process = subprocess.Popen([program, "run"], stdin=subprocess.PIPE, stdout=subprocess.PIPE)
         self.pieces, self.lines, self.waits_since = [], collections.deque(), None
 
@@ -71,6 +74,8 @@ class Run:
     def read(self):
         """Waits for the next bytes of replies."""
         self.waits_since = time.monotonic()
+        while not select.select([self.process.stdout], [], [], PAUSE)[0]:
+            self.meanwhile()
         piece = os.read(self.process.stdout.fileno(), PIECE)
         self.waits_since = None
         if not piece:

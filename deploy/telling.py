@@ -8,6 +8,8 @@ A partition is told in the words of `--json`: times are in seconds, and what isn
     holder                                   `host` and `pid` of who has the lease, or had it last, `for`: since when
     faults, fault                            how often a worker ended with a fault, and the last: `ago`, `host`, `pid`, `status`, `why`
     stuck                                    why nothing goes on, and what to do
+
+The server is told by `at`, where it is, `words`, and `wrong`: what keeps it from going on.
 """
 
 import json
@@ -78,8 +80,8 @@ def tell(name, server, parts, stuck, is_json):
     if is_json:
         print(json.dumps({"name": name, "server": server, "partitions": parts}))
     else:
-        print("; ".join([f"{name} on {server['at']}", *server["words"]]))
+        print("; ".join([f"{name} on {server['at']}", *server["words"], *server["wrong"]]))
         print("\n".join(aligned([HEADS, *map(row, parts)])))
         for part in stopped:
             print(f"stuck: partition {part['partition']}: {part['stuck']}")
-    return 1 if stopped else 0
+    return 1 if stopped or server["wrong"] else 0

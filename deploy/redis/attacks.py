@@ -5,15 +5,13 @@ import contextlib
 import json
 import os
 import signal
-import socket
 import subprocess
-import threading
 import time
 
 import redis
 
 import put
-from trying import Held, Wrong, plain_run, until
+from trials import Held, Link, Wrong, free_port, plain_run, until
 
 LEASE = 1000  # (milliseconds: short, so that what takes longer than a lease takes little)
 RATE = 8_000_000  # (bytes a second of a slow program, and of a slow link: a reply of 25 MB takes three leases)
@@ -32,9 +30,9 @@ class Place:
         self.partitions = put.partitions_of(server.client, "recall", 1)
         self.steps, self.replies = (self.partitions[0].key(stream, 0) for stream in ("steps", "replies"))
 
-    def held(self, program, url):
+    def held(self, program, url, lease=LEASE):
         """A worker's process."""
-        return Held([os.path.join(self.scripts, "worker.py"), program, "0", "--redis", url, "--lease", str(LEASE)], 0)
+        return Held([os.path.join(self.scripts, "worker.py"), program, "0", "--redis", url, "--lease", str(lease)], 0)
 
     @contextlib.contextmanager
     def worker(self, program=None, url=None):
@@ -97,47 +95,11 @@ def line(do, tenant="a", **keys):
 # A reply that is written, and appended, more slowly than a lease lasts.
 
 
-SLOW = """#!/usr/bin/python3 -B
-import os, subprocess, sys, time
-program = subprocess.Popen([{program!r}, *sys.argv[1:]], stdout=subprocess.PIPE)
-while piece := os.read(program.stdout.fileno(), 1 << 16):
-    time.sleep(len(piece) / {rate})
-    while piece:
-        piece = piece[os.write(1, piece):]
-"""
-
-
-class Link(threading.Thread):
-    """A slow link to the server: a port of the loopback, each of whose connections passes so many bytes a second on."""
-
-    def __init__(self, port):
-        super().__init__(daemon=True)
-        self.port, self.door = port, socket.create_server(("127.0.0.1", 0))
-        self.url = f"redis://127.0.0.1:{self.door.getsockname()[1]}"
-        self.start()
-
-    def run(self):
-        with contextlib.suppress(OSError):
-            while True:
-                near, _ = self.door.accept()
-                far = socket.create_connection(("127.0.0.1", self.port))
-                for ends in ((near, far), (far, near)):
-                    threading.Thread(target=self.carry, args=ends, daemon=True).start()
-
-    def carry(self, source, target):
-        with contextlib.suppress(OSError):
-            while piece := source.recv(1 << 16):
-                time.sleep(len(piece) / RATE)
-                target.sendall(piece)
-            target.shutdown(socket.SHUT_WR)
-
-
 def slow_program(place):
-    """A program that writes its replies slowly."""
+    """A program that passes on what the program writes, slowly."""
     path = os.path.join(place.room, "slow")
-    with open(path, "w") as file:
-        file.write(SLOW.format(program=place.program, rate=RATE))
-    os.chmod(path, 0o700)
+    words = ["-DPROGRAM=" + json.dumps(place.program), f"-DRATE={RATE}", "-o", path, os.path.join(place.scripts, "..", "slow.c")]
+    subprocess.run(["cc", "-O2", *words], check=True)
     return path
 
 
@@ -148,20 +110,19 @@ def one_long_reply(tenant):
 
 
 def hang(place):
-    """A program that takes steps and answers none doesn't keep the lease: the next worker has it."""
-    path = os.path.join(place.room, "hangs")
-    with open(path, "w") as file:
-        file.write(f"#!/bin/sh\nexec sleep {2 * ANSWERS}\n")
-    os.chmod(path, 0o700)
-    place.give("hang", [line("status")])
-    hung = place.held(path, place.server.url)
+    """A program that takes steps and answers none doesn't keep the lease: its worker ends, and the next one has it."""
+    hung = place.held(place.program, place.server.url)
     try:
         until("the lease of the worker whose program hangs", hung.has_lease)
+        os.kill(hung.begun()[1], signal.SIGSTOP)
+        place.give("hang", [line("status")])
         begun = time.monotonic()
         with place.worker():
             place.answered(1)
         if (seconds := time.monotonic() - begun) > ANSWERS:
             raise Wrong(f"a program that hangs kept its partition for {seconds:.0f} s")
+        if hung.process.poll() is None or hung.end()[0] != 5 or "wrote nothing for 1 s" not in hung.said[-1]:
+            raise Wrong(f"the worker of a program that hangs: status {hung.process.poll()}, {hung.said[-1]}")
     finally:
         with contextlib.suppress(ProcessLookupError):
             os.kill(hung.begun()[1], signal.SIGKILL)
@@ -172,11 +133,12 @@ def hang(place):
 
 def slow_replies(place):
     hang(place)
-    lines, link = one_long_reply("a"), Link(place.server.port)
+    lines, link = one_long_reply("a"), Link(place.server.port, RATE)
+    url = f"redis://127.0.0.1:{link.port}"
     place.give("slow", lines)
     seconds = []
     try:
-        with place.worker(slow_program(place), link.url):
+        with place.worker(slow_program(place), url):
             begun = time.monotonic()
             place.answered(len(lines) - 1)
             seconds.append(time.monotonic() - begun)
@@ -185,10 +147,10 @@ def slow_replies(place):
             seconds.append(time.monotonic() - begun)
         more = [line("status", unit=0)]
         place.give("more", more)
-        with place.worker(slow_program(place), link.url):  # (it replays: the reply is written once more, and dropped)
+        with place.worker(slow_program(place), url):  # (it replays: the reply is written once more, and dropped)
             place.answered(len(lines) + 1)
     finally:
-        link.door.close()
+        link.close()
     bytes = place.compare(("slow", lines), ("more", more))
     return f"{bytes / 1e6:.0f} MB of replies, the last of which took {seconds[-1]:.1f} s, were recorded under one lease of {LEASE / 1000} s"
 
@@ -297,10 +259,11 @@ NUMBERS = ["0x0", "0.0", "", " ", "0e0", "00", "-0", "+0", " 0", "0 ", "0\n", "\
 
 def no_numbers(place):
     keys = [place.partitions[0].key(*words) for words in (("epoch",), ("steps", 0), ("producers",))]
-    lease = [place.partitions[0].key(word) for word in ("lease", "fence")]
+    lease = [place.partitions[0].key(word) for word in ("lease", "fence", "holder")]
     calls = {
         "a put": lambda number: place.client.fcall("recall_put", 3, *keys, 0, "bad", number, "", line("status")),
-        "a lease": lambda number: place.client.fcall("recall_take", 2, *lease, "word", number),
+        "a lease": lambda number: place.client.fcall("recall_take", 3, *lease, "word", number, "host", 1),
+        "a process": lambda number: place.client.fcall("recall_take", 3, *lease, "word", 1000, "host", number),
     }
     for what, call in calls.items():
         for number in NUMBERS:
@@ -326,7 +289,7 @@ def no_numbers(place):
 
 def append_no_numbers(place, keys):
     """An append whose second reply has no number, or an id out of place, leaves the first one out too."""
-    held = place.client.fcall("recall_take", 2, *keys, "word", 60_000)
+    held = place.client.fcall("recall_take", 3, *keys, "word", 60_000, "host", 1)
     steps = [place.client.xadd(place.steps, {"from": "bad", "number": number, "line": ""}) for number in range(2)]
     first = (steps[0], "bad", 0, "reply")
     words = [(60_000, 0, *first, steps[1], "bad", number, "reply") for number in NUMBERS if number]
@@ -351,4 +314,237 @@ def partition_no_numbers(place):
             raise Wrong(f"{count} partitions: {done}")
 
 
-ATTACKS = {"slow-replies": slow_replies, "long-replies": long_replies, "other-lines": other_lines, "no-numbers": no_numbers}
+# A server that is down, refuses a password, or goes away.
+
+
+def script(place, name, *words, url=None, given=b"{}\n"):
+    """What a script does with these words at this address: its status, what it wrote, and its one line on standard error."""
+    command = [os.path.join(place.scripts, name), *words, "--redis", url or place.server.url]
+    done = subprocess.run(command, input=given, capture_output=True, timeout=ANSWERS)
+    return done.returncode, done.stdout.decode(), done.stderr.decode()
+
+
+def must(what, told, status, *words):
+    """The script ended with this status, and one line that has these words."""
+    got, _, line = told
+    if got != status or line.count("\n") != 1 or not all(word in line for word in words):
+        raise Wrong(f"{what}: status {got}, and not {status} and a line with {words}: {line[-400:]!r}")
+
+
+def scripts_of(place):
+    """Each script with words that are good."""
+    return {
+        "worker.py": [place.program, "0"],
+        "epoch.py": [place.program, "0"],
+        "put.py": ["1", "--producer", "one", "--timeout", "1"],
+        "recallctl": ["status"],
+    }
+
+
+def server_gone(place):
+    nobody = f"redis://127.0.0.1:{free_port()}"
+    for name, words in scripts_of(place).items():
+        must(f"{name} with no server", script(place, name, *words, url=nobody), 4, "can't be reached")
+        must(f"{name} with a bad address", script(place, name, *words, url="nothing"), 2, "address")
+    place.client.config_set("requirepass", "secret")
+    wrong = place.server.url.replace("//", "//:wrong@")
+    for name, words in scripts_of(place).items():
+        must(f"{name} with no password", script(place, name, *words), 4, "password")
+        must(f"{name} with a wrong password", script(place, name, *words, url=wrong), 4, "password")
+    place.client.auth("secret")
+    place.client.config_set("requirepass", "")
+    go_in_the_middle(place)
+    no_functions(place)
+    no_programs(place)
+    return "each script ends with one line and a status where the server is down, refuses a password, lacks functions or goes"
+
+
+def go_in_the_middle(place):
+    """A server that is ended while scripts use it, and one that is a replica."""
+    worker = place.held(place.program, place.server.url)
+    until("the lease", worker.has_lease)
+    waiting = place.held(place.program, place.server.url)
+    command = [os.path.join(place.scripts, "put.py"), "1", "--producer", "one", "--timeout", "2", "--redis", place.server.url]
+    os.kill(worker.begun()[1], signal.SIGSTOP)
+    producer = subprocess.Popen(command, stdin=subprocess.PIPE, stdout=subprocess.PIPE, stderr=subprocess.PIPE)
+    producer.stdin.write(b"{}\n")
+    producer.stdin.close()
+    until("a step", lambda: place.client.xlen(place.steps))
+    place.server.kill()
+    for what, held in {"a worker": worker, "a waiting worker": waiting}.items():
+        status, _ = held.end()
+        lines = [line for line in held.said if ": lease " not in line]
+        must(f"{what} whose server goes", (status, "", "\n".join([*lines, ""])), 4, "can't be reached")
+    must("put.py whose server goes", (producer.wait(), "", producer.stderr.read().decode()), 4, "can't be reached")
+    place.server.start()
+    place.client.execute_command("REPLICAOF", "127.0.0.1", free_port())
+    for name in ("worker.py", "put.py", "epoch.py"):
+        must(f"{name} on a replica", script(place, name, *scripts_of(place)[name]), 4, "replica")
+    status, said, _ = script(place, "recallctl", "status")
+    if status != 1 or "a replica whose link is down" not in said:
+        raise Wrong(f"a replica's status: {status}, {said}")
+    place.client.execute_command("REPLICAOF", "NO", "ONE")
+
+
+def no_functions(place):
+    """A server without the functions is told."""
+    place.client.flushall()
+    place.client.execute_command("FUNCTION", "FLUSH")
+    for name in ("worker.py", "put.py", "epoch.py"):
+        must(f"{name} without functions", script(place, name, *scripts_of(place)[name]), 1, "FUNCTION LOAD")
+    status, said, _ = script(place, "recallctl", "status")
+    if status != 1 or "FUNCTION LOAD" not in said:
+        raise Wrong(f"the status without functions: {status}, {said}")
+    place.server.load()
+
+
+def no_programs(place):
+    """What isn't a program is refused: a script is named in the place of the program."""
+    path = os.path.join(place.room, "script")
+    with open(path, "w") as file:
+        file.write(f"#!/bin/sh\nexec {place.program} run\n")
+    os.chmod(path, 0o700)
+    for name in ("worker.py", "epoch.py"):
+        must(f"{name} with a script", script(place, name, path, "0"), 2, "script")
+        must(f"{name} with no file", script(place, name, path + "-none", "0"), 2, "can't be read")
+    must("worker.py with a partition that isn't there", script(place, "worker.py", place.program, "1"), 2, "no partition 1")
+
+
+# What is stuck, and how it is told.
+
+
+def status_of(place, *words):
+    """What `recallctl` tells, and its status."""
+    status, said, why = script(place, "recallctl", "status", "--json", *words)
+    if not said:
+        raise Wrong(f"recallctl: status {status}, {why[-900:]}")
+    return status, {part["partition"]: part for part in json.loads(said)["partitions"]}
+
+
+def see(what, told, status, **wanted):
+    """Partition 0 is told so."""
+    got, parts = told
+    other = {word: parts[0][word] for word in wanted if parts[0][word] != wanted[word]}
+    if got != status or other:
+        raise Wrong(f"{what}: status {got}, and not {status}; {other} and not {wanted}")
+    return parts[0]
+
+
+def stuck(place):
+    """Two partitions, the second of which has a worker all the time."""
+    place.client.flushall()
+    partitions = put.partitions_of(place.client, "recall", 2)
+    producer = put.Producer(place.client, partitions, "one")
+    tenants = {put.partition_of(line("status", name), 2): name for name in "abcdefgh"}
+    lines = [line("status", tenants[0], unit=0), line("status", tenants[1], unit=0)] * 2
+    see("before a step", status_of(place), 0, lag=0, steps=0, replies=0, lease=None, holder=None, fault=None, faults=0, oldest=None)
+    other = Held([os.path.join(place.scripts, "worker.py"), place.program, "1", "--redis", place.server.url], 1)
+    try:
+        for each in lines:
+            producer.add(each)
+        while not producer.send():
+            pass
+        until("the other partition's replies", lambda: place.client.xlen(partitions[1].key("replies", 0)) == 2)
+        no_worker(place, lines)
+        bad_worker(place)
+        program_that_hangs(place)
+    finally:
+        other.process.terminate()
+        other.end()
+    return "a partition without a worker, with one that fails and one that hangs was told, and who had its lease"
+
+
+def no_worker(place, lines):
+    """Steps wait and nobody has the lease: `recallctl` and `put.py` tell of the partition, and of no other one."""
+    time.sleep(1)
+    part = see("no worker", status_of(place), 1, lag=2, steps=2, replies=0, lease=None, holder=None)
+    if not 1 <= part["oldest"] < ANSWERS or "no worker" not in part["stuck"]:
+        raise Wrong(f"no worker: {part}")
+    status, said, _ = script(place, "recallctl", "status")
+    rows = [row.split()[0] for row in said.splitlines()[2:4]]
+    if status != 1 or rows != ["0", "1"] or "stuck: partition 0: 2 steps wait" not in said or "stuck: partition 1" in said:
+        raise Wrong(f"no worker: {status}, {said}")
+    if status_of(place, "1")[0] != 0:
+        raise Wrong("the other partition is told to be stuck")
+    given = b"".join(each + b"\n" for each in lines)
+    told = script(place, "put.py", "2", "--producer", "one", "--timeout", "1", given=given)
+    must("put.py without a worker", told, 6, "partition 0 owes 2;", "no worker has partition 0:")
+
+
+def bad_worker(place):
+    """A worker whose program ends leaves a fault, and that it had the lease."""
+    held = place.held(place.program, place.server.url)
+    until("its lease", held.has_lease)
+    os.kill(held.begun()[1], signal.SIGKILL)
+    held.end()
+    pid = held.process.pid
+    part = see("a fault", status_of(place), 0 if place.client.xlen(place.replies) == 2 else 1, lease=None, faults=1)
+    fault, holder = part["fault"], part["holder"]
+    if (fault["status"], fault["pid"], holder["pid"]) != (5, pid, pid) or not 0 <= fault["ago"] < ANSWERS or "-9" not in fault["why"]:
+        raise Wrong(f"a fault: {part}")
+
+
+def program_that_hangs(place):
+    """A worker whose program hangs has the lease, and the oldest step waits too long."""
+    held = place.held(place.program, place.server.url, 60_000)
+    try:
+        until("its lease", held.has_lease)
+        until("its replies", lambda: place.client.xlen(place.replies) == 2)
+        part = see("a worker", status_of(place), 0, lag=0, steps=2, replies=2, oldest=None, stuck=None)
+        if part["holder"]["pid"] != held.process.pid or not 0 < part["lease"]["lasts"] <= 60 or part["lease"]["number"] < 2:
+            raise Wrong(f"a worker: {part}")
+        os.kill(held.begun()[1], signal.SIGSTOP)
+        place.client.xadd(place.steps, {"from": "x", "number": "0", "line": "{}"})
+        time.sleep(0.5)
+        see("a program that hangs, for a moment", status_of(place), 0, lag=1)
+        part = see("a program that hangs", status_of(place, "--stuck", "0.3"), 1, lag=1)
+        if str(held.process.pid) not in part["stuck"]:
+            raise Wrong(f"a program that hangs: {part}")
+    finally:
+        os.kill(held.begun()[1], signal.SIGKILL)
+        held.end()
+
+
+# A file of lines that is followed.
+
+
+def followed(place):
+    """A producer that follows a file of lines is ended by SIGKILL again and again, as a service is: each reply is written once."""
+    given, taken = (os.path.join(place.room, name) for name in ("lines", "replies"))
+    words = ["1", "--producer", "one", "--redis", place.server.url, "--follow", given, taken]
+    lines = [line("open", units=["echo"]), *(line("post", unit=0, number=number, text="x") for number in range(400))]
+    wanted = b"".join(reply + b"\n" for reply in plain_run(place.program, lines))
+    start = lambda: subprocess.Popen([os.path.join(place.scripts, "put.py"), *words], stderr=subprocess.PIPE)
+    open(given, "wb").close()
+    with place.worker():
+        for at in range(0, len(lines), 50):
+            producer = start()
+            with open(given, "ab") as file:
+                file.writelines(each + b"\n" for each in lines[at : at + 50])
+            until("a reply", lambda: os.path.exists(taken) and os.path.getsize(taken) > at)
+            producer.kill()
+            producer.wait()
+            with open(taken, "ab") as file:
+                file.write(b"torn")
+        producer = start()
+        until("all replies", lambda: os.path.getsize(taken) >= len(wanted) and open(taken, "rb").read() == wanted)
+        must("a second one", (start().wait(), "", "another put.py\n"), 1, "another")
+        producer.kill()
+        producer.wait()
+        with open(taken, "r+b") as file:
+            file.write(b"?")
+            file.truncate(wanted.index(b"\n") + 1)
+        bad = start()
+        must("another file of replies", (bad.wait(), "", bad.stderr.read().decode()), 1, "delete it")
+    return f"{len(lines)} lines that came into a file have their replies in another, each once"
+
+
+ATTACKS = {
+    "slow-replies": slow_replies,
+    "long-replies": long_replies,
+    "other-lines": other_lines,
+    "no-numbers": no_numbers,
+    "server-gone": server_gone,
+    "stuck": stuck,
+    "followed": followed,
+}

@@ -10,7 +10,6 @@ not quiet is told, and nothing has changed. 2: bad words. 4: the server can't be
 """
 
 import json
-import sys
 import time
 
 from reaching import connect, told  # (this finds the modules of the folder above)
@@ -23,8 +22,8 @@ class Copy:
     """A replayed copy of a partition, and what its tenants have: units, and letters ever made."""
 
     def __init__(self, program, lease):
-        self.run, self.lease = running.Run(program), lease
-        lease.keep(self.run.is_stuck)
+        self.run, self.lease = running.Run(program, lease.check), lease
+        lease.keep(self.run)
         self.units, self.letters, self.count = {}, {}, 0
 
     def replay(self, steps):
@@ -67,7 +66,7 @@ def take(lease):
     while not lease.take():
         if time.monotonic() > until:
             raise Fault(1, "the partition has a worker: stop it first")
-        time.sleep(worker.PAUSE)
+        time.sleep(running.PAUSE)
 
 
 def replayed(server, stream, copy):

@@ -12,6 +12,7 @@ from running import Fault
 
 URL = os.environ.get("RECALL_REDIS", "redis://127.0.0.1:6379")
 AWAY = (redis.ConnectionError, redis.TimeoutError, redis.ReadOnlyError)  # (a server that may come back, or be promoted)
+NO_FUNCTIONS = "the server has no functions of recall, or others: redis-cli -x FUNCTION LOAD REPLACE < deploy/redis/recall.lua"
 CONNECT = 5  # (seconds in which a server must take a connection)
 # A server whose machine is gone says nothing: after 30 seconds without an answer from its system the connection is lost.
 SILENT = {socket.TCP_KEEPIDLE: 10, socket.TCP_KEEPINTVL: 5, socket.TCP_KEEPCNT: 4, socket.TCP_USER_TIMEOUT: 30_000}
@@ -52,5 +53,5 @@ def of_server(fault):
     if isinstance(fault, redis.ReadOnlyError):
         return Fault(4, "the server is a replica and takes no writes: name the primary, or promote it (REPLICAOF NO ONE)")
     if "unction not found" in why:
-        return Fault(1, "the server has no functions of recall: redis-cli -x FUNCTION LOAD REPLACE < deploy/redis/recall.lua")
+        return Fault(1, NO_FUNCTIONS)
     return Fault(3 if why.startswith("FENCED") else 1, f"refused: {why}")

@@ -7,8 +7,8 @@ It waits for the partition's lease, starts PROGRAM, and gives it the steps of th
 as the stream of replies has are dropped; those behind them are appended. Each write carries the lease with its fencing
 number, and the server refuses it where that is over (recall.lua). Whatever goes wrong ends the worker: start it anew.
 
-The lease is renewed each third of its time by a thread of its own, however long a reply is written or appended; but not while
-the program has steps in its hands and wrote nothing for the lease's time: then the lease runs out, and another worker goes on.
+The lease is renewed each third of its time by a thread of its own, however long a reply is written or appended. Where the
+program has steps in its hands and wrote nothing for the lease's time, the worker ends, and another one goes on.
 Replies are appended up to 8 MB at a time, unless one alone has more: the longest has 25 MB (1,024 outputs of 4,096 bytes,
 each of which takes six in JSON). A server that takes no words of 32 MB is a fault, before any step is read.
 
@@ -34,9 +34,9 @@ import redis
 import reaching
 from reaching import told  # (this finds the modules of the folder above)
 import running
-from running import Fault
+from running import PAUSE, Fault
 
-BATCH, AHEAD, PAUSE = 100, 4, 0.1  # (steps read at once, such batches that may wait for their replies, seconds)
+BATCH, AHEAD = 100, 4  # (steps read at once, and such batches that may wait for their replies)
 MOST, WORD = 8 << 20, 32 << 20  # (bytes: appended at once; of a word that a server must take)
 
 
@@ -87,16 +87,17 @@ class Lease:
         self.held = self.partition.call("take", keys, secrets.token_hex(8), self.length, socket.gethostname(), os.getpid())
         return self.held is not None
 
-    def keep(self, is_stuck):
-        """Renews it each third of its time from now on, on a connection of its own, whatever the caller waits for; but not
-        while `is_stuck` of as many seconds as it lasts."""
+    def keep(self, run):
+        """Renews it each third of its time from now on, on a connection of its own, whatever the caller waits for; but no more
+        once the run is stuck for as long as it lasts."""
 
         def renew():
             try:
                 while not self.is_over.wait(self.length / 3000):
-                    if not is_stuck(self.length / 1000):
-                        self.partition.call("renew", [self.key], self.held, self.length)
-            except redis.RedisError as fault:
+                    if run.is_stuck(self.length / 1000):
+                        raise Fault(5, f"the program has steps in its hands, and wrote nothing for {self.length / 1000:.0f} s")
+                    self.partition.call("renew", [self.key], self.held, self.length)
+            except (redis.RedisError, Fault) as fault:
                 self.fault = fault
 
         threading.Thread(target=renew, daemon=True).start()
@@ -215,8 +216,8 @@ def serve(partition, program, length, stopping, say):
     while not lease.take():
         if stopping.wait(PAUSE):
             return
-    run = running.Run(program)
-    lease.keep(run.is_stuck)
+    run = running.Run(program, lease.check)
+    lease.keep(run)
     try:
         worker = Worker(partition, lease, run)
         say(f"lease {lease.held.decode()}, {worker.streams[1]} has {worker.count}, program {run.process.pid}")
@@ -230,7 +231,7 @@ def note(partition, fault, say):
     """Notes in the server why a worker ended, if it can be reached."""
     status, why = fault.args
     try:
-        if status != 4:
+        if status != 4 and why != reaching.NO_FUNCTIONS:
             keys = [partition.key("fault"), partition.key("faults")]
             partition.call("fault", keys, socket.gethostname(), os.getpid(), status, why.encode(errors="replace")[:1000])
     except redis.RedisError as gone:
