@@ -320,7 +320,10 @@ def partition_no_numbers(place):
 def script(place, name, *words, url=None, given=b"{}\n"):
     """What a script does with these words at this address: its status, what it wrote, and its one line on standard error."""
     command = [os.path.join(place.scripts, name), *words, "--redis", url or place.server.url]
-    done = subprocess.run(command, input=given, capture_output=True, timeout=ANSWERS)
+    try:
+        done = subprocess.run(command, input=given, capture_output=True, timeout=ANSWERS)
+    except subprocess.TimeoutExpired:
+        raise Wrong(f"{name} didn't end in {ANSWERS} s")
     return done.returncode, done.stdout.decode(), done.stderr.decode()
 
 
@@ -508,34 +511,74 @@ def program_that_hangs(place):
 # A file of lines that is followed.
 
 
+class Follower:
+    """A producer that follows a file of lines, as a service does."""
+
+    def __init__(self, place, lines):
+        self.place, self.rest, self.producer = place, list(lines), None
+        self.given, self.taken = (os.path.join(place.room, name) for name in ("lines", "replies"))
+        open(self.given, "wb").close()
+        words = ["1", "--producer", "one", "--redis", place.server.url, "--follow", self.given, self.taken]
+        self.command = [os.path.join(place.scripts, "put.py"), *words]
+
+    def start(self):
+        return subprocess.Popen(self.command, stderr=subprocess.PIPE)
+
+    def add(self, count):
+        """Adds so many lines to the file."""
+        with open(self.given, "ab") as file:
+            file.writelines(each + b"\n" for each in self.rest[:count])
+        del self.rest[:count]
+
+    def has(self):
+        """What the file of replies has."""
+        with contextlib.suppress(FileNotFoundError), open(self.taken, "rb") as file:
+            return file.read()
+        return b""
+
+    @contextlib.contextmanager
+    def following(self):
+        """The producer runs meanwhile, and is ended by SIGKILL."""
+        self.producer = self.start()
+        try:
+            yield
+        finally:
+            self.producer.kill()
+            self.producer.wait()
+
+    def ends(self, what, *words):
+        """Another one ends with a fault."""
+        producer = self.start()
+        must(what, (producer.wait(ANSWERS), "", producer.stderr.read().decode()), 1, *words)
+
+
 def followed(place):
-    """A producer that follows a file of lines is ended by SIGKILL again and again, as a service is: each reply is written once."""
-    given, taken = (os.path.join(place.room, name) for name in ("lines", "replies"))
-    words = ["1", "--producer", "one", "--redis", place.server.url, "--follow", given, taken]
+    """Lines come into a file, and the producer that follows it is ended again and again: each reply is written once."""
     lines = [line("open", units=["echo"]), *(line("post", unit=0, number=number, text="x") for number in range(400))]
     wanted = b"".join(reply + b"\n" for reply in plain_run(place.program, lines))
-    start = lambda: subprocess.Popen([os.path.join(place.scripts, "put.py"), *words], stderr=subprocess.PIPE)
-    open(given, "wb").close()
+    follower = Follower(place, lines)
     with place.worker():
-        for at in range(0, len(lines), 50):
-            producer = start()
-            with open(given, "ab") as file:
-                file.writelines(each + b"\n" for each in lines[at : at + 50])
-            until("a reply", lambda: os.path.exists(taken) and os.path.getsize(taken) > at)
-            producer.kill()
-            producer.wait()
-            with open(taken, "ab") as file:
+        while follower.rest:
+            with follower.following():
+                before = len(follower.has())
+                follower.add(50)
+                until("a reply", lambda: len(follower.has()) > before)
+            with open(follower.taken, "ab") as file:
                 file.write(b"torn")
-        producer = start()
-        until("all replies", lambda: os.path.getsize(taken) >= len(wanted) and open(taken, "rb").read() == wanted)
-        must("a second one", (start().wait(), "", "another put.py\n"), 1, "another")
-        producer.kill()
-        producer.wait()
-        with open(taken, "r+b") as file:
-            file.write(b"?")
-            file.truncate(wanted.index(b"\n") + 1)
-        bad = start()
-        must("another file of replies", (bad.wait(), "", bad.stderr.read().decode()), 1, "delete it")
+    with follower.following():
+        with place.worker():
+            until("all replies", lambda: follower.has() == wanted)
+            follower.ends("a second one", "another put.py writes")
+        place.client.flushall()
+        with place.worker():  # (a server that forgot all while nothing was owed has all lines again)
+            place.answered(len(lines))
+            time.sleep(1)
+            if follower.producer.poll() is not None or follower.has() != wanted:
+                raise Wrong(f"a file of replies to lines that were put again: status {follower.producer.poll()}")
+    with open(follower.taken, "r+b") as file:
+        file.write(b"?")
+        file.truncate(wanted.index(b"\n") + 1)
+    follower.ends("another file of replies", "delete it")
     return f"{len(lines)} lines that came into a file have their replies in another, each once"
 
 

@@ -172,7 +172,7 @@ class Exchange:
 
     def give(self, lines):
         """Takes lines to be put behind those before."""
-        if self.is_done():
+        if self.is_done() and not self.gone:
             self.since = time.monotonic()
         self.places += [self.producer.add(line) for line in lines]
         self.is_sent = self.is_sent and not lines
@@ -199,7 +199,8 @@ class Exchange:
         while not self.is_done() and self.places[self.at] in self.found:
             yield self.found.pop(self.places[self.at])
             self.at, self.since = self.at + 1, time.monotonic()
-        if self.timeout and time.monotonic() - self.since > self.timeout and not self.is_done():
+        is_owed = self.gone or not self.is_done()
+        if self.timeout and time.monotonic() - self.since > self.timeout and is_owed:
             raise self.too_long()
 
     def too_long(self):
