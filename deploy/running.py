@@ -21,6 +21,26 @@ class Fault(Exception):
     """What ends a script: its status, and why."""
 
 
+class Away(Fault):
+    """A server that can't be reached now, and may come back."""
+
+    def __init__(self, why):
+        super().__init__(4, why)
+
+
+def count_of(count):
+    """How many partitions there are to be: the words of an operator."""
+    if not 0 < count <= 16_384:
+        raise Fault(1, f"{count} partitions can't be: there are 1 to 16,384")
+    return count
+
+
+def check_partition(name, number, count):
+    """Raises a fault where there is no partition of this number. A count of 0 isn't known yet."""
+    if number < 0 or count and number >= count:
+        raise Fault(2, f"{name} has no partition {number}" + (f": they are 0 to {count - 1}" if count else ""))
+
+
 def end(name, work):
     """Does the work, and ends the script with the status that it gives, if any; where it fails, with the fault's and one line
     that says why."""

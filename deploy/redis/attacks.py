@@ -10,7 +10,9 @@ import time
 
 import redis
 
-import put
+import put  # (this finds the modules of the folder above)
+import putting
+import running
 from trials import Held, Link, Wrong, free_port, plain_run, until
 
 LEASE = 1000  # (milliseconds: short, so that what takes longer than a lease takes little)
@@ -281,7 +283,7 @@ def no_numbers(place):
             place.client.xadd(place.steps, {"from": "bad", "number": number, "line": "", "more": "words"})
         place.client.xadd(place.steps, {"word": "alone"})
         lines = [line("open", units=["echo"])]
-        replies = put.put(put.Producer(place.client, place.partitions, "good"), put.Replies(place.client, place.partitions), lines)
+        replies = putting.put(put.Producer(place.client, place.partitions, "good"), put.Replies(place.client, place.partitions), lines)
         if list(replies) != plain_run(place.program, lines):
             raise Wrong("a step after the refused ones has another reply")
     return f"{len(NUMBERS)} numbers that are none were refused in each place, before anything was written"
@@ -438,7 +440,7 @@ def stuck(place):
     place.client.flushall()
     partitions = put.partitions_of(place.client, "recall", 2)
     producer = put.Producer(place.client, partitions, "one")
-    tenants = {put.partition_of(line("status", name), 2): name for name in "abcdefgh"}
+    tenants = {running.partition_of(line("status", name), 2): name for name in "abcdefgh"}
     lines = [line("status", tenants[0], unit=0), line("status", tenants[1], unit=0)] * 2
     see("before a step", status_of(place), 0, lag=0, steps=0, replies=0, lease=None, holder=None, fault=None, faults=0, oldest=None)
     other = Held([os.path.join(place.scripts, "worker.py"), place.program, "1", "--redis", place.server.url], 1)

@@ -16,14 +16,14 @@ from reaching import connect, told  # (this finds the modules of the folder abov
 import running
 from running import Fault
 import worker
+import working
 
 
 class Copy:
     """A replayed copy of a partition, and what its tenants have: units, and letters ever made."""
 
     def __init__(self, program, lease):
-        self.run, self.lease = running.Run(program, lease.check), lease
-        lease.keep(self.run)
+        self.run, self.lease = lease.run(program), lease
         self.units, self.letters, self.count = {}, {}, 0
 
     def replay(self, steps):
@@ -72,7 +72,7 @@ def take(lease):
 def replayed(server, stream, copy):
     """The copy, with all steps of the stream replayed."""
     last = b"0"
-    while steps := server.xrange(stream, b"(" + last, count=worker.BATCH):
+    while steps := server.xrange(stream, b"(" + last, count=working.BATCH):
         copy.replay(steps)
         last = steps[-1][0]
     return copy

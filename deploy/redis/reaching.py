@@ -8,10 +8,9 @@ import sys
 import redis
 
 sys.path.append(os.path.dirname(os.path.dirname(os.path.abspath(__file__))))
-from running import Fault
+from running import Away, Fault
 
 URL = os.environ.get("RECALL_REDIS", "redis://127.0.0.1:6379")
-AWAY = (redis.ConnectionError, redis.TimeoutError, redis.ReadOnlyError)  # (a server that may come back, or be promoted)
 NO_FUNCTIONS = "the server has no functions of recall, or others: redis-cli -x FUNCTION LOAD REPLACE < deploy/redis/recall.lua"
 CONNECT = 5  # (seconds in which a server must take a connection)
 # A server whose machine is gone says nothing: after 30 seconds without an answer from its system the connection is lost.
@@ -29,11 +28,6 @@ def connect(url, seconds=None):
         raise Fault(2, f"bad address of a server: {fault}")
 
 
-def is_refused(fault):
-    """Whether a server that was reached takes this user for nobody: to come again is of no use."""
-    return isinstance(fault, redis.AuthenticationError) or str(fault).startswith(("WRONGPASS", "NOPERM"))
-
-
 @contextlib.contextmanager
 def told():
     """Makes a server's fault one that ends the script."""
@@ -46,12 +40,12 @@ def told():
 def of_server(fault):
     """What a server's fault means to a script."""
     why = str(fault) or type(fault).__name__
-    if is_refused(fault):
+    if isinstance(fault, redis.AuthenticationError) or why.startswith(("WRONGPASS", "NOPERM")):
         return Fault(4, f"the server refuses this user or its password: {why}")
     if isinstance(fault, (redis.ConnectionError, redis.TimeoutError)):
-        return Fault(4, f"the server can't be reached: {why}")
+        return Away(f"the server can't be reached: {why}")
     if isinstance(fault, redis.ReadOnlyError):
-        return Fault(4, "the server is a replica and takes no writes: name the primary, or promote it (REPLICAOF NO ONE)")
+        return Away("the server is a replica and takes no writes: name the primary, or promote it (REPLICAOF NO ONE)")
     if "unction not found" in why:
         return Fault(1, NO_FUNCTIONS)
     return Fault(3 if why.startswith("FENCED") else 1, f"refused: {why}")

@@ -8,7 +8,7 @@ import tempfile
 
 import redis
 
-import reaching  # noqa: F401 (this finds the modules of the folder above)
+import reaching  # (this finds the modules of the folder above)
 from trials import Wrong, free_port, until
 
 HERE = os.path.dirname(os.path.abspath(__file__))
@@ -21,7 +21,7 @@ class Server:
         self.room, self.scripts = room, scripts
         self.port = free_port()
         self.url = f"redis://127.0.0.1:{self.port}"
-        self.client = redis.Redis.from_url(self.url)
+        self.client = reaching.connect(self.url)
         self.process = None
 
     def start(self, *more):

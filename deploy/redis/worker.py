@@ -21,23 +21,17 @@ can't be reached. 5: the program ended. A fault is noted in the server, if that 
 
 import argparse
 import os
-import queue
 import re
 import secrets
-import signal
 import socket
-import sys
-import threading
 
 import redis
 
-import reaching
-from reaching import told  # (this finds the modules of the folder above)
+import reaching  # (this finds the modules of the folder above)
 import running
 from running import PAUSE, Fault
-
-BATCH, AHEAD = 100, 4  # (steps read at once, and such batches that may wait for their replies)
-MOST, WORD = 8 << 20, 32 << 20  # (bytes: appended at once; of a word that a server must take)
+import working
+from working import BATCH, WORD, Step
 
 
 class Partition:
@@ -55,6 +49,13 @@ class Partition:
     def call(self, function, keys, *words):
         return self.server.fcall("recall_" + function, len(keys), *keys, *words)
 
+    @reaching.told()
+    def note(self, status, why):
+        """Notes why a worker ended, in a server that can be reached and has the functions."""
+        if status != 4 and why != reaching.NO_FUNCTIONS:
+            keys = [self.key("fault"), self.key("faults")]
+            self.call("fault", keys, socket.gethostname(), os.getpid(), status, why.encode(errors="replace")[:1000])
+
 
 def look_at_limits(server):
     """Raises a fault where the server says that it takes no word as long as the longest reply: it would end the connection
@@ -68,18 +69,19 @@ def look_at_limits(server):
             raise Fault(1, f"the server's {limit} is {most}, and a reply may need {WORD}")
 
 
-def number_of(step):
-    """The number that a producer gave the step, or nothing: what came into the stream otherwise may have any word there."""
-    number = step.get(b"number", b"")
-    return number if re.fullmatch(rb"0|[1-9][0-9]{0,14}", number) else b""
+def step_of(at, words):
+    """An entry of the stream of steps. Its number is the producer's, or nothing: what came into the stream otherwise may have
+    any word there."""
+    number = words.get(b"number", b"")
+    is_number = re.fullmatch(rb"0|[1-9][0-9]{0,14}", number)
+    return Step(at, words.get(b"line", b""), words.get(b"from", b""), number if is_number else b"")
 
 
 class Lease:
     """The right to write to a partition, as long as it is renewed. The server's clock alone counts."""
 
     def __init__(self, partition, length):
-        self.partition, self.key, self.length = partition, partition.key("lease"), length
-        self.is_over, self.fault = threading.Event(), None
+        self.partition, self.key, self.length, self.keeping = partition, partition.key("lease"), length, None
 
     def take(self):
         """Takes it, if nobody has it."""
@@ -87,106 +89,52 @@ class Lease:
         self.held = self.partition.call("take", keys, secrets.token_hex(8), self.length, socket.gethostname(), os.getpid())
         return self.held is not None
 
-    def keep(self, run):
-        """Renews it each third of its time from now on, on a connection of its own, whatever the caller waits for; but no more
-        once the run is stuck for as long as it lasts."""
+    def run(self, program):
+        """Starts a run of the program, and renews the lease from now on."""
+        run = running.Run(program, self.check)
+        self.keeping = working.Keeping(self.length / 1000, run, self.renew)
+        return run
 
-        def renew():
-            try:
-                while not self.is_over.wait(self.length / 3000):
-                    if run.is_stuck(self.length / 1000):
-                        raise Fault(5, f"the program has steps in its hands, and wrote nothing for {self.length / 1000:.0f} s")
-                    self.partition.call("renew", [self.key], self.held, self.length)
-            except (redis.RedisError, Fault) as fault:
-                self.fault = fault
-
-        threading.Thread(target=renew, daemon=True).start()
+    @reaching.told()
+    def renew(self):
+        self.partition.call("renew", [self.key], self.held, self.length)
 
     def check(self):
-        """Raises what stopped its renewal, if anything did."""
-        if self.fault:
-            raise self.fault
+        self.keeping.check()
 
-    def append(self, streams, count, replies):
-        """Appends these replies behind the first `count`, all at once. Each is a step's entry and its reply."""
-        words = [(at, step.get(b"from", b""), number_of(step), reply) for (at, step), reply in replies]
+    def append(self, streams, count, steps, replies):
+        """Appends these replies to these steps behind the first `count`, all at once."""
+        words = [(step.at, step.sender, step.number, reply) for step, reply in zip(steps, replies)]
         self.partition.call("append", [self.key, *streams], self.held, self.length, count, *sum(words, ()))
 
     def give_back(self):
         """Gives it back, if it is still there to be given."""
-        self.is_over.set()
+        if self.keeping:
+            self.keeping.is_over.set()
         self.partition.call("give_back", [self.key], self.held)
 
 
-class Worker:
-    """What a worker has while it holds its lease: the streams, the run, and how many replies are recorded."""
+class Worker(working.Worker):
+    """A worker of two streams."""
 
     def __init__(self, partition, lease, run):
-        self.server, self.lease, self.run = partition.server, lease, run
+        self.server, self.lease = partition.server, lease
         self.streams = [partition.key(stream, partition.epoch()) for stream in ("steps", "replies")]
-        self.drop = self.count = self.server.xlen(self.streams[1])
-        self.last = self.server.xrevrange(self.streams[1], count=1)
-        self.batches = queue.Queue(AHEAD)
+        last = [(at, words[b"reply"]) for at, words in self.server.xrevrange(self.streams[1], count=1)]
+        super().__init__(run, self.server.xlen(self.streams[1]), *(last or [None]))
 
-    def feed(self):
-        """Gives the run the steps from the first one on, batch by batch, for ever. A fault is passed on as a batch."""
+    def steps(self):
         last = b"0"
-        try:
-            while True:
-                for _, steps in self.server.xread({self.streams[0]: last}, count=BATCH, block=1000):
-                    self.batches.put(steps)
-                    self.run.give([step.get(b"line", b"") for _, step in steps])
-                    last = steps[-1][0]
-        except BrokenPipeError:
-            pass  # (the reply that is missing tells of it)
-        except Exception as fault:
-            self.batches.put(fault)
+        while True:
+            for _, entries in self.server.xread({self.streams[0]: last}, count=BATCH, block=1000):
+                yield [step_of(at, words) for at, words in entries]
+                last = entries[-1][0]
 
-    def is_recorded(self, at, reply):
-        """Whether the reply to this step is recorded. The last that is must be the recorded one, to the byte."""
-        if not self.drop:
-            return False
-        self.drop -= 1
-        if self.drop == 0:
-            [(was_at, was)] = self.last
-            if (at, reply) != (was_at, was[b"reply"]):
-                raise Fault(1, f"the reply to step {at} is {reply[:1000]}, and recorded is {was_at} {was[b'reply'][:1000]}")
-        return True
+    def append(self, steps, replies):
+        self.lease.append(self.streams, self.count, steps, replies)
 
-    def append(self, replies):
-        """Appends these replies, if there are any."""
-        if replies:
-            self.lease.append(self.streams, self.count, replies)
-            self.count += len(replies)
-
-    def record(self, steps):
-        """Takes the replies to these steps, and appends those that are new: no more at once than a server takes well."""
-        replies, size = [], 0
-        for at, step in steps:
-            reply = self.run.reply()
-            if self.is_recorded(at, reply):
-                continue
-            if size + len(reply) > MOST:
-                self.append(replies)
-                replies, size = [], 0
-            replies.append(((at, step), reply))
-            size += len(reply)
-        self.append(replies)
-
-    def work(self, stopping):
-        """Records replies until it is told to stop."""
-        threading.Thread(target=self.feed, daemon=True).start()
-        while not stopping.is_set():
-            self.lease.check()
-            try:
-                batch = self.batches.get(timeout=PAUSE)
-            except queue.Empty:
-                if self.run.process.poll() is not None:
-                    self.run.reply()  # (it has none, and that is the fault)
-                continue
-            if isinstance(batch, Exception):
-                raise batch
-            self.record(batch)
+    def check(self):
+        self.lease.check()
 
 
 def words_of(page):
@@ -200,15 +148,15 @@ def words_of(page):
     return reader.parse_args()
 
 
-def partition_of_words(words):
+@reaching.told()
+def reach(words):
     """The partition that the words name. Where the server knows how many there are, it must be one of them."""
     server = reaching.connect(words.redis)
-    count = int(server.get(f"{words.name}:partitions") or 0)
-    if words.partition < 0 or count and words.partition >= count:
-        raise Fault(2, f"{words.name} has no partition {words.partition}" + (f": they are 0 to {count - 1}" if count else ""))
+    running.check_partition(words.name, words.partition, int(server.get(f"{words.name}:partitions") or 0))
     return Partition(server, words.name, words.partition)
 
 
+@reaching.told()
 def serve(partition, program, length, stopping, say):
     """Waits for the lease, works until it is told to stop or something fails, and gives the lease back."""
     lease = Lease(partition, length)
@@ -216,8 +164,7 @@ def serve(partition, program, length, stopping, say):
     while not lease.take():
         if stopping.wait(PAUSE):
             return
-    run = running.Run(program, lease.check)
-    lease.keep(run)
+    run = lease.run(program)
     try:
         worker = Worker(partition, lease, run)
         say(f"lease {lease.held.decode()}, {worker.streams[1]} has {worker.count}, program {run.process.pid}")
@@ -227,38 +174,5 @@ def serve(partition, program, length, stopping, say):
         lease.give_back()
 
 
-def note(partition, fault, say):
-    """Notes in the server why a worker ended, if it can be reached."""
-    status, why = fault.args
-    try:
-        if status != 4 and why != reaching.NO_FUNCTIONS:
-            keys = [partition.key("fault"), partition.key("faults")]
-            partition.call("fault", keys, socket.gethostname(), os.getpid(), status, why.encode(errors="replace")[:1000])
-    except redis.RedisError as gone:
-        say(f"what follows can't be noted in the server: {gone}")
-
-
-def main():
-    words, stopping = words_of(__doc__), threading.Event()
-    name = f"worker of {words.name}:{words.partition}"
-    say = lambda what: print(f"{name}: {what}", file=sys.stderr, flush=True)
-    for number in (signal.SIGTERM, signal.SIGINT):
-        signal.signal(number, lambda *_: stopping.set())
-
-    def work():
-        program = running.program_file(words.program)
-        with told():
-            partition = partition_of_words(words)
-        try:
-            with told():
-                serve(partition, program, words.lease, stopping, say)
-        except Fault as fault:
-            note(partition, fault, say)
-            raise
-        say("ended")
-
-    running.end(name, work)
-
-
 if __name__ == "__main__":
-    main()
+    working.main(words_of(__doc__), reach, serve)
