@@ -1,6 +1,7 @@
 """What the tries of all engines stand on: waits, workers whose words are kept, a link that can be slow, cut and switched, and
 the steps that are tried."""
 
+import argparse
 import contextlib
 import json
 import os
@@ -10,11 +11,15 @@ import signal
 import socket
 import subprocess
 import sys
+import tempfile
 import threading
 import time
 
+from running import Away
+
 HERE = os.path.dirname(os.path.abspath(__file__))
-PARTITIONS, TENANTS, STEPS = 4, 200, 20_000
+PARTITIONS, TENANTS, STEPS, KILLS = 4, 200, 20_000, 20
+SECONDS, LEASE = 60, 1000  # (over which the steps come; milliseconds)
 
 
 class Wrong(Exception):
@@ -88,14 +93,14 @@ class Link(threading.Thread):
             threading.Thread(target=self.carry, args=ends, daemon=True).start()
 
     def carry(self, source, target):
-        with contextlib.suppress(OSError):  # (either side's end is the other's)
+        with contextlib.suppress(OSError):  # (its end, however it comes)
             while (piece := source.recv(1 << 16)) and not self.is_cut:
                 if self.rate:
                     time.sleep(len(piece) / self.rate)
                 target.sendall(piece)
-            if not self.is_cut:
-                target.shutdown(socket.SHUT_WR)
-                source.shutdown(socket.SHUT_RD)
+        for end in () if self.is_cut else (source, target):
+            with contextlib.suppress(OSError):  # (it has ended)
+                end.shutdown(socket.SHUT_RDWR)
 
     def cut(self):
         """Lets nothing through from now on, and tells neither side."""
@@ -161,6 +166,206 @@ def other_replies(places, owned, wanted, replies):
         plain.setdefault(name, []).append([reply])
         got.setdefault(name, []).append(replies.get(place, []))
     return [name for name in plain if plain[name] != got[name]], list(plain)
+
+
+class Source(threading.Thread):
+    """Puts the steps in over some time, whatever happens to the server, and puts in again what was lost."""
+
+    def __init__(self, producer, lines, told=contextlib.nullcontext):
+        super().__init__(daemon=True)
+        self.producer, self.told, self.lines, self.places, self.fault = producer, told, lines, [], None
+        self.has_all, self.is_open = False, True
+
+    def run(self):
+        begun = time.monotonic()
+        try:
+            while self.is_open:
+                due = int(len(self.lines) * (time.monotonic() - begun) / SECONDS)
+                self.places += [self.producer.add(line) for line in self.lines[len(self.places) : due]]
+                try:
+                    with self.told():
+                        self.has_all = self.producer.send() and len(self.places) == len(self.lines)
+                except Away:
+                    self.has_all = False
+                time.sleep(0.05)
+        except Exception as fault:
+            self.fault = fault
+
+
+class Sink(threading.Thread):
+    """Reads the replies on the way: what it has got has left, and can't be taken back."""
+
+    def __init__(self, replies, told=contextlib.nullcontext):
+        super().__init__(daemon=True)
+        self.replies, self.told = replies, told
+        self.got, self.fault, self.is_open = {}, None, True
+
+    def run(self):
+        try:
+            while self.is_open:
+                try:
+                    with self.told():
+                        for partition, _, number, reply in self.replies.read(100):
+                            self.got.setdefault((partition, number), []).append(reply)
+                except Away:
+                    time.sleep(0.1)
+        except Exception as fault:
+            self.fault = fault
+
+
+class Trial:
+    """One trial, with what was seen of it: steps that come, workers that record replies, a reader, and what happens to them. What
+    an engine adds: how many entries a stream has, what happens beside kills, and what is recorded at the end."""
+
+    def __init__(self, program, chance, owned, source, sink, fleet):
+        self.chance, self.owned, self.source, self.sink, self.fleet = chance, owned, source, sink, fleet
+        self.wanted = plain_run(program, source.lines)
+        self.kills, self.wrong = {"worker": 0, "program": 0}, []
+        until.watch = self.watch
+
+    def length(self, stream, partition):
+        """How many steps or replies a partition has."""
+        raise NotImplementedError
+
+    def events(self):
+        """What happens once each beside kills. One that gives `False` could not be had, and is tried again."""
+        return [self.pause, self.move]
+
+    def close(self):
+        """Ends what the engine has open."""
+
+    def recorded(self):
+        """All recorded replies, by partition and number."""
+        raise NotImplementedError
+
+    def watch(self):
+        """Ends the trial where a part of it has a fault."""
+        faults = [held.fault() for held in self.fleet.all] + [self.source.fault, self.sink.fault]
+        for fault in filter(None, faults):
+            raise Wrong(fault)
+
+    def say(self, what):
+        print(f"try: {what}", flush=True)
+
+    def kill(self):
+        """Ends a worker or its program, and sees it ended."""
+        whom, held = self.chance.choice(list(self.kills)), self.fleet.at_work(self.chance.randrange(PARTITIONS))
+        if whom == "worker":
+            held.process.kill()
+            is_killed = held.end()[0] == -signal.SIGKILL
+        else:
+            with contextlib.suppress(ProcessLookupError):
+                os.kill(held.begun()[1], signal.SIGKILL)
+            is_killed = held.end() == (5, f"worker of recall:{held.partition}: the program ended with status -9")
+        self.kills[whom] += is_killed
+        return is_killed
+
+    def stop(self, held):
+        """Stops a worker past its replay that has steps in its hands, whose replies wait in the pipe. It is not to be had
+        where the worker ended before, as it does where the server did."""
+        count, program = held.begun()
+        until("replies of the worker to be paused", lambda: self.length("replies", held.partition) > count)
+        with contextlib.suppress(ProcessLookupError):
+            os.kill(program, signal.SIGSTOP)
+            before = self.length("steps", held.partition)
+            until("steps to be answered", lambda: self.length("steps", held.partition) > before + 5)
+            time.sleep(0.3)
+            held.process.send_signal(signal.SIGSTOP)
+            os.kill(program, signal.SIGCONT)
+        return held.process.poll() is None
+
+    def pause(self):
+        """Pauses a worker past its lease while it waits for replies, and sees them refused."""
+        partition = self.chance.randrange(PARTITIONS)
+        held = self.fleet.at_work(partition)
+        if not self.stop(held):
+            return False
+        before = self.length("replies", partition)
+        _, new = self.fleet.replace(partition)
+        until("a lease past the paused one", new.has_lease)
+        until("replies of the next worker", lambda: self.length("replies", partition) > before)
+        held.process.send_signal(signal.SIGCONT)
+        try:
+            status, last = held.process.wait(5), held.end()[1]
+        except subprocess.TimeoutExpired:
+            status, last = "none, it goes on", ""
+        if status == 3 and "FENCED an append: the lease" in last:
+            self.say(f"paused past its lease: {last}")
+        else:
+            self.wrong.append(f"the paused worker's replies were not refused for its lease: status {status}, {last}")
+        return True
+
+    def move(self):
+        """Moves a partition: another worker waits for its lease, and the first one is told to stop."""
+        partition = self.chance.randrange(PARTITIONS)
+        self.fleet.at_work(partition)
+        old, new = self.fleet.replace(partition)
+        time.sleep(0.3)
+        if new.has_lease() and old.process.poll() is None:
+            raise Wrong("two workers have the lease of one partition")
+        old.process.terminate()
+        status, last = old.end()
+        begun = time.monotonic()
+        until("the lease of the next worker", new.has_lease)
+        if status == 4:
+            return False  # (it ended before, as it does where the server did)
+        if status != 0:
+            raise Wrong(f"a worker that was told to stop: status {status}, {last}")
+        self.say(f"moved: the next worker had the lease {time.monotonic() - begun:.1f} s after the first one's end")
+        return True
+
+    def happen(self):
+        """All that happens, at random moments while the steps come."""
+        begun, rest = time.monotonic(), self.events()
+        self.chance.shuffle(rest)
+        events = [self.kill] * KILLS
+        for event in rest:
+            events.insert(self.chance.randrange(2, KILLS - 4), event)  # (while steps still come)
+        moments = sorted(self.chance.uniform(1, SECONDS - 2) for _ in events)
+        for event, moment in zip(events, moments):
+            time.sleep(max(0, begun + moment - time.monotonic()))
+            while event() is False:
+                pass
+
+    def go(self):
+        self.source.start()
+        self.sink.start()
+        try:
+            self.happen()
+            until("all steps", lambda: self.source.has_all)
+            until("all replies", self.is_answered)
+        finally:
+            self.fleet.close()
+            self.source.is_open = self.sink.is_open = False
+            self.source.join()
+            self.sink.join()
+            self.close()
+
+    def is_answered(self):
+        return sum(self.length("replies", each) for each in range(PARTITIONS)) >= STEPS and len(self.sink.got) >= STEPS
+
+    def check(self):
+        """Everything that must be so at the end."""
+        self.watch()
+        if sum(self.kills.values()) != KILLS:
+            self.wrong.append(f"kills: {self.kills}")
+        self.check_replies("recorded", self.recorded())
+        self.check_replies("read on the way", self.sink.got)
+        self.check_replies("seen by the reader", {place: list(seen) for place, seen in self.sink.replies.seen.items()})
+        if self.wrong:
+            raise Wrong("; ".join(self.wrong))
+
+    def tell(self):
+        """Tells what was seen."""
+        self.say(f"{STEPS} steps of {TENANTS} tenants have the replies of one plain run, each once")
+        kills = ", ".join(f"{count} of {whom}s" for whom, count in self.kills.items())
+        self.say(f"kills: {kills}; workers in all: {len(self.fleet.all)}")
+
+    def check_replies(self, how, replies):
+        """Each step has one reply, and each tenant's, and those to lines without one, are the plain run's."""
+        other, names = other_replies(self.source.places, self.owned, self.wanted, replies)
+        if other or len(replies) != STEPS:
+            self.wrong.append(f"{how}: {len(replies)} steps have replies, and those of {len(other)} of {len(names)} tenants differ")
 
 
 # The steps.
@@ -262,3 +467,29 @@ def planted(room, folder, faults):
         with open(path, "w") as changed:
             changed.write(text.replace(old, new))
     return os.path.join(scripts, folder)
+
+
+def main(page, plants, parts, attempt):
+    """Tries what the words of the command line ask for: `attempt` takes them, and a folder."""
+    reader = argparse.ArgumentParser(description=page, formatter_class=argparse.RawDescriptionHelpFormatter)
+    reader.add_argument("program", type=os.path.abspath)
+    reader.add_argument("--seed", type=int, default=random.randrange(10**6))
+    reader.add_argument("--plant", choices=plants)
+    reader.add_argument("--only", choices=parts)
+    reader.add_argument("--tenants", type=int, default=1)
+    reader.add_argument("--keep", action="store_true")
+    words = reader.parse_args()
+    print(f"try: seed {words.seed}", flush=True)
+    signal.signal(signal.SIGTERM, lambda *_: sys.exit("try: told to end"))
+    begun = time.monotonic()
+    room = tempfile.mkdtemp(prefix="recall-try-")
+    try:
+        attempt(words, room)
+    except Wrong as wrong:
+        sys.exit(f"try: FAILED: {wrong} (seed {words.seed})")
+    finally:
+        if words.keep:
+            print(f"try: its folder is {room}", flush=True)
+        else:
+            shutil.rmtree(room)
+    print(f"try: as it must be, in {time.monotonic() - begun:.0f} seconds")

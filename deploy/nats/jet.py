@@ -1,0 +1,221 @@
+"""A client of NATS JetStream over its text protocol, as much as the recipe needs. Python has no other one in Debian's packages.
+
+A connection is one thread's, and is never made anew by itself: who loses one is told (`Away`), and begins with what the server
+has then. It speaks no TLS. https://docs.nats.io/reference/reference-protocols has the protocol and the API.
+"""
+
+import json
+import os
+import secrets
+import socket
+import sys
+import time
+from urllib.parse import unquote, urlsplit
+
+sys.path.append(os.path.dirname(os.path.dirname(os.path.abspath(__file__))))
+from running import Away, Fault
+
+URL = os.environ.get("RECALL_NATS", "nats://127.0.0.1:4222")
+CONNECT, ANSWER = 5, 30  # (seconds in which a server must take a connection, and answer)
+# A server whose machine is gone says nothing: after 30 seconds without an answer from its system the connection is lost.
+SILENT = {socket.TCP_KEEPIDLE: 10, socket.TCP_KEEPINTVL: 5, socket.TCP_KEEPCNT: 4, socket.TCP_USER_TIMEOUT: 30_000}
+NO_STREAM, NO_MESSAGE, OTHER_STREAM = 10059, 10037, 10058  # (numbers of JetStream's refusals)
+STALE = {10070, 10071}  # (the last message isn't the expected one)
+
+
+class Refused(Exception):
+    """What JetStream refuses: its number, and why."""
+
+
+class Message:
+    """A message: its headers, its status where it is none but tells of one, and its bytes."""
+
+    def __init__(self, reply, head, payload):
+        self.reply, self.payload, self.headers, self.status = reply, payload, {}, None
+        if head:
+            first, *lines = head.split("\r\n")
+            self.status = int(first.split()[1]) if len(first.split()) > 1 else None
+            self.headers = dict(line.split(": ", 1) for line in lines if ": " in line)
+
+    def sequence(self):
+        """Its number in its stream, where a consumer gave it."""
+        return int(self.reply.split(".")[5])
+
+
+class Connection:
+    """A connection to a server."""
+
+    def __init__(self, url):
+        self.url, self.rest, self.count, self.answers, self.pulled = url, bytearray(), 0, {}, []
+        where = urlsplit(url if "//" in url else f"nats://{url}")
+        self.inbox = f"_INBOX.{secrets.token_hex(11)}"
+        try:
+            if where.scheme != "nats" or not where.hostname:
+                raise ValueError("it is nats://[USER:PASSWORD@]HOST[:PORT]")
+            self.socket = self.open(where.hostname, where.port or 4222)
+        except ValueError as fault:
+            raise Fault(2, f"bad address of a server: {fault}")
+        except OSError as fault:
+            raise Away(f"the server can't be reached: {fault}")
+        self.greet(where)
+
+    def open(self, host, port):
+        link = socket.create_connection((host, port), CONNECT)
+        link.setsockopt(socket.SOL_SOCKET, socket.SO_KEEPALIVE, 1)
+        for option, value in {**SILENT, socket.TCP_NODELAY: 1}.items():
+            link.setsockopt(socket.IPPROTO_TCP, option, value)
+        return link
+
+    def greet(self, where):
+        """Takes the server's greeting, and tells who this is."""
+        until = time.monotonic() + CONNECT
+        info = json.loads(self.line(until).removeprefix(b"INFO "))
+        if info.get("tls_required"):
+            raise Fault(2, "the server wants TLS, which this client doesn't speak")
+        self.most = info["max_payload"]
+        words = {"verbose": False, "pedantic": False, "headers": True, "no_responders": True, "lang": "recall", "version": "1"}
+        if where.username and where.password is None:
+            words["auth_token"] = unquote(where.username)
+        elif where.username:
+            words |= {"user": unquote(where.username), "pass": unquote(where.password)}
+        self.write(b"CONNECT %b\r\nSUB %b.a.* 1\r\nSUB %b.p 2\r\nPING\r\n" % (json.dumps(words).encode(), *[self.inbox.encode()] * 2))
+        while self.take(until) != b"PONG":
+            pass
+
+    # Bytes.
+
+    def lost(self, why):
+        return Away(f"the server can't be reached: {why or 'it ended the connection'}")
+
+    def write(self, *pieces):
+        self.socket.settimeout(None)  # (a long reply may take long; a server that is gone is found out by SILENT)
+        try:
+            self.socket.sendall(b"".join(pieces))
+        except OSError as fault:
+            raise self.lost(fault.strerror)
+
+    def more(self, until):
+        """Waits for more bytes; `TimeoutError` where none come."""
+        self.socket.settimeout(max(until - time.monotonic(), 0.001))
+        try:
+            piece = self.socket.recv(1 << 18)
+        except TimeoutError:
+            raise
+        except OSError as fault:
+            raise self.lost(fault.strerror)
+        if not piece:
+            raise self.lost(None)
+        self.rest += piece
+
+    def line(self, until):
+        while (end := self.rest.find(b"\r\n")) < 0:
+            self.more(until)
+        line = bytes(self.rest[:end])
+        del self.rest[: end + 2]
+        return line
+
+    def take(self, until):
+        """Takes what the server says next: a message is put where it is waited for. Gives the line's first word."""
+        try:
+            line = self.line(until)
+        except TimeoutError:
+            raise self.lost("it didn't answer in time") if until - time.monotonic() < -CONNECT else TimeoutError
+        word, _, words = line.partition(b" ")
+        if word in (b"MSG", b"HMSG"):
+            self.take_message(word, words.decode().split())
+        elif word == b"PING":
+            self.write(b"PONG\r\n")
+        elif word == b"-ERR" and b"Authorization" in words:
+            raise Fault(4, f"the server refuses this user or its password: {words.decode()}")
+        elif word == b"-ERR":
+            raise self.lost(words.decode())
+        return word
+
+    def take_message(self, word, words):
+        subject, kind, size = words[0], words[1], int(words[-1])
+        head = int(words[-2]) if word == b"HMSG" else 0
+        reply = words[2] if len(words) == (5 if head else 4) else ""
+        until = time.monotonic() + ANSWER
+        while len(self.rest) < size + 2:
+            try:
+                self.more(until)
+            except TimeoutError:
+                raise self.lost("it stopped in the midst of a message")
+            until = time.monotonic() + ANSWER
+        text = bytes(self.rest[:size])
+        del self.rest[: size + 2]
+        message = Message(reply, text[:head].decode(errors="replace"), text[head:])
+        if kind == "1":
+            self.answers[subject.rpartition(".")[2]] = message
+        else:
+            self.pulled.append(message)
+
+    # Questions.
+
+    def ask(self, subject, payload=b"", **headers):
+        """Sends a message that is to be answered; gives the token of its answer."""
+        self.count += 1
+        reply, payload = f"{self.inbox}.a.{self.count}", payload if isinstance(payload, bytes) else json.dumps(payload).encode()
+        head = "".join(f"{name.replace('_', '-')}: {value}\r\n" for name, value in headers.items())
+        if head:
+            head = f"NATS/1.0\r\n{head}\r\n".encode()
+            first = f"HPUB {subject} {reply} {len(head)} {len(head) + len(payload)}\r\n".encode()
+        else:
+            head, first = b"", f"PUB {subject} {reply} {len(payload)}\r\n".encode()
+        self.write(first, head, payload, b"\r\n")
+        return str(self.count)
+
+    def answer(self, token):
+        """Waits for an answer of JetStream: `Refused` where it is a refusal."""
+        until = time.monotonic() + ANSWER
+        while token not in self.answers:
+            try:
+                self.take(until)
+            except TimeoutError:
+                raise self.lost(f"it hasn't answered in {ANSWER} s")
+        message = self.answers.pop(token)
+        if message.status == 503:
+            raise Fault(1, "the server has no JetStream here: deploy/nats/start begins one that has it")
+        said = json.loads(message.payload)
+        if error := said.get("error"):
+            raise Refused(error.get("err_code", 0), error.get("description", ""))
+        return said
+
+    def call(self, subject, payload=b"", **headers):
+        return self.answer(self.ask(subject, payload, **headers))
+
+    def api(self, what, **words):
+        return self.call(f"$JS.API.{what}", words)
+
+    def meanwhile(self):
+        """Takes what has come, such as the server's question whether anybody is there."""
+        try:
+            while True:
+                self.take(time.monotonic())
+        except TimeoutError:
+            pass  # (nothing more has come)
+
+    # Streams.
+
+    def stream(self, name, **words):
+        """Makes a stream, unless it is there."""
+        try:
+            self.api(f"STREAM.CREATE.{name}", name=name, storage="file", **words)
+        except Refused as refused:
+            raise Fault(1, f"the stream {name} can't be made: {refused.args[1]}")
+
+    def state(self, name):
+        return self.api(f"STREAM.INFO.{name}")["state"]
+
+    def last(self, stream, subject):
+        """The last message of a subject, or nothing: its number, its headers and its bytes."""
+        import base64
+
+        try:
+            found = self.api(f"STREAM.MSG.GET.{stream}", last_by_subj=subject)["message"]
+        except Refused as refused:
+            if refused.args[0] == NO_MESSAGE:
+                return None
+            raise
+        text = lambda word: base64.b64decode(found.get(word, ""))
+        return found["seq"], Message("", text("hdrs").decode(), text("data"))
