@@ -1,7 +1,8 @@
 """A producer, whatever the engine: lines of its own, each put once and in order, and their replies.
 
-A producer's name is for one list of lines. With the number of each line goes a digest of it and all before it: so two runs of
-one name know whether all their lines are the same. What an engine adds: how lines are put, and how replies are read.
+A producer's name is for one list of lines. With the number of each line goes a digest of it and all before it: so two
+runs of one name know whether all their lines are the same. What an engine adds: how lines are put, and how replies are
+read.
 """
 
 import argparse
@@ -26,9 +27,9 @@ class Other(Fault):
 
 
 class Lines:
-    """The lines of a producer, by partitions. It keeps them all, to give those again that were lost. `next` of a partition is
-    the number of the line that the server waits for. One that begins anew under a name that has put lines must have all of
-    these, and perhaps more, before it sends."""
+    """The lines of a producer, by partitions. It keeps them all, to give those again that were lost. `next` of a
+    partition is the number of the line that the server waits for. One that begins anew under a name that has put lines
+    must have all of these, and perhaps more, before it sends."""
 
     def __init__(self, name, partitions):
         self.name, self.lines = name, [[] for _ in range(partitions)]
@@ -55,8 +56,8 @@ class Lines:
 
 
 class Exchange:
-    """Lines that are put, and their replies in the order of the lines. `producer` has `add`, `send` and `alone`; `replies` has
-    `read`; `told` is a context in which an engine's faults are those of `running`."""
+    """Lines that are put, and their replies in the order of the lines. `producer` has `add`, `send` and `alone`;
+    `replies` has `read`; `told` is a context in which an engine's faults are those of `running`."""
 
     def __init__(self, producer, replies, timeout=0, told=contextlib.nullcontext):
         self.producer, self.replies, self.timeout, self.told = producer, replies, timeout, told
@@ -90,8 +91,9 @@ class Exchange:
             raise self.too_long()
 
     def put_and_read(self):
-        """Puts some lines and reads some replies. None is read before the server has told that the producer's lines are these.
-        It is asked each second, since a connection that was lost between two calls may be made anew and not told of."""
+        """Puts some lines and reads some replies. None is read before the server has told that the producer's lines are
+        these. It is asked each second, since a connection that was lost between two calls may be made anew and not told
+        of."""
         if not self.is_sent or time.monotonic() - self.asked > AGAIN:
             self.is_sent, self.asked = self.producer.send(), time.monotonic()
         for partition, name, number, reply in self.replies.read(100 if self.is_sent else 1):
@@ -99,7 +101,8 @@ class Exchange:
                 self.found[partition, number] = reply
 
     def too_long(self):
-        """The fault where no reply came for too long: which partitions owe replies, and which of these have no worker."""
+        """The fault where no reply came for too long: which partitions owe replies, and which of these have no
+        worker."""
         if self.gone:
             return self.gone
         owed = collections.Counter(at for at, number in self.places[self.at :] if (at, number) not in self.found)

@@ -1,7 +1,7 @@
 """What the scripts on any engine stand on: how one ends, the run of the program, and the partition of a line.
 
-A script that fails says why in one line, and ends with one of these statuses. 1: a fault. 2: bad words. 3: fenced, a write was
-refused. 4: the server can't be reached. 5: the program ended. 6: no reply for so long.
+A script that fails says why in one line, and ends with one of these statuses. 1: a fault. 2: bad words. 3: fenced, a
+write was refused. 4: the server can't be reached. 5: the program ended. 6: no reply for so long.
 """
 
 import collections
@@ -42,8 +42,8 @@ def check_partition(name, number, count):
 
 
 def end(name, work):
-    """Does the work, and ends the script with the status that it gives, if any; where it fails, with the fault's and one line
-    that says why."""
+    """Does the work, and ends the script with the status that it gives, if any; where it fails, with the fault's and
+    one line that says why."""
     try:
         status = work() or 0
     except Fault as fault:
@@ -59,8 +59,8 @@ def end(name, work):
 
 
 def program_file(path):
-    """The whole path of a program. What isn't one is refused: what a script runs may be another program a moment later, and
-    one epoch has one."""
+    """The whole path of a program. What isn't one is refused: what a script runs may be another program a moment later,
+    and one epoch has one."""
     try:
         with open(path, "rb") as file:
             is_program = file.read(4) == b"\x7fELF"

@@ -12,6 +12,7 @@ A partition is told in the words of `--json`: times are in seconds, and what isn
 The server is told by `at`, where it is, `words`, and `wrong`: what keeps it from going on.
 """
 
+import argparse
 import json
 
 STUCK = 60  # (seconds for which the oldest step may wait)
@@ -85,3 +86,15 @@ def tell(name, server, parts, stuck, is_json):
         for part in stopped:
             print(f"stuck: partition {part['partition']}: {part['stuck']}")
     return 1 if stopped or server["wrong"] else 0
+
+
+def words_of(page, server, address):
+    """The words of a `recallctl`, whose server is named by `--server`."""
+    reader = argparse.ArgumentParser(description=page, formatter_class=argparse.RawDescriptionHelpFormatter)
+    reader.add_argument("what", choices=["status"])
+    reader.add_argument("partitions", type=int, nargs="*")
+    reader.add_argument(f"--{server}", dest="server", default=address)
+    reader.add_argument("--name", default="recall")
+    reader.add_argument("--stuck", type=float, default=STUCK)
+    reader.add_argument("--json", action="store_true")
+    return reader.parse_intermixed_args()

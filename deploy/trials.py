@@ -1,5 +1,5 @@
-"""What the tries of all engines stand on: waits, workers whose words are kept, a link that can be slow, cut and switched, and
-the steps that are tried."""
+"""What the tries of all engines stand on: waits, workers whose words are kept, a link that can be slow, cut and
+switched, and the steps that are tried."""
 
 import argparse
 import contextlib
@@ -19,7 +19,8 @@ from running import Away
 
 HERE = os.path.dirname(os.path.abspath(__file__))
 PARTITIONS, TENANTS, STEPS, KILLS = 4, 200, 20_000, 20
-SECONDS, LEASE = 60, 1000  # (over which the steps come; milliseconds)
+SECONDS, LEASE, ANSWERS = 60, 1000, 15  # (over which the steps come; milliseconds; in which a script must end)
+TEXTS, LONG = 1024, "\x01" * 4096  # (held outputs of a unit at most; a text of the most bytes: each takes six in JSON)
 
 
 class Wrong(Exception):
@@ -62,9 +63,9 @@ def free_port():
 
 
 class Link(threading.Thread):
-    """A link to a server: a port of the loopback, each of whose connections is carried on to the server's port, where a rate is
-    given at so many bytes a second. It can be cut, while connections last and nothing gets through, and switched to another
-    server, when they end."""
+    """A link to a server: a port of the loopback, each of whose connections is carried on to the server's port, where a
+    rate is given at so many bytes a second. It can be cut, while connections last and nothing gets through, and
+    switched to another server, when they end."""
 
     def __init__(self, port, rate=None):
         super().__init__(daemon=True)
@@ -141,7 +142,8 @@ class Held:
         return int(words[words.index("has") + 1].strip(",")), int(words[-1])
 
     def fault(self):
-        """Why it ended by itself, if it did: not by a kill, a lost lease, or the end of the server or of its program."""
+        """Why it ended by itself, if it did: not by a kill, a lost lease, or the end of the server or of its
+        program."""
         if self.process.poll() not in (None, 0, 3, 4, 5, -signal.SIGKILL):
             return f"a worker ended with status {self.process.returncode}: {self.said[-1:]}"
 
@@ -159,8 +161,8 @@ def plain_run(program, lines):
 
 
 def other_replies(places, owned, wanted, replies):
-    """The names of tenants whose replies aren't those of the plain run, each once, and all names. `places` has for each line
-    where it is, `owned` whose it is, `wanted` its reply, and `replies` those that were given to the place."""
+    """The names of tenants whose replies aren't those of the plain run, each once, and all names. `places` has for each
+    line where it is, `owned` whose it is, `wanted` its reply, and `replies` those that were given to the place."""
     plain, got = {}, {}
     for place, (name, _), reply in zip(places, owned, wanted, strict=True):
         plain.setdefault(name, []).append([reply])
@@ -214,8 +216,9 @@ class Sink(threading.Thread):
 
 
 class Trial:
-    """One trial, with what was seen of it: steps that come, workers that record replies, a reader, and what happens to them. What
-    an engine adds: how many entries a stream has, what happens beside kills, and what is recorded at the end."""
+    """One trial, with what was seen of it: steps that come, workers that record replies, a reader, and what happens to
+    them. What an engine adds: how many entries a stream has, what happens beside kills, and what is recorded at the
+    end."""
 
     def __init__(self, program, chance, owned, source, sink, fleet):
         self.chance, self.owned, self.source, self.sink, self.fleet = chance, owned, source, sink, fleet
@@ -261,8 +264,8 @@ class Trial:
         return is_killed
 
     def stop(self, held):
-        """Stops a worker past its replay that has steps in its hands, whose replies wait in the pipe. It is not to be had
-        where the worker ended before, as it does where the server did."""
+        """Stops a worker past its replay that has steps in its hands, whose replies wait in the pipe. It is not to be
+        had where the worker ended before, as it does where the server did."""
         count, program = held.begun()
         until("replies of the worker to be paused", lambda: self.length("replies", held.partition) > count)
         with contextlib.suppress(ProcessLookupError):
@@ -368,7 +371,44 @@ class Trial:
             self.wrong.append(f"{how}: {len(replies)} steps have replies, and those of {len(other)} of {len(names)} tenants differ")
 
 
+# Scripts that are run, and programs.
+
+
+def outcome(command, given=b"{}\n"):
+    """What a script does: its status, what it wrote, and its words on standard error."""
+    try:
+        done = subprocess.run(command, input=given, capture_output=True, timeout=ANSWERS)
+    except subprocess.TimeoutExpired:
+        raise Wrong(f"{os.path.basename(command[0])} didn't end in {ANSWERS} s")
+    return done.returncode, done.stdout.decode(), done.stderr.decode()
+
+
+def must(what, told, status, *words):
+    """The script ended with this status, and one line that has these words."""
+    got, _, line = told
+    if got != status or line.count("\n") != 1 or not all(word in line for word in words):
+        raise Wrong(f"{what}: status {got}, and not {status} and a line with {words}: {line[-400:]!r}")
+
+
+def slow_program(program, rate, room):
+    """A program that passes on what the program writes, slowly."""
+    path = os.path.join(room, "slow")
+    words = ["-DPROGRAM=" + json.dumps(program), f"-DRATE={rate}", "-o", path, os.path.join(HERE, "slow.c")]
+    subprocess.run(["cc", "-O2", *words], check=True)
+    return path
+
+
 # The steps.
+
+
+def line(do, tenant="a", **keys):
+    return json.dumps({"do": do, "tenant": tenant, **keys}, sort_keys=True, separators=(",", ":")).encode()
+
+
+def one_long_reply(tenant):
+    """Lines of a tenant whose last one is answered by 25 MB."""
+    posts = [line("post", tenant, unit=0, number=number, text=LONG) for number in range(TEXTS)]
+    return [line("open", tenant, units=["echo"]), *posts, line("flush", tenant, unit=0), line("release", tenant, unit=0)]
 
 
 def tenant_lines(name, chance):
@@ -455,7 +495,8 @@ class Fleet:
 
 
 def planted(room, folder, faults):
-    """The folder of an engine's scripts in a copy, with these faults in them: each a file, and what is put for what in it."""
+    """The folder of an engine's scripts in a copy, with these faults in them: each a file, and what is put for what in
+    it."""
     scripts = os.path.join(room, "scripts")
     shutil.copytree(HERE, scripts)
     for file, old, new in faults:

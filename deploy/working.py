@@ -1,5 +1,6 @@
-"""A worker of one partition, whatever the engine: it feeds the partition's steps to a run of the program, in order, and has each
-reply recorded that isn't. What an engine adds: how steps are read, how replies are appended, and what a lease is there."""
+"""A worker of one partition, whatever the engine: it feeds the partition's steps to a run of the program, in order, and
+has each reply recorded that isn't. What an engine adds: how steps are read, how replies are appended, and what a lease
+is there."""
 
 import collections
 import queue
@@ -18,8 +19,8 @@ Step = collections.namedtuple("Step", "at line sender number")
 
 
 class Keeping(threading.Thread):
-    """Renews a lease each third of its time, on a connection of its own, whatever the worker waits for; but no more once the
-    run is stuck for as long as it lasts. `renew` raises a fault where the lease is lost."""
+    """Renews a lease each third of its time, on a connection of its own, whatever the worker waits for; but no more
+    once the run is stuck for as long as it lasts. `renew` raises a fault where the lease is lost."""
 
     def __init__(self, seconds, run, renew):
         super().__init__(daemon=True)
@@ -43,8 +44,8 @@ class Keeping(threading.Thread):
 
 
 class Worker:
-    """What a worker has while it holds its lease: the run, how many replies are recorded, and the last of these with its
-    step's place."""
+    """What a worker has while it holds its lease: the run, how many replies are recorded, and the last of these with
+    its step's place."""
 
     def __init__(self, run, count, last):
         self.run, self.count, self.drop, self.last = run, count, count, last
@@ -90,7 +91,8 @@ class Worker:
             self.count += len(replies)
 
     def record(self, steps):
-        """Takes the replies to these steps, and appends those that are new: no more at once than a server takes well."""
+        """Takes the replies to these steps, and appends those that are new: no more at once than a server takes
+        well."""
         those, replies, size = [], [], 0
         for step in steps:
             reply = self.run.reply()
@@ -121,8 +123,9 @@ class Worker:
 
 
 def main(words, reach, serve):
-    """Runs a worker of these words until it is told to stop. `reach` gives the partition. `serve` takes it, the program's file,
-    the event of being told, and what says a line; `note` of the partition takes the status and the line of a fault."""
+    """Runs a worker of these words until it is told to stop. `reach` gives the partition. `serve` takes it, the
+    program's file, the event of being told, and what says a line; `note` of the partition takes the status and the line
+    of a fault."""
     stopping, name = threading.Event(), f"worker of {words.name}:{words.partition}"
     say = lambda what: print(f"{name}: {what}", file=sys.stderr, flush=True)
     for number in (signal.SIGTERM, signal.SIGINT):

@@ -1,11 +1,16 @@
-"""A client of NATS JetStream over its text protocol, as much as the recipe needs. Python has no other one in Debian's packages.
+"""A client of NATS JetStream over its text protocol, as much as the recipe needs. Python has no other one in Debian's
+packages.
 
-A connection is one thread's, and is never made anew by itself: who loses one is told (`Away`), and begins with what the server
-has then. It speaks no TLS. https://docs.nats.io/reference/reference-protocols has the protocol and the API.
+A connection is one thread's, and is never made anew by itself: who loses one is told (`Away`), and begins with what the
+server has then. It speaks no TLS. https://docs.nats.io/reference/reference-protocols has the protocol and the API.
 """
 
+import base64
+import contextlib
+import datetime
 import json
 import os
+import re
 import secrets
 import socket
 import sys
@@ -17,21 +22,39 @@ from running import Away, Fault
 
 URL = os.environ.get("RECALL_NATS", "nats://127.0.0.1:4222")
 CONNECT, ANSWER = 5, 30  # (seconds in which a server must take a connection, and answer)
-# A server whose machine is gone says nothing: after 30 seconds without an answer from its system the connection is lost.
+# A server whose machine is gone says nothing: after 30 seconds without an answer from its system the connection is
+# lost.
 SILENT = {socket.TCP_KEEPIDLE: 10, socket.TCP_KEEPINTVL: 5, socket.TCP_KEEPCNT: 4, socket.TCP_USER_TIMEOUT: 30_000}
-NO_STREAM, NO_MESSAGE, OTHER_STREAM = 10059, 10037, 10058  # (numbers of JetStream's refusals)
-STALE = {10070, 10071}  # (the last message isn't the expected one)
+AT_ONCE, LARGEST = 100, 32 << 20  # (messages that are read at once, and their bytes: one of the longest must be among them)
+EXPIRES, IDLE = 5 * 10**9, 60 * 10**9  # (nanoseconds: until a question for messages is over; until a reader is forgotten)
+NO_MESSAGE, GONE = 10037, 10057  # (numbers of JetStream's refusals)
 
 
 class Refused(Exception):
     """What JetStream refuses: its number, and why."""
 
 
+@contextlib.contextmanager
+def told():
+    """Makes a refusal that nobody waited for one that ends the script."""
+    try:
+        yield
+    except Refused as refused:
+        raise Fault(1, f"refused: {refused.args[1]}") from refused
+
+
+def name(text):
+    """The name of a set of partitions, which is part of names of streams."""
+    if not re.fullmatch("[A-Za-z0-9_-]{1,64}", text):
+        raise Fault(2, f"the name {text} can't be a stream's: it is of letters, digits, _ and -")
+    return text
+
+
 class Message:
     """A message: its headers, its status where it is none but tells of one, and its bytes."""
 
     def __init__(self, reply, head, payload):
-        self.reply, self.payload, self.headers, self.status = reply, payload, {}, None
+        self.reply, self.payload, self.headers, self.status, self.time = reply, payload, {}, None, None
         if head:
             first, *lines = head.split("\r\n")
             self.status = int(first.split()[1]) if len(first.split()) > 1 else None
@@ -46,7 +69,7 @@ class Connection:
     """A connection to a server."""
 
     def __init__(self, url):
-        self.url, self.rest, self.count, self.answers, self.pulled = url, bytearray(), 0, {}, []
+        self.url, self.rest, self.count, self.answers, self.pulled = url, bytearray(), 0, {}, {}
         where = urlsplit(url if "//" in url else f"nats://{url}")
         self.inbox = f"_INBOX.{secrets.token_hex(11)}"
         try:
@@ -69,18 +92,25 @@ class Connection:
     def greet(self, where):
         """Takes the server's greeting, and tells who this is."""
         until = time.monotonic() + CONNECT
-        info = json.loads(self.line(until).removeprefix(b"INFO "))
+        try:
+            info = json.loads(self.line(until).removeprefix(b"INFO "))
+        except (TimeoutError, ValueError):
+            raise self.lost("nobody greets there as NATS does")
         if info.get("tls_required"):
             raise Fault(2, "the server wants TLS, which this client doesn't speak")
-        self.most = info["max_payload"]
+        self.info, self.most = info, info["max_payload"]
+        self.host = f"{where.hostname}:{where.port or 4222}"
         words = {"verbose": False, "pedantic": False, "headers": True, "no_responders": True, "lang": "recall", "version": "1"}
         if where.username and where.password is None:
             words["auth_token"] = unquote(where.username)
         elif where.username:
             words |= {"user": unquote(where.username), "pass": unquote(where.password)}
-        self.write(b"CONNECT %b\r\nSUB %b.a.* 1\r\nSUB %b.p 2\r\nPING\r\n" % (json.dumps(words).encode(), *[self.inbox.encode()] * 2))
-        while self.take(until) != b"PONG":
-            pass
+        self.write(f"CONNECT {json.dumps(words)}\r\nSUB {self.inbox}.a.* 1\r\nPING\r\n".encode())
+        try:
+            while self.take(until) != b"PONG":
+                pass
+        except TimeoutError:
+            raise self.lost(f"it hasn't answered in {CONNECT} s")
 
     # Bytes.
 
@@ -116,10 +146,7 @@ class Connection:
 
     def take(self, until):
         """Takes what the server says next: a message is put where it is waited for. Gives the line's first word."""
-        try:
-            line = self.line(until)
-        except TimeoutError:
-            raise self.lost("it didn't answer in time") if until - time.monotonic() < -CONNECT else TimeoutError
+        line = self.line(until)
         word, _, words = line.partition(b" ")
         if word in (b"MSG", b"HMSG"):
             self.take_message(word, words.decode().split())
@@ -148,7 +175,7 @@ class Connection:
         if kind == "1":
             self.answers[subject.rpartition(".")[2]] = message
         else:
-            self.pulled.append(message)
+            self.pulled[kind].append(message)
 
     # Questions.
 
@@ -204,18 +231,71 @@ class Connection:
         except Refused as refused:
             raise Fault(1, f"the stream {name} can't be made: {refused.args[1]}")
 
-    def state(self, name):
-        return self.api(f"STREAM.INFO.{name}")["state"]
-
     def last(self, stream, subject):
-        """The last message of a subject, or nothing: its number, its headers and its bytes."""
-        import base64
+        """The last message of a subject, or nothing: its number and itself."""
+        return self.get(stream, last_by_subj=subject)
 
+    def get(self, stream, **which):
+        """A message of a stream, or nothing: its number and itself, with its time."""
         try:
-            found = self.api(f"STREAM.MSG.GET.{stream}", last_by_subj=subject)["message"]
+            found = self.api(f"STREAM.MSG.GET.{stream}", **which)["message"]
         except Refused as refused:
             if refused.args[0] == NO_MESSAGE:
                 return None
             raise
         text = lambda word: base64.b64decode(found.get(word, ""))
-        return found["seq"], Message("", text("hdrs").decode(), text("data"))
+        message = Message("", text("hdrs").decode(), text("data"))
+        message.time = datetime.datetime.fromisoformat(found["time"]).timestamp()
+        return found["seq"], message
+
+    def wait(self, pulls, until):
+        """Waits until something has come for one of these pulls."""
+        try:
+            while not any(self.pulled[pull.kind] for pull in pulls):
+                self.take(until)
+        except TimeoutError:
+            pass  # (nothing has come)
+
+
+class Pull:
+    """Reads a stream from a message on, by a consumer of its own: so many at once, and so many bytes."""
+
+    def __init__(self, connection, stream, first):
+        self.connection, self.stream, self.kind, self.asked = connection, stream, str(len(connection.pulled) + 2), 0
+        connection.pulled[self.kind] = []
+        connection.write(f"SUB {self.inbox()} {self.kind}\r\n".encode())
+        words = {"deliver_policy": "by_start_sequence", "opt_start_seq": first, "ack_policy": "none", "inactive_threshold": IDLE}
+        self.consumer = connection.api(f"CONSUMER.CREATE.{stream}", stream_name=stream, config=words)["name"]
+
+    def inbox(self):
+        return f"{self.connection.inbox}.p{self.kind}"
+
+    def ask(self):
+        """Asks for more, unless that was done."""
+        if not self.asked:
+            self.asked = AT_ONCE
+            words = json.dumps({"batch": AT_ONCE, "max_bytes": LARGEST, "expires": EXPIRES}).encode()
+            subject = f"$JS.API.CONSUMER.MSG.NEXT.{self.stream}.{self.consumer}"
+            self.connection.write(f"PUB {subject} {self.inbox()} {len(words)}\r\n".encode(), words, b"\r\n")
+
+    def taken(self):
+        """Those that have come."""
+        come, found = self.connection.pulled[self.kind], []
+        while come:
+            message = come.pop(0)
+            if message.status is None:
+                self.asked -= 1
+                found.append(message)
+            elif message.status == 503:
+                raise self.connection.lost("it has forgotten this reader, who was away for too long")
+            elif message.status != 100:
+                self.asked = 0  # (no more come for this question)
+        return found
+
+    def read(self, seconds):
+        """Those that come next, waiting so long for one."""
+        until = time.monotonic() + seconds
+        while not (found := self.taken()) and time.monotonic() < until:
+            self.ask()
+            self.connection.wait([self], until)
+        return found

@@ -13,18 +13,16 @@ import redis
 import put  # (this finds the modules of the folder above)
 import putting
 import running
-from trials import Held, Link, Wrong, free_port, plain_run, until
+from trials import ANSWERS, LEASE, LONG, TEXTS, Held, Link, Wrong, free_port, line, must
+from trials import one_long_reply, outcome, plain_run, slow_program, until
 
-LEASE = 1000  # (milliseconds: short, so that what takes longer than a lease takes little)
 RATE = 8_000_000  # (bytes a second of a slow program, and of a slow link: a reply of 25 MB takes three leases)
-TEXTS, LONG = 1024, "\x01" * 4096  # (held outputs of a unit at most; a text of the most bytes, each of which takes six in JSON)
 CLIENTS = 128 << 20  # (bytes that a server lets its clients have in hand, where many long replies are made at once)
-ANSWERS = 15  # (seconds in which a script must end, and the next worker must have the lease of one that hangs)
 
 
 class Place:
-    """Where an attack is tried: the program, a server with the functions of a folder of scripts and nothing else, a folder,
-    and how many tenants make long replies at once."""
+    """Where an attack is tried: the program, a server with the functions of a folder of scripts and nothing else, a
+    folder, and how many tenants make long replies at once."""
 
     def __init__(self, program, server, scripts, room, tenants):
         self.program, self.server, self.scripts, self.room, self.tenants = program, server, scripts, room, tenants
@@ -72,11 +70,11 @@ class Place:
         until(f"{count} replies", lambda: self.client.xlen(self.replies) >= count)
 
     def compare(self, *puts):
-        """Sees that the recorded replies are those of one plain run of what was put, each a producer's name and its lines, one
-        by one: all of them may be too many to hold. Gives their bytes."""
+        """Sees that the recorded replies are those of one plain run of what was put, each a producer's name and its
+        lines, one by one: all of them may be too many to hold. Gives their bytes."""
         given, taken = (os.path.join(self.room, name) for name in ("given", "taken"))
         with open(given, "wb") as file:
-            file.writelines(line + b"\n" for _, lines in puts for line in lines)
+            file.writelines(each + b"\n" for _, lines in puts for each in lines)
         with open(given, "rb") as file, open(taken, "wb") as replies:
             subprocess.run([self.program, "run"], stdin=file, stdout=replies, check=True)
         wanted = [(name.encode(), number) for name, lines in puts for number in range(len(lines))]
@@ -90,25 +88,7 @@ class Place:
             return replies.tell()
 
 
-def line(do, tenant="a", **keys):
-    return json.dumps({"do": do, "tenant": tenant, **keys}, sort_keys=True, separators=(",", ":")).encode()
-
-
 # A reply that is written, and appended, more slowly than a lease lasts.
-
-
-def slow_program(place):
-    """A program that passes on what the program writes, slowly."""
-    path = os.path.join(place.room, "slow")
-    words = ["-DPROGRAM=" + json.dumps(place.program), f"-DRATE={RATE}", "-o", path, os.path.join(place.scripts, "..", "slow.c")]
-    subprocess.run(["cc", "-O2", *words], check=True)
-    return path
-
-
-def one_long_reply(tenant):
-    """Lines of a tenant whose last one is answered by 25 MB."""
-    posts = [line("post", tenant, unit=0, number=number, text=LONG) for number in range(TEXTS)]
-    return [line("open", tenant, units=["echo"]), *posts, line("flush", tenant, unit=0), line("release", tenant, unit=0)]
 
 
 def hang(place):
@@ -140,7 +120,7 @@ def slow_replies(place):
     place.give("slow", lines)
     seconds = []
     try:
-        with place.worker(slow_program(place), url):
+        with place.worker(slow_program(place.program, RATE, place.room), url):
             begun = time.monotonic()
             place.answered(len(lines) - 1)
             seconds.append(time.monotonic() - begun)
@@ -149,7 +129,7 @@ def slow_replies(place):
             seconds.append(time.monotonic() - begun)
         more = [line("status", unit=0)]
         place.give("more", more)
-        with place.worker(slow_program(place), url):  # (it replays: the reply is written once more, and dropped)
+        with place.worker(slow_program(place.program, RATE, place.room), url):  # (it replays: the reply is written once more, and dropped)
             place.answered(len(lines) + 1)
     finally:
         link.close()
@@ -161,7 +141,8 @@ def slow_replies(place):
 
 
 def many_long_replies(tenant):
-    """Lines of a tenant of sixteen units, each of which puts out what the first one was given: 26 MB, answered by 403."""
+    """Lines of a tenant of sixteen units, each of which puts out what the first one was given: 26 MB, answered by
+    403."""
     yield line("open", tenant, units=["tee"] * 15 + ["echo"])
     for number in range(TEXTS):
         yield line("post", tenant, unit=0, number=number, text=LONG)
@@ -320,20 +301,8 @@ def partition_no_numbers(place):
 
 
 def script(place, name, *words, url=None, given=b"{}\n"):
-    """What a script does with these words at this address: its status, what it wrote, and its one line on standard error."""
-    command = [os.path.join(place.scripts, name), *words, "--redis", url or place.server.url]
-    try:
-        done = subprocess.run(command, input=given, capture_output=True, timeout=ANSWERS)
-    except subprocess.TimeoutExpired:
-        raise Wrong(f"{name} didn't end in {ANSWERS} s")
-    return done.returncode, done.stdout.decode(), done.stderr.decode()
-
-
-def must(what, told, status, *words):
-    """The script ended with this status, and one line that has these words."""
-    got, _, line = told
-    if got != status or line.count("\n") != 1 or not all(word in line for word in words):
-        raise Wrong(f"{what}: status {got}, and not {status} and a line with {words}: {line[-400:]!r}")
+    """What a script does with these words at this address."""
+    return outcome([os.path.join(place.scripts, name), *words, "--redis", url or place.server.url], given)
 
 
 def scripts_of(place):
@@ -378,7 +347,7 @@ def go_in_the_middle(place):
     place.server.kill()
     for what, held in {"a worker": worker, "a waiting worker": waiting}.items():
         status, _ = held.end()
-        lines = [line for line in held.said if ": lease " not in line]
+        lines = [said for said in held.said if ": lease " not in said]
         must(f"{what} whose server goes", (status, "", "\n".join([*lines, ""])), 4, "can't be reached")
     must("put.py whose server goes", (producer.wait(), "", producer.stderr.read().decode()), 4, "can't be reached")
     place.server.start()

@@ -3,10 +3,10 @@
 
     epoch.py PROGRAM PARTITION [--redis URL] [--name NAME] [--lease MILLISECONDS]
 
-The partition's worker must be stopped, since this takes the lease. The steps of the epoch are replayed in a run of its own,
-which then is asked: each unit must be up, know all restarts and have nothing unlogged or held, and each letter must have
-been taken, or be void. None of what it asks is put into a stream. Status 0: the epoch has begun. 1: it can't begin; what is
-not quiet is told, and nothing has changed. 2: bad words. 4: the server can't be reached.
+The partition's worker must be stopped, since this takes the lease. The steps of the epoch are replayed in a run of its
+own, which then is asked: each unit must be up, know all restarts and have nothing unlogged or held, and each letter
+must have been taken, or be void. None of what it asks is put into a stream. Status 0: the epoch has begun. 1: it can't
+begin; what is not quiet is told, and nothing has changed. 2: bad words. 4: the server can't be reached.
 """
 
 import json

@@ -4,25 +4,26 @@
     put.py PARTITIONS --producer NAME [--redis URL] [--name NAME] [--timeout SECONDS] < LINES
     put.py PARTITIONS --producer NAME .. --follow LINES REPLIES
 
-A line goes to the partition of its tenant; one without a tenant that can be read goes to partition 0, since it is answered
-`bad-line` wherever it is, and so does one of more than 65,536 bytes, of which the first 65,537 are put. The producer numbers
-its lines in each partition from 0, and the server takes none twice and leaves none out: each put answers the number that it
-waits for. So a put that had no answer, or that a crash of the server lost, is made good by going on from that number, and the
-same producer can be run again on the same lines, or on these and more behind them.
+A line goes to the partition of its tenant; one without a tenant that can be read goes to partition 0, since it is
+answered `bad-line` wherever it is, and so does one of more than 65,536 bytes, of which the first 65,537 are put. The
+producer numbers its lines in each partition from 0, and the server takes none twice and leaves none out: each put
+answers the number that it waits for. So a put that had no answer, or that a crash of the server lost, is made good by
+going on from that number, and the same producer can be run again on the same lines, or on these and more behind them.
 
-A producer's NAME is for one list of lines. With the number of its next line stands a digest of all lines before it: where the
-lines that are given aren't those, nothing is put, no reply is written, and the status is 1. So it is where they are fewer, and
-where an epoch has begun since: take another name.
+A producer's NAME is for one list of lines. With the number of its next line stands a digest of all lines before it:
+where the lines that are given aren't those, nothing is put, no reply is written, and the status is 1. So it is where
+they are fewer, and where an epoch has begun since: take another name.
 
-Where replies are owed and none comes for SECONDS (60; with 0 it waits for ever), it ends, and says which partitions owe them and
-which of these have no worker. A server that goes away is waited for as long. Run again on the same lines, it goes on.
+Where replies are owed and none comes for SECONDS (60; with 0 it waits for ever), it ends, and says which partitions owe
+them and which of these have no worker. A server that goes away is waited for as long. Run again on the same lines, it
+goes on.
 
-With `--follow` it puts the lines that come into the file LINES, for ever, and appends the replies that the file REPLIES doesn't
-have: so it can be a service that is started anew whenever it ends. LINES is only added to. REPLIES may be deleted while it isn't
-running: all replies are written anew then.
+With `--follow` it puts the lines that come into the file LINES, for ever, and appends the replies that the file REPLIES
+doesn't have: so it can be a service that is started anew whenever it ends. LINES is only added to. REPLIES may be
+deleted while it isn't running: all replies are written anew then.
 
-URL is RECALL_REDIS of the environment where it isn't said. Status 0: all lines have their replies. 1: refused, or a file's
-fault. 2: bad words. 4: the server can't be reached. 6: no reply for so long.
+URL is RECALL_REDIS of the environment where it isn't said. Status 0: all lines have their replies. 1: refused, or a
+file's fault. 2: bad words. 4: the server can't be reached. 6: no reply for so long.
 """
 
 import redis
@@ -38,8 +39,8 @@ READ, MOST = 1000, 8 << 20  # (replies read at once of a partition; bytes of the
 
 
 def partitions_of(server, name, count):
-    """The partitions of this name. Their count is fixed by who comes first, since tenants would lie elsewhere by another. It
-    is one of 1 to 16,384."""
+    """The partitions of this name. Their count is fixed by who comes first, since tenants would lie elsewhere by
+    another. It is one of 1 to 16,384."""
     fixed = int(server.set(f"{name}:partitions", running.count_of(count), nx=True, get=True) or count)
     if fixed != count:
         raise Fault(1, f"{name} has {fixed} partitions, not {count}")
@@ -55,9 +56,9 @@ class Producer(putting.Lines):
         self.epochs = [partition.epoch() for partition in partitions]
 
     def send(self):
-        """Puts the next lines of each partition, and learns from which number on to go on. Gives whether all are there. It
-        is to be asked again after a lost connection, also where all were there before. `Other` where the name has put lines
-        that are not these."""
+        """Puts the next lines of each partition, and learns from which number on to go on. Gives whether all are there.
+        It is to be asked again after a lost connection, also where all were there before. `Other` where the name has
+        put lines that are not these."""
         calls = self.server.pipeline(transaction=False)
         asked = []
         for at, (partition, lines, next) in enumerate(zip(self.partitions, self.lines, self.next)):
@@ -95,9 +96,9 @@ class Replies:
         self.next = {}
 
     def read(self, milliseconds):
-        """The next replies, waiting so long for one: partition, producer, number, reply. A number that came before is of a
-        step that was put again after a loss: its reply is the same, and is left out. So is one without a number: no producer
-        put its step."""
+        """The next replies, waiting so long for one: partition, producer, number, reply. A number that came before is
+        of a step that was put again after a loss: its reply is the same, and is left out. So is one without a number:
+        no producer put its step."""
         woken = dict(self.server.xread(self.last, count=1, block=milliseconds))
         calls = self.server.pipeline(transaction=False)
         for stream, last in self.last.items():
@@ -108,9 +109,9 @@ class Replies:
                 yield from self.taken(stream, self.behind(stream))
 
     def is_gone(self, stream, told):
-        """Whether the last reply that was read is gone: a crash or a failover took it, and what comes in its place may have ids
-        before it, by another machine's clock. Then it begins at the first reply, and leaves out by their numbers those that it
-        has given."""
+        """Whether the last reply that was read is gone: a crash or a failover took it, and what comes in its place may
+        have ids before it, by another machine's clock. Then it begins at the first reply, and leaves out by their
+        numbers those that it has given."""
         if isinstance(told, redis.ResponseError) and str(told).startswith("GONE"):
             self.last[stream] = b"0"
             return True

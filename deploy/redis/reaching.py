@@ -13,7 +13,8 @@ from running import Away, Fault
 URL = os.environ.get("RECALL_REDIS", "redis://127.0.0.1:6379")
 NO_FUNCTIONS = "the server has no functions of recall, or others: redis-cli -x FUNCTION LOAD REPLACE < deploy/redis/recall.lua"
 CONNECT = 5  # (seconds in which a server must take a connection)
-# A server whose machine is gone says nothing: after 30 seconds without an answer from its system the connection is lost.
+# A server whose machine is gone says nothing: after 30 seconds without an answer from its system the connection is
+# lost.
 SILENT = {socket.TCP_KEEPIDLE: 10, socket.TCP_KEEPINTVL: 5, socket.TCP_KEEPCNT: 4, socket.TCP_USER_TIMEOUT: 30_000}
 
 

@@ -1,11 +1,11 @@
 #!lua name=recall
 
 -- The functions of a partition: who may write to it, and each write to its streams. A partition's keys have one tag in
--- braces, so they lie together in a cluster. A lease is the text `NUMBER:WORD`: NUMBER is the fencing number, which only
--- rises, and WORD tells two workers apart where a crash of the server forgot a number that it had given.
+-- braces, so they lie together in a cluster. A lease is the text `NUMBER:WORD`: NUMBER is the fencing number, which
+-- only rises, and WORD tells two workers apart where a crash of the server forgot a number that it had given.
 --
--- Each looks at all its words before it writes: an error of the server in the midst of a function doesn't take back what
--- the function wrote before it.
+-- Each looks at all its words before it writes: an error of the server in the midst of a function doesn't take back
+-- what the function wrote before it.
 
 -- The longest line that a stream of steps takes: any that is longer than 65,536 bytes is answered `bad-line` unread.
 local LONGEST_LINE, LONGEST_NAME, LONGEST_FAULT = 65537, 256, 1000
@@ -54,8 +54,8 @@ local function unless_held(key, lease, what)
   end
 end
 
--- recall_take LEASE FENCE HOLDER, word, milliseconds, host, process: the new lease, or nothing where the partition has one.
--- HOLDER tells who has it, or had it last, and since when: it is for people, and nothing rests on it.
+-- recall_take LEASE FENCE HOLDER, word, milliseconds, host, process: the new lease, or nothing where the partition has
+-- one. HOLDER tells who has it, or had it last, and since when: it is for people, and nothing rests on it.
 local function take(keys, args)
   local refused = unless_time(args[2]) or unless_who(args[3], args[4])
   if refused then
@@ -125,8 +125,8 @@ end
 
 -- recall_append LEASE STEPS REPLIES, lease, milliseconds, count, then for each reply the id of its step, the producer,
 -- its number of the step, and the reply. The stream of replies must have `count` of them, and the stream of steps the
--- last of these steps, or a crash of the server took what the worker knew. Each reply has its step's id as its own: Redis
--- takes ids in rising order alone, so a step has one reply at most. It renews the lease.
+-- last of these steps, or a crash of the server took what the worker knew. Each reply has its step's id as its own:
+-- Redis takes ids in rising order alone, so a step has one reply at most. It renews the lease.
 local function append(keys, args)
   local refused = unless_time(args[2]) or unless_replies(args) or unless_held(keys[1], args[1], 'an append')
   if refused then
@@ -145,9 +145,10 @@ local function append(keys, args)
   return redis.call('PEXPIRE', keys[1], args[2])
 end
 
--- recall_read REPLIES, id, count, bytes: the entries behind this id, so many at most, and no more once they have so many
--- bytes. XREAD has no limit of bytes: a thousand replies may be more than the server has memory for. Where the entry with
--- this id is gone (and the id isn't 0), a crash or a failover took it: what came in its place may have lesser ids.
+-- recall_read REPLIES, id, count, bytes: the entries behind this id, so many at most, and no more once they have so
+-- many bytes. XREAD has no limit of bytes: a thousand replies may be more than the server has memory for. Where the
+-- entry with this id is gone (and the id isn't 0), a crash or a failover took it: what came in its place may have
+-- lesser ids.
 local function read(keys, args)
   if args[1] ~= '0' and #redis.call('XRANGE', keys[1], args[1], args[1]) == 0 then
     return redis.error_reply('GONE the entry ' .. args[1])
@@ -170,10 +171,10 @@ local function other(name, what)
   return redis.error_reply('OTHER the producer ' .. name .. ' ' .. what)
 end
 
--- What is known of a producer whose words are EPOCH STEPS PRODUCERS, epoch, producer: an error or nothing, then the number
--- of its next step, and the digest of all its steps. The key of producers has for each `NUMBER EPOCH DIGEST`, where EPOCH is
--- that of its last step. DIGEST is the SHA-1 of the digest before that step, in hexadecimal digits, and of its line: so two
--- runs of one name have the same where all their lines are.
+-- What is known of a producer whose words are EPOCH STEPS PRODUCERS, epoch, producer: an error or nothing, then the
+-- number of its next step, and the digest of all its steps. The key of producers has for each `NUMBER EPOCH DIGEST`,
+-- where EPOCH is that of its last step. DIGEST is the SHA-1 of the digest before that step, in hexadecimal digits, and
+-- of its line: so two runs of one name have the same where all their lines are.
 local function known(keys, args)
   local epoch = redis.call('GET', keys[1]) or '0'
   if epoch ~= args[1] then
@@ -203,8 +204,9 @@ local function next_of(keys, args)
 end
 
 -- recall_put EPOCH STEPS PRODUCERS, epoch, producer, number, digest, line: puts a step in where its number is the
--- producer's next one, and else nothing. The digest is that of the producer's steps before it: where it is another, or the
--- last step has another line, the name began anew with other lines, and nothing is put in. It answers as recall_next does.
+-- producer's next one, and else nothing. The digest is that of the producer's steps before it: where it is another, or
+-- the last step has another line, the name began anew with other lines, and nothing is put in. It answers as
+-- recall_next does.
 local function put(keys, args)
   if not is_whole(args[3]) then
     return no_number("a step's number", args[3])

@@ -3,20 +3,23 @@
 
     worker.py PROGRAM PARTITION [--redis URL] [--name NAME] [--lease MILLISECONDS]
 
-It waits for the partition's lease, starts PROGRAM, and gives it the steps of the epoch from the first one. As many replies
-as the stream of replies has are dropped; those behind them are appended. Each write carries the lease with its fencing
-number, and the server refuses it where that is over (recall.lua). Whatever goes wrong ends the worker: start it anew.
+It waits for the partition's lease, starts PROGRAM, and gives it the steps of the epoch from the first one. As many
+replies as the stream of replies has are dropped; those behind them are appended. Each write carries the lease with its
+fencing number, and the server refuses it where that is over (recall.lua). Whatever goes wrong ends the worker: start it
+anew.
 
-The lease is renewed each third of its time by a thread of its own, however long a reply is written or appended. Where the
-program has steps in its hands and wrote nothing for the lease's time, the worker ends, and another one goes on.
-Replies are appended up to 8 MB at a time, unless one alone has more: the longest has 25 MB (1,024 outputs of 4,096 bytes,
-each of which takes six in JSON). A server that takes no words of 32 MB is a fault, before any step is read.
+The lease is renewed each third of its time by a thread of its own, however long a reply is written or appended. Where
+the program has steps in its hands and wrote nothing for the lease's time, the worker ends, and another one goes on.
+Replies are appended up to 8 MB at a time, unless one alone has more: the longest has 25 MB (1,024 outputs of 4,096
+bytes, each of which takes six in JSON). A server that takes no words of 32 MB is a fault, before any step is read.
 
-PROGRAM is the file of the program itself. A script is refused, such as `./recall`: what it runs may change between two workers
-of an epoch. URL is RECALL_REDIS of the environment where it isn't said: a password in it isn't seen by other users there.
+PROGRAM is the file of the program itself. A script is refused, such as `./recall`: what it runs may change between two
+workers of an epoch. URL is RECALL_REDIS of the environment where it isn't said: a password in it isn't seen by other
+users there.
 
-Status 0: ended by SIGTERM, and the lease given back. 1: a fault. 2: bad words. 3: fenced: a write was refused. 4: the server
-can't be reached. 5: the program ended. A fault is noted in the server, if that can be reached: `recallctl status` shows it.
+Status 0: ended by SIGTERM, and the lease given back. 1: a fault. 2: bad words. 3: fenced: a write was refused. 4: the
+server can't be reached. 5: the program ended. A fault is noted in the server, if that can be reached: `recallctl
+status` shows it.
 """
 
 import argparse
@@ -58,8 +61,9 @@ class Partition:
 
 
 def look_at_limits(server):
-    """Raises a fault where the server says that it takes no word as long as the longest reply: it would end the connection
-    once there is one, and each worker after this one would end there too. A server that doesn't say is taken at its best."""
+    """Raises a fault where the server says that it takes no word as long as the longest reply: it would end the
+    connection once there is one, and each worker after this one would end there too. A server that doesn't say is taken
+    at its best."""
     for limit in ("proto-max-bulk-len", "client-query-buffer-limit"):
         try:
             most = int(server.config_get(limit).get(limit, WORD))
@@ -70,8 +74,8 @@ def look_at_limits(server):
 
 
 def step_of(at, words):
-    """An entry of the stream of steps. Its number is the producer's, or nothing: what came into the stream otherwise may have
-    any word there."""
+    """An entry of the stream of steps. Its number is the producer's, or nothing: what came into the stream otherwise
+    may have any word there."""
     number = words.get(b"number", b"")
     is_number = re.fullmatch(rb"0|[1-9][0-9]{0,14}", number)
     return Step(at, words.get(b"line", b""), words.get(b"from", b""), number if is_number else b"")
