@@ -48,7 +48,8 @@ class Lines:
         """Takes what the server has of a partition: which number is next, and the digest of the lines before it."""
         if self.digests[at][next : next + 1] != [digest]:
             given = len(self.lines[at])
-            raise Other(f"partition {at}: the producer {self.name} has {next} steps, and they don't begin the {given} given")
+            they = f"the producer {self.name} has {next} steps"
+            raise Other(f"partition {at}: {they}, and they don't begin the {given} given")
         self.next[at] = next
 
     def are_put(self):
@@ -109,7 +110,9 @@ class Exchange:
         with self.told():
             alone = [at for at in sorted(owed) if self.producer.alone(at)]
         owing = ", ".join(f"partition {at} owes {owed[at]}" for at in sorted(owed))
-        who = f"no worker has partition {', '.join(map(str, alone))}: start one" if alone else "each has a worker: see recallctl status"
+        who = "each has a worker: see recallctl status"
+        if alone:
+            who = f"no worker has partition {', '.join(map(str, alone))}: start one"
         return Fault(6, f"no reply for {self.timeout} s: {owing}; {who}")
 
 
@@ -165,7 +168,8 @@ class Following:
             return
         self.left -= 1
         if not self.left and line != self.last:
-            raise Fault(1, f"{self.replies.name} has {self.last[:100]} where {line[:100]} is the reply: delete it, to have all anew")
+            there = f"{self.replies.name} has {self.last[:100]} where {line[:100]} is the reply"
+            raise Fault(1, f"{there}: delete it, to have all anew")
 
 
 def words_of(page, server, address):

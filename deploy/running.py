@@ -67,7 +67,8 @@ def program_file(path):
     except OSError as fault:
         raise Fault(2, f"the program {path} can't be read: {fault.strerror}")
     if not is_program:
-        raise Fault(2, f"{path} is a script, or no program at all: name the program itself, as ./install puts it at lib/recall/recall")
+        where = "name the program itself, as ./install puts it at lib/recall/recall"
+        raise Fault(2, f"{path} is a script, or no program at all: {where}")
     if not os.access(path, os.X_OK):
         raise Fault(2, f"this user may not run {path}: see its mode")
     return os.path.abspath(path)

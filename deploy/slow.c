@@ -1,4 +1,4 @@
-/* For the tries: runs PROGRAM with the words that it is given, and passes on what that writes, at RATE bytes a second. */
+/* For the tries: runs PROGRAM with the words that it is given, and passes on what it writes, at RATE bytes a second. */
 #include <stdlib.h>
 #include <time.h>
 #include <unistd.h>

@@ -2,12 +2,13 @@
 
 A partition is told in the words of `--json`: times are in seconds, and what isn't there is `null`.
 
-    partition, epoch, steps, replies, lag    its number, its epoch, and how many steps there are, replies, and steps without one
-    oldest                                   how long the oldest step without a reply has waited
-    lease                                    `number`, and `lasts`: how long it still lasts unless it is renewed
-    holder                                   `host` and `pid` of who has the lease, or had it last, `for`: since when
-    faults, fault                            how often a worker ended with a fault, and the last: `ago`, `host`, `pid`, `status`, `why`
-    stuck                                    why nothing goes on, and what to do
+    partition, epoch          its number, and its epoch
+    steps, replies, lag       how many steps there are, replies, and steps without one
+    oldest                    how long the oldest step without a reply has waited
+    lease                     `number`, and `lasts`: how long it still lasts unless it is renewed
+    holder                    `host` and `pid` of who has the lease, or had it last; `for`: how long ago it was taken
+    faults, fault             how often a worker ended with a fault, and the last: `ago`, `host`, `pid`, `status`, `why`
+    stuck                     why nothing goes on, and what to do
 
 The server is told by `at`, where it is, `words`, and `wrong`: what keeps it from going on.
 """
@@ -16,7 +17,20 @@ import argparse
 import json
 
 STUCK = 60  # (seconds for which the oldest step may wait)
-HEADS = ["partition", "waits", "lag", "steps", "replies", "epoch", "lease", "worker", "for", "lasts", "faults", "last fault"]
+HEADS = [
+    "partition",
+    "waits",
+    "lag",
+    "steps",
+    "replies",
+    "epoch",
+    "lease",
+    "worker",
+    "for",
+    "lasts",
+    "faults",
+    "last fault",
+]
 
 
 def time_of(seconds):
@@ -49,6 +63,7 @@ def row(part):
     """A partition's row of the table."""
     lease, holder, fault = part["lease"], part["holder"], part["fault"]
     who = f"{holder['host']} {holder['pid']}" if holder else "-"
+    by = fault and f"{time_of(fault['ago'])} ago, {fault['host']} {fault['pid']}"
     return [
         str(part["partition"]),
         time_of(part["oldest"]),
@@ -59,7 +74,7 @@ def row(part):
         time_of(holder["for"]) if lease and holder else "-",
         time_of(lease["lasts"]) if lease else "-",
         str(part["faults"]),
-        f"{time_of(fault['ago'])} ago, {fault['host']} {fault['pid']}, status {fault['status']}: {fault['why'][:200]}" if fault else "-",
+        f"{by}, status {fault['status']}: {fault['why'][:200]}" if fault else "-",
     ]
 
 
@@ -68,8 +83,8 @@ def aligned(rows):
     widths = [max(map(len, column)) for column in zip(*rows)]
     left = {HEADS.index(head) for head in ("worker", "last fault")}
     for words in rows:
-        places = ((word.ljust if at in left else word.rjust)(width) for at, (word, width) in enumerate(zip(words, widths)))
-        yield "  ".join(places).rstrip()
+        pairs = enumerate(zip(words, widths))
+        yield "  ".join((word.ljust if at in left else word.rjust)(width) for at, (word, width) in pairs).rstrip()
 
 
 def tell(name, server, parts, stuck, is_json):
@@ -86,6 +101,11 @@ def tell(name, server, parts, stuck, is_json):
         for part in stopped:
             print(f"stuck: partition {part['partition']}: {part['stuck']}")
     return 1 if stopped or server["wrong"] else 0
+
+
+def nothing(name, server):
+    """Why nothing can be told."""
+    return f"nothing was put under the name {name} yet: name another by --name, or another server by --{server}"
 
 
 def words_of(page, server, address):

@@ -368,7 +368,8 @@ class Trial:
         """Each step has one reply, and each tenant's, and those to lines without one, are the plain run's."""
         other, names = other_replies(self.source.places, self.owned, self.wanted, replies)
         if other or len(replies) != STEPS:
-            self.wrong.append(f"{how}: {len(replies)} steps have replies, and those of {len(other)} of {len(names)} tenants differ")
+            differ = f"those of {len(other)} of {len(names)} tenants differ"
+            self.wrong.append(f"{how}: {len(replies)} steps have replies, and {differ}")
 
 
 # Scripts that are run, and programs.
@@ -408,7 +409,12 @@ def line(do, tenant="a", **keys):
 def one_long_reply(tenant):
     """Lines of a tenant whose last one is answered by 25 MB."""
     posts = [line("post", tenant, unit=0, number=number, text=LONG) for number in range(TEXTS)]
-    return [line("open", tenant, units=["echo"]), *posts, line("flush", tenant, unit=0), line("release", tenant, unit=0)]
+    return [
+        line("open", tenant, units=["echo"]),
+        *posts,
+        line("flush", tenant, unit=0),
+        line("release", tenant, unit=0),
+    ]
 
 
 def tenant_lines(name, chance):
@@ -419,7 +425,8 @@ def tenant_lines(name, chance):
     post = logged = letter = 0
     while True:
         for _ in range(chance.randrange(1, 4)):
-            yield line("post", unit=0, number=post if chance.random() < 0.95 else chance.randrange(9), text=str(chance.randrange(999)))
+            number = post if chance.random() < 0.95 else chance.randrange(9)
+            yield line("post", unit=0, number=number, text=str(chance.randrange(999)))
             post += 1
             for _ in kinds[1:]:
                 yield line("deliver", letter=letter if chance.random() < 0.95 else chance.randrange(letter + 2))
@@ -441,7 +448,15 @@ def tenant_lines(name, chance):
 
 def steps(chance):
     """All steps, with whose each is: 99 of each tenant, and as many lines as tenants that have none."""
-    bad = [b"", b"{", b"\xff", b'{"do":"status","unit":0}', b'{"do":"open","tenant":"No!","units":[]}', b"x" * 70_000, b"[" * 5000]
+    bad = [
+        b"",
+        b"{",
+        b"\xff",
+        b'{"do":"status","unit":0}',
+        b'{"do":"open","tenant":"No!","units":[]}',
+        b"x" * 70_000,
+        b"[" * 5000,
+    ]
     own = {name: tenant_lines(name, random.Random(chance.random())) for name in (f"tenant-{n}" for n in range(TENANTS))}
     order = [name for name in own for _ in range(STEPS // TENANTS - 1)] + [None] * TENANTS
     chance.shuffle(order)

@@ -25,8 +25,11 @@ CONNECT, ANSWER = 5, 30  # (seconds in which a server must take a connection, an
 # A server whose machine is gone says nothing: after 30 seconds without an answer from its system the connection is
 # lost.
 SILENT = {socket.TCP_KEEPIDLE: 10, socket.TCP_KEEPINTVL: 5, socket.TCP_KEEPCNT: 4, socket.TCP_USER_TIMEOUT: 30_000}
-AT_ONCE, LARGEST = 100, 32 << 20  # (messages that are read at once, and their bytes: one of the longest must be among them)
-EXPIRES, IDLE = 5 * 10**9, 60 * 10**9  # (nanoseconds: until a question for messages is over; until a reader is forgotten)
+AT_ONCE, LARGEST = 100, 32 << 20  # (messages that are read at once, and their bytes: enough for one of the longest)
+EXPIRES, IDLE = (
+    5 * 10**9,
+    60 * 10**9,
+)  # (nanoseconds: until a question for messages is over, and a reader is forgotten)
 NO_MESSAGE, GONE = 10037, 10057  # (numbers of JetStream's refusals)
 
 
@@ -100,7 +103,14 @@ class Connection:
             raise Fault(2, "the server wants TLS, which this client doesn't speak")
         self.info, self.most = info, info["max_payload"]
         self.host = f"{where.hostname}:{where.port or 4222}"
-        words = {"verbose": False, "pedantic": False, "headers": True, "no_responders": True, "lang": "recall", "version": "1"}
+        words = {
+            "verbose": False,
+            "pedantic": False,
+            "headers": True,
+            "no_responders": True,
+            "lang": "recall",
+            "version": "1",
+        }
         if where.username and where.password is None:
             words["auth_token"] = unquote(where.username)
         elif where.username:
@@ -182,7 +192,10 @@ class Connection:
     def ask(self, subject, payload=b"", **headers):
         """Sends a message that is to be answered; gives the token of its answer."""
         self.count += 1
-        reply, payload = f"{self.inbox}.a.{self.count}", payload if isinstance(payload, bytes) else json.dumps(payload).encode()
+        reply, payload = (
+            f"{self.inbox}.a.{self.count}",
+            payload if isinstance(payload, bytes) else json.dumps(payload).encode(),
+        )
         head = "".join(f"{name.replace('_', '-')}: {value}\r\n" for name, value in headers.items())
         if head:
             head = f"NATS/1.0\r\n{head}\r\n".encode()
@@ -264,7 +277,12 @@ class Pull:
         self.connection, self.stream, self.kind, self.asked = connection, stream, str(len(connection.pulled) + 2), 0
         connection.pulled[self.kind] = []
         connection.write(f"SUB {self.inbox()} {self.kind}\r\n".encode())
-        words = {"deliver_policy": "by_start_sequence", "opt_start_seq": first, "ack_policy": "none", "inactive_threshold": IDLE}
+        words = {
+            "deliver_policy": "by_start_sequence",
+            "opt_start_seq": first,
+            "ack_policy": "none",
+            "inactive_threshold": IDLE,
+        }
         self.consumer = connection.api(f"CONSUMER.CREATE.{stream}", stream_name=stream, config=words)["name"]
 
     def inbox(self):

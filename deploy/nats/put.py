@@ -84,7 +84,9 @@ class Producer(Connected, putting.Lines):
         """Learns which of its steps a partition has."""
         found = self.connection.last(self.partitions[at].steps, self.subject(at))
         self.at[at] = found[0] if found else 0
-        number, digest = (int(found[1].headers["Recall-Number"]) + 1, found[1].headers["Recall-Digest"]) if found else (0, "")
+        number, digest = (
+            (int(found[1].headers["Recall-Number"]) + 1, found[1].headers["Recall-Digest"]) if found else (0, "")
+        )
         self.learn(at, number, digest.encode())
 
     def send(self):

@@ -86,7 +86,9 @@ class Lease:
 
     def put(self, connection, expected):
         """Puts the message, where the one before is the expected one; gives its number."""
-        return connection.call(self.partition.lease_subject, {**who(), "since": time.time()}, **expecting(expected))["seq"]
+        return connection.call(self.partition.lease_subject, {**who(), "since": time.time()}, **expecting(expected))[
+            "seq"
+        ]
 
     def take(self):
         """Takes it, if nobody has it."""
@@ -170,7 +172,9 @@ class Worker(working.Worker):
 
     def reply(self, number):
         """The reply of this number among the stream's messages."""
-        [message, *_] = jet.Pull(jet.Connection(self.partition.connection.url), self.partition.replies, number).read(jet.ANSWER)
+        [message, *_] = jet.Pull(jet.Connection(self.partition.connection.url), self.partition.replies, number).read(
+            jet.ANSWER
+        )
         return message.payload
 
     def steps(self):
@@ -216,7 +220,8 @@ def reach(words):
     """The partition that the words name. Where the server knows how many there are, it must be one of them."""
     name, connection = jet.name(words.name), jet.Connection(words.nats)
     if connection.most < WORD:
-        raise Fault(1, f"the server's max_payload is {connection.most}, and a reply may need {WORD}: deploy/nats/nats.conf")
+        what = f"the server's max_payload is {connection.most}, and a reply may need {WORD}"
+        raise Fault(1, f"{what}: start it by deploy/nats/start")
     make_about(connection, name)
     fixed = connection.last(f"{name}-about", f"{name}.about.partitions")
     running.check_partition(name, words.partition, int(fixed[1].payload) if fixed else 0)

@@ -60,8 +60,8 @@ class Place:
     def give(self, name, lines):
         """Puts lines in by a producer of this name."""
         producer = put.Producer(self.client, self.partitions, name)
-        for line in lines:
-            producer.add(line)
+        for each in lines:
+            producer.add(each)
         while not producer.send():
             pass
 
@@ -129,12 +129,14 @@ def slow_replies(place):
             seconds.append(time.monotonic() - begun)
         more = [line("status", unit=0)]
         place.give("more", more)
-        with place.worker(slow_program(place.program, RATE, place.room), url):  # (it replays: the reply is written once more, and dropped)
+        # It replays: the reply is written once more, and dropped.
+        with place.worker(slow_program(place.program, RATE, place.room), url):
             place.answered(len(lines) + 1)
     finally:
         link.close()
     bytes = place.compare(("slow", lines), ("more", more))
-    return f"{bytes / 1e6:.0f} MB of replies, the last of which took {seconds[-1]:.1f} s, were recorded under one lease of {LEASE / 1000} s"
+    what = f"{bytes / 1e6:.0f} MB of replies, the last of which took {seconds[-1]:.1f} s"
+    return f"{what}, were recorded under one lease of {LEASE / 1000} s"
 
 
 # Lines that make many long replies at once.
@@ -213,7 +215,10 @@ def other_lines(place):
         "another line of as many bytes": [first[0], first[1].replace(b'"x"', b'"y"'), *first[2:]],
     }
     run = lambda lines, words=words: subprocess.run(
-        [os.path.join(place.scripts, "put.py"), *words], input=b"".join(each + b"\n" for each in lines), capture_output=True, timeout=ANSWERS
+        [os.path.join(place.scripts, "put.py"), *words],
+        input=b"".join(each + b"\n" for each in lines),
+        capture_output=True,
+        timeout=ANSWERS,
     )
     with place.worker():
         wanted = plain_run(place.program, first)
@@ -237,7 +242,27 @@ def other_lines(place):
 # Numbers that are no numbers.
 
 
-NUMBERS = ["0x0", "0.0", "", " ", "0e0", "00", "-0", "+0", " 0", "0 ", "0\n", "\0", "-1", "nan", "inf", "1" * 16, "9" * 400, "zero", "٠"]
+NUMBERS = [
+    "0x0",
+    "0.0",
+    "",
+    " ",
+    "0e0",
+    "00",
+    "-0",
+    "+0",
+    " 0",
+    "0 ",
+    "0\n",
+    "\0",
+    "-1",
+    "nan",
+    "inf",
+    "1" * 16,
+    "9" * 400,
+    "zero",
+    "٠",
+]
 
 
 def no_numbers(place):
@@ -264,7 +289,9 @@ def no_numbers(place):
             place.client.xadd(place.steps, {"from": "bad", "number": number, "line": "", "more": "words"})
         place.client.xadd(place.steps, {"word": "alone"})
         lines = [line("open", units=["echo"])]
-        replies = putting.put(put.Producer(place.client, place.partitions, "good"), put.Replies(place.client, place.partitions), lines)
+        replies = putting.put(
+            put.Producer(place.client, place.partitions, "good"), put.Replies(place.client, place.partitions), lines
+        )
         if list(replies) != plain_run(place.program, lines):
             raise Wrong("a step after the refused ones has another reply")
     return f"{len(NUMBERS)} numbers that are none were refused in each place, before anything was written"
@@ -292,7 +319,9 @@ def partition_no_numbers(place):
     """A count of partitions that can't be isn't fixed for those who come later."""
     for count in ("0", "-1", "16385", "0x1", "1.0"):
         words = [f"--redis={place.server.url}", "--name=none", "--producer=one", "--", count]
-        done = subprocess.run([os.path.join(place.scripts, "put.py"), *words], input=b"{}", capture_output=True, timeout=ANSWERS)
+        done = subprocess.run(
+            [os.path.join(place.scripts, "put.py"), *words], input=b"{}", capture_output=True, timeout=ANSWERS
+        )
         if done.returncode not in (1, 2) or done.stdout or place.client.exists("none:partitions"):
             raise Wrong(f"{count} partitions: {done}")
 
@@ -330,7 +359,7 @@ def server_gone(place):
     go_in_the_middle(place)
     no_functions(place)
     no_programs(place)
-    return "each script ends with one line and a status where the server is down, refuses a password, lacks functions or goes"
+    return "each script ends with one line and a status where the server is down, refuses it, lacks functions or goes"
 
 
 def go_in_the_middle(place):
@@ -338,7 +367,16 @@ def go_in_the_middle(place):
     worker = place.held(place.program, place.server.url)
     until("the lease", worker.has_lease)
     waiting = place.held(place.program, place.server.url)
-    command = [os.path.join(place.scripts, "put.py"), "1", "--producer", "one", "--timeout", "2", "--redis", place.server.url]
+    command = [
+        os.path.join(place.scripts, "put.py"),
+        "1",
+        "--producer",
+        "one",
+        "--timeout",
+        "2",
+        "--redis",
+        place.server.url,
+    ]
     os.kill(worker.begun()[1], signal.SIGSTOP)
     producer = subprocess.Popen(command, stdin=subprocess.PIPE, stdout=subprocess.PIPE, stderr=subprocess.PIPE)
     producer.stdin.write(b"{}\n")
@@ -381,7 +419,12 @@ def no_programs(place):
     for name in ("worker.py", "epoch.py"):
         must(f"{name} with a script", script(place, name, path, "0"), 2, "script")
         must(f"{name} with no file", script(place, name, path + "-none", "0"), 2, "can't be read")
-    must("worker.py with a partition that isn't there", script(place, "worker.py", place.program, "1"), 2, "no partition 1")
+    must(
+        "worker.py with a partition that isn't there",
+        script(place, "worker.py", place.program, "1"),
+        2,
+        "no partition 1",
+    )
 
 
 # What is stuck, and how it is told.
@@ -411,7 +454,19 @@ def stuck(place):
     producer = put.Producer(place.client, partitions, "one")
     tenants = {running.partition_of(line("status", name), 2): name for name in "abcdefgh"}
     lines = [line("status", tenants[0], unit=0), line("status", tenants[1], unit=0)] * 2
-    see("before a step", status_of(place), 0, lag=0, steps=0, replies=0, lease=None, holder=None, fault=None, faults=0, oldest=None)
+    see(
+        "before a step",
+        status_of(place),
+        0,
+        lag=0,
+        steps=0,
+        replies=0,
+        lease=None,
+        holder=None,
+        fault=None,
+        faults=0,
+        oldest=None,
+    )
     other = Held([os.path.join(place.scripts, "worker.py"), place.program, "1", "--redis", place.server.url], 1)
     try:
         for each in lines:
@@ -436,7 +491,12 @@ def no_worker(place, lines):
         raise Wrong(f"no worker: {part}")
     status, said, _ = script(place, "recallctl", "status")
     rows = [row.split()[0] for row in said.splitlines()[2:4]]
-    if status != 1 or rows != ["0", "1"] or "stuck: partition 0: 2 steps wait" not in said or "stuck: partition 1" in said:
+    if (
+        status != 1
+        or rows != ["0", "1"]
+        or "stuck: partition 0: 2 steps wait" not in said
+        or "stuck: partition 1" in said
+    ):
         raise Wrong(f"no worker: {status}, {said}")
     if status_of(place, "1")[0] != 0:
         raise Wrong("the other partition is told to be stuck")
@@ -454,7 +514,11 @@ def bad_worker(place):
     pid = held.process.pid
     part = see("a fault", status_of(place), 0 if place.client.xlen(place.replies) == 2 else 1, lease=None, faults=1)
     fault, holder = part["fault"], part["holder"]
-    if (fault["status"], fault["pid"], holder["pid"]) != (5, pid, pid) or not 0 <= fault["ago"] < ANSWERS or "-9" not in fault["why"]:
+    if (
+        (fault["status"], fault["pid"], holder["pid"]) != (5, pid, pid)
+        or not 0 <= fault["ago"] < ANSWERS
+        or "-9" not in fault["why"]
+    ):
         raise Wrong(f"a fault: {part}")
 
 
@@ -465,7 +529,11 @@ def program_that_hangs(place):
         until("its lease", held.has_lease)
         until("its replies", lambda: place.client.xlen(place.replies) == 2)
         part = see("a worker", status_of(place), 0, lag=0, steps=2, replies=2, oldest=None, stuck=None)
-        if part["holder"]["pid"] != held.process.pid or not 0 < part["lease"]["lasts"] <= 60 or part["lease"]["number"] < 2:
+        if (
+            part["holder"]["pid"] != held.process.pid
+            or not 0 < part["lease"]["lasts"] <= 60
+            or part["lease"]["number"] < 2
+        ):
             raise Wrong(f"a worker: {part}")
         os.kill(held.begun()[1], signal.SIGSTOP)
         place.client.xadd(place.steps, {"from": "x", "number": "0", "line": "{}"})

@@ -11,7 +11,8 @@ sys.path.append(os.path.dirname(os.path.dirname(os.path.abspath(__file__))))
 from running import Away, Fault
 
 URL = os.environ.get("RECALL_REDIS", "redis://127.0.0.1:6379")
-NO_FUNCTIONS = "the server has no functions of recall, or others: redis-cli -x FUNCTION LOAD REPLACE < deploy/redis/recall.lua"
+LOAD = "redis-cli -x FUNCTION LOAD REPLACE < deploy/redis/recall.lua"
+NO_FUNCTIONS = f"the server has no functions of recall, or others: {LOAD}"
 CONNECT = 5  # (seconds in which a server must take a connection)
 # A server whose machine is gone says nothing: after 30 seconds without an answer from its system the connection is
 # lost.

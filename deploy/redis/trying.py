@@ -27,7 +27,9 @@ class Server:
     def start(self, *more):
         words = [self.room, "--port", self.port, "--bind", "127.0.0.1", "--save", "", "--logfile", "server.log", *more]
         with open(os.path.join(self.room, "start.log"), "a") as log:
-            self.process = subprocess.Popen([os.path.join(self.scripts, "start"), *map(str, words)], stdout=log, stderr=log)
+            self.process = subprocess.Popen(
+                [os.path.join(self.scripts, "start"), *map(str, words)], stdout=log, stderr=log
+            )
         until("the server's start", self.answers)
 
     def answers(self):
@@ -55,7 +57,11 @@ class Server:
     def open_to_others(self):
         """The server's own files, which have every text, that others than their owner may read or write."""
         folder = os.path.join(self.room, "appendonlydir")
-        files = [folder, os.path.join(self.room, "server.log"), *(os.path.join(folder, name) for name in os.listdir(folder))]
+        files = [
+            folder,
+            os.path.join(self.room, "server.log"),
+            *(os.path.join(folder, name) for name in os.listdir(folder)),
+        ]
         return [os.path.relpath(file, self.room) for file in files if os.stat(file).st_mode & 0o077]
 
     def file(self):

@@ -90,7 +90,9 @@ class Lease:
     def take(self):
         """Takes it, if nobody has it."""
         keys = [self.key, *map(self.partition.key, ("fence", "holder"))]
-        self.held = self.partition.call("take", keys, secrets.token_hex(8), self.length, socket.gethostname(), os.getpid())
+        self.held = self.partition.call(
+            "take", keys, secrets.token_hex(8), self.length, socket.gethostname(), os.getpid()
+        )
         return self.held is not None
 
     def run(self, program):
