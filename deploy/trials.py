@@ -509,10 +509,8 @@ class Fleet:
                 held.process.wait()
 
 
-def planted(room, folder, faults):
-    """The folder of an engine's scripts in a copy, with these faults in them: each a file, and what is put for what in
-    it."""
-    scripts = os.path.join(room, "scripts")
+def plant(scripts, folder, faults):
+    """Copies all scripts, with these faults in those of an engine: each a file, and what is put for what in it."""
     shutil.copytree(HERE, scripts)
     for file, old, new in faults:
         path = os.path.join(scripts, folder, file)
@@ -522,21 +520,43 @@ def planted(room, folder, faults):
             sys.exit(f"try: {file} doesn't have {old!r} once")
         with open(path, "w") as changed:
             changed.write(text.replace(old, new))
-    return os.path.join(scripts, folder)
 
 
-def main(page, plants, parts, attempt):
-    """Tries what the words of the command line ask for: `attempt` takes them, and a folder."""
+def try_planted(folder, faults, given):
+    """Tries a copy of the scripts with these faults in them, by these words; gives its status."""
+    with tempfile.TemporaryDirectory(prefix="recall-planted-") as room:
+        scripts = os.path.join(room, "scripts")
+        plant(scripts, folder, faults)
+        process = subprocess.Popen([os.path.join(scripts, folder, "try"), *given])
+        try:
+            return process.wait()
+        finally:
+            process.terminate()
+            process.wait()
+
+
+def reader_of(page, plants, parts):
+    """The reader of the words of a try."""
     reader = argparse.ArgumentParser(description=page, formatter_class=argparse.RawDescriptionHelpFormatter)
     reader.add_argument("program", type=os.path.abspath)
     reader.add_argument("--seed", type=int, default=random.randrange(10**6))
     reader.add_argument("--plant", choices=plants)
     reader.add_argument("--only", choices=parts)
-    reader.add_argument("--tenants", type=int, default=1)
     reader.add_argument("--keep", action="store_true")
-    words = reader.parse_args()
-    print(f"try: seed {words.seed}", flush=True)
+    return reader
+
+
+def main(reader, folder, plants, attempt):
+    """Tries what the words of the command line ask for: `attempt` takes them, and a folder. Where a fault is to be
+    planted, a copy with it is tried."""
     signal.signal(signal.SIGTERM, lambda *_: sys.exit("try: told to end"))
+    words = reader.parse_args()
+    if words.plant:
+        given = sys.argv[1:]
+        at = next(at for at, word in enumerate(given) if word.startswith("--plant"))
+        del given[at : at + 1 + ("=" not in given[at])]
+        sys.exit(try_planted(folder, plants[words.plant], given))
+    print(f"try: seed {words.seed}", flush=True)
     begun = time.monotonic()
     room = tempfile.mkdtemp(prefix="recall-try-")
     try:
