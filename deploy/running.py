@@ -79,13 +79,22 @@ class Run:
 
     def __init__(self, program, meanwhile=lambda: None):
         self.meanwhile = meanwhile
-        self.process = subprocess.Popen([program, "run"], stdin=subprocess.PIPE, stdout=subprocess.PIPE)
+        try:
+            self.process = subprocess.Popen([program, "run"], stdin=subprocess.PIPE, stdout=subprocess.PIPE)
+        except OSError as fault:
+            raise Fault(2, f"the program {program} can't be run: {fault.strerror}")
         self.pieces, self.lines, self.waits_since = [], collections.deque(), None
 
     def give(self, lines):
         """Gives it these lines. One with a line feed in it would be answered twice: it is given as a blank one."""
-        self.process.stdin.write(b"".join((b"" if b"\n" in line else line) + b"\n" for line in lines))
-        self.process.stdin.flush()
+        try:
+            self.process.stdin.write(b"".join((b"" if b"\n" in line else line) + b"\n" for line in lines))
+            self.process.stdin.flush()
+        except BrokenPipeError:
+            raise self.ended()
+
+    def ended(self):
+        return Fault(5, f"the program ended with status {self.process.wait()}")
 
     def is_stuck(self, seconds):
         """Whether a reply is waited for, and nothing of it came for so long."""
@@ -100,7 +109,7 @@ class Run:
         piece = os.read(self.process.stdout.fileno(), PIECE)
         self.waits_since = None
         if not piece:
-            raise Fault(5, f"the program ended with status {self.process.wait()}")
+            raise self.ended()
         self.pieces.append(piece)
         if b"\n" in piece:
             *lines, rest = b"".join(self.pieces).split(b"\n")

@@ -69,8 +69,6 @@ class Worker:
             for steps in self.steps():
                 self.batches.put(steps)
                 self.run.give([step.line for step in steps])
-        except BrokenPipeError:
-            pass  # (the reply that is missing tells of it)
         except Exception as fault:
             self.batches.put(fault)
 
