@@ -22,15 +22,13 @@ from running import Away, Fault
 
 URL = os.environ.get("RECALL_NATS", "nats://127.0.0.1:4222")
 CONNECT, ANSWER = 5, 30  # (seconds in which a server must take a connection, and answer)
-# A server whose machine is gone says nothing: after 30 seconds without an answer from its system the connection is
-# lost.
+# A server whose machine is gone says nothing: 30 seconds without an answer from its system, and the connection is lost.
 SILENT = {socket.TCP_KEEPIDLE: 10, socket.TCP_KEEPINTVL: 5, socket.TCP_KEEPCNT: 4, socket.TCP_USER_TIMEOUT: 30_000}
 AT_ONCE, LARGEST = 100, 32 << 20  # (messages that are read at once, and their bytes: enough for one of the longest)
-EXPIRES, IDLE = (
-    5 * 10**9,
-    60 * 10**9,
-)  # (nanoseconds: until a question for messages is over, and a reader is forgotten)
-NO_MESSAGE, GONE = 10037, 10057  # (numbers of JetStream's refusals)
+SECOND = 10**9  # (nanoseconds)
+EXPIRES, IDLE = 5 * SECOND, 60 * SECOND  # (until a question for messages is over, and a reader is forgotten)
+NOT_YET, NO_MESSAGE, GONE = 10008, 10037, 10057  # (numbers of JetStream's refusals)
+NO_JETSTREAM = "the server has no JetStream here, or not yet: deploy/nats/start begins one that has it"
 
 
 class Refused(Exception):
@@ -103,14 +101,7 @@ class Connection:
             raise Fault(2, "the server wants TLS, which this client doesn't speak")
         self.info, self.most = info, info["max_payload"]
         self.host = f"{where.hostname}:{where.port or 4222}"
-        words = {
-            "verbose": False,
-            "pedantic": False,
-            "headers": True,
-            "no_responders": True,
-            "lang": "recall",
-            "version": "1",
-        }
+        words = {"verbose": False, "headers": True, "no_responders": True, "lang": "recall", "version": "1"}
         if where.username and where.password is None:
             words["auth_token"] = unquote(where.username)
         elif where.username:
@@ -121,6 +112,9 @@ class Connection:
                 pass
         except TimeoutError:
             raise self.lost(f"it hasn't answered in {CONNECT} s")
+
+    def close(self):
+        self.socket.close()
 
     # Bytes.
 
@@ -192,10 +186,8 @@ class Connection:
     def ask(self, subject, payload=b"", **headers):
         """Sends a message that is to be answered; gives the token of its answer."""
         self.count += 1
-        reply, payload = (
-            f"{self.inbox}.a.{self.count}",
-            payload if isinstance(payload, bytes) else json.dumps(payload).encode(),
-        )
+        reply = f"{self.inbox}.a.{self.count}"
+        payload = payload if isinstance(payload, bytes) else json.dumps(payload).encode()
         head = "".join(f"{name.replace('_', '-')}: {value}\r\n" for name, value in headers.items())
         if head:
             head = f"NATS/1.0\r\n{head}\r\n".encode()
@@ -214,10 +206,11 @@ class Connection:
             except TimeoutError:
                 raise self.lost(f"it hasn't answered in {ANSWER} s")
         message = self.answers.pop(token)
-        if message.status == 503:
-            raise Fault(1, "the server has no JetStream here: deploy/nats/start begins one that has it")
-        said = json.loads(message.payload)
-        if error := said.get("error"):
+        said = json.loads(message.payload or b"{}")
+        error = said.get("error")
+        if message.status == 503 or error and error.get("err_code") == NOT_YET:
+            raise Away(NO_JETSTREAM)
+        if error:
             raise Refused(error.get("err_code", 0), error.get("description", ""))
         return said
 
@@ -274,16 +267,17 @@ class Pull:
     """Reads a stream from a message on, by a consumer of its own: so many at once, and so many bytes."""
 
     def __init__(self, connection, stream, first):
-        self.connection, self.stream, self.kind, self.asked = connection, stream, str(len(connection.pulled) + 2), 0
+        self.connection, self.stream, self.next, self.kind = connection, stream, first, str(len(connection.pulled) + 2)
         connection.pulled[self.kind] = []
         connection.write(f"SUB {self.inbox()} {self.kind}\r\n".encode())
-        words = {
-            "deliver_policy": "by_start_sequence",
-            "opt_start_seq": first,
-            "ack_policy": "none",
-            "inactive_threshold": IDLE,
-        }
-        self.consumer = connection.api(f"CONSUMER.CREATE.{stream}", stream_name=stream, config=words)["name"]
+        self.begin()
+
+    def begin(self):
+        """Has the server make a consumer that begins with the next message. It is forgotten where it isn't used."""
+        words = {"deliver_policy": "by_start_sequence", "opt_start_seq": self.next, "ack_policy": "none"}
+        words["inactive_threshold"] = IDLE
+        made = self.connection.api(f"CONSUMER.CREATE.{self.stream}", stream_name=self.stream, config=words)
+        self.consumer, self.asked = made["name"], 0
 
     def inbox(self):
         return f"{self.connection.inbox}.p{self.kind}"
@@ -302,10 +296,10 @@ class Pull:
         while come:
             message = come.pop(0)
             if message.status is None:
-                self.asked -= 1
+                self.asked, self.next = self.asked - 1, message.sequence() + 1
                 found.append(message)
             elif message.status == 503:
-                raise self.connection.lost("it has forgotten this reader, who was away for too long")
+                self.begin()
             elif message.status != 100:
                 self.asked = 0  # (no more come for this question)
         return found

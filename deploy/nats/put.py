@@ -55,7 +55,7 @@ class Connected:
 
     def lose(self):
         if self.connection:
-            self.connection.socket.close()
+            self.connection.close()
             self.connection = None
 
 
@@ -83,11 +83,11 @@ class Producer(Connected, putting.Lines):
     def look(self, at):
         """Learns which of its steps a partition has."""
         found = self.connection.last(self.partitions[at].steps, self.subject(at))
-        self.at[at] = found[0] if found else 0
-        number, digest = (
-            (int(found[1].headers["Recall-Number"]) + 1, found[1].headers["Recall-Digest"]) if found else (0, "")
-        )
-        self.learn(at, number, digest.encode())
+        self.at[at], next, digest = 0, 0, ""
+        if found:
+            self.at[at], headers = found[0], found[1].headers
+            next, digest = int(headers["Recall-Number"]) + 1, headers["Recall-Digest"]
+        self.learn(at, next, digest.encode())
 
     def send(self):
         """Puts the next lines of each partition; gives whether all are there. It is to be asked again: where a

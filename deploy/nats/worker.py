@@ -86,9 +86,8 @@ class Lease:
 
     def put(self, connection, expected):
         """Puts the message, where the one before is the expected one; gives its number."""
-        return connection.call(self.partition.lease_subject, {**who(), "since": time.time()}, **expecting(expected))[
-            "seq"
-        ]
+        words = {**who(), "since": time.time()}
+        return connection.call(self.partition.lease_subject, words, **expecting(expected))["seq"]
 
     def take(self):
         """Takes it, if nobody has it."""
@@ -172,10 +171,13 @@ class Worker(working.Worker):
 
     def reply(self, number):
         """The reply of this number among the stream's messages."""
-        [message, *_] = jet.Pull(jet.Connection(self.partition.connection.url), self.partition.replies, number).read(
-            jet.ANSWER
-        )
-        return message.payload
+        own = jet.Connection(self.partition.connection.url)
+        try:
+            if found := jet.Pull(own, self.partition.replies, number).read(jet.ANSWER):
+                return found[0].payload
+            raise own.lost("it didn't give the last reply in time")
+        finally:
+            own.close()
 
     def steps(self):
         with jet.told():
