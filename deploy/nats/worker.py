@@ -24,6 +24,7 @@ import working
 from working import WORD, Step
 
 STALE = {10070, 10071}  # (refusals: the last message isn't the one that is expected)
+LEAST = 100  # (milliseconds that a server takes as an age)
 
 
 def expecting(sequence):
@@ -56,6 +57,7 @@ class Partition:
         found = self.connection.last(self.about, f"{self.name}.about.{what}.{self.number}")
         return found and json.loads(found[1].payload)
 
+    @jet.told()
     def note(self, status, why):
         """Notes why a worker ended, in a server that can be reached."""
         if status == 4:
@@ -80,6 +82,8 @@ class Lease:
 
     def __init__(self, partition, length):
         self.partition, self.length, self.keeping = partition, length, None
+        if length < LEAST:
+            raise Fault(2, f"a lease lasts {LEAST} milliseconds at least, and not {length}")
         nanoseconds = length * 1_000_000
         words = {"max_age": nanoseconds, "duplicate_window": nanoseconds, "max_msgs_per_subject": 1}
         partition.connection.stream(partition.leases, subjects=[f"{partition.name}.lease.*"], **words)
