@@ -27,6 +27,7 @@ SILENT = {socket.TCP_KEEPIDLE: 10, socket.TCP_KEEPINTVL: 5, socket.TCP_KEEPCNT: 
 AT_ONCE, LARGEST = 100, 32 << 20  # (messages that are read at once, and their bytes: enough for one of the longest)
 SECOND = 10**9  # (nanoseconds)
 EXPIRES, IDLE = 5 * SECOND, 60 * SECOND  # (until a question for messages is over, and a reader is forgotten)
+LATE = 0.5  # (seconds by which the end of a question may be late)
 NOT_YET, NO_MESSAGE, GONE = 10008, 10037, 10057  # (numbers of JetStream's refusals)
 NO_JETSTREAM = "the server has no JetStream here, or not yet: deploy/nats/start begins one that has it"
 
@@ -283,9 +284,9 @@ class Pull:
         return f"{self.connection.inbox}.p{self.kind}"
 
     def ask(self):
-        """Asks for more, unless that was done."""
-        if not self.asked:
-            self.asked = AT_ONCE
+        """Asks for more, unless that was done and may still be answered: the end of a question isn't always told."""
+        if self.asked <= 0 or time.monotonic() > self.over:
+            self.asked, self.over = AT_ONCE, time.monotonic() + EXPIRES / SECOND + LATE
             words = json.dumps({"batch": AT_ONCE, "max_bytes": LARGEST, "expires": EXPIRES}).encode()
             subject = f"$JS.API.CONSUMER.MSG.NEXT.{self.stream}.{self.consumer}"
             self.connection.write(f"PUB {subject} {self.inbox()} {len(words)}\r\n".encode(), words, b"\r\n")
@@ -296,13 +297,23 @@ class Pull:
         while come:
             message = come.pop(0)
             if message.status is None:
-                self.asked, self.next = self.asked - 1, message.sequence() + 1
-                found.append(message)
+                self.asked -= 1
+                self.take(message, found)
             elif message.status == 503:
                 self.begin()
             elif message.status != 100:
                 self.asked = 0  # (no more come for this question)
         return found
+
+    def take(self, message, found):
+        """Adds the next message. Nothing is ever taken out of these streams, so where another one comes, the consumer
+        is at fault: another is made."""
+        is_own = message.reply.split(".")[3] == self.consumer
+        if is_own and message.sequence() == self.next:
+            self.next += 1
+            found.append(message)
+        elif is_own and message.sequence() > self.next:
+            self.begin()
 
     def read(self, seconds):
         """Those that come next, waiting so long for one."""
