@@ -5,26 +5,24 @@ import contextlib
 import json
 import os
 import signal
-import socket
 import subprocess
-import threading
 import time
 
 import redis
 
-import put
-from trying import Held, Wrong, plain_run, until
+import put  # (this finds the modules of the folder above)
+import putting
+import running
+from trials import ANSWERS, LEASE, LONG, TEXTS, Held, Link, Wrong, free_port, line, must
+from trials import one_long_reply, outcome, plain_run, slow_program, until
 
-LEASE = 1000  # (milliseconds: short, so that what takes longer than a lease takes little)
 RATE = 8_000_000  # (bytes a second of a slow program, and of a slow link: a reply of 25 MB takes three leases)
-TEXTS, LONG = 1024, "\x01" * 4096  # (held outputs of a unit at most; a text of the most bytes, each of which takes six in JSON)
 CLIENTS = 128 << 20  # (bytes that a server lets its clients have in hand, where many long replies are made at once)
-ANSWERS = 15  # (seconds in which a script must end, and the next worker must have the lease of one that hangs)
 
 
 class Place:
-    """Where an attack is tried: the program, a server with the functions of a folder of scripts and nothing else, a folder,
-    and how many tenants make long replies at once."""
+    """Where an attack is tried: the program, a server with the functions of a folder of scripts and nothing else, a
+    folder, and how many tenants make long replies at once."""
 
     def __init__(self, program, server, scripts, room, tenants):
         self.program, self.server, self.scripts, self.room, self.tenants = program, server, scripts, room, tenants
@@ -32,9 +30,9 @@ class Place:
         self.partitions = put.partitions_of(server.client, "recall", 1)
         self.steps, self.replies = (self.partitions[0].key(stream, 0) for stream in ("steps", "replies"))
 
-    def held(self, program, url):
+    def held(self, program, url, lease=LEASE):
         """A worker's process."""
-        return Held([os.path.join(self.scripts, "worker.py"), program, "0", "--redis", url, "--lease", str(LEASE)], 0)
+        return Held([os.path.join(self.scripts, "worker.py"), program, "0", "--redis", url, "--lease", str(lease)], 0)
 
     @contextlib.contextmanager
     def worker(self, program=None, url=None):
@@ -62,8 +60,8 @@ class Place:
     def give(self, name, lines):
         """Puts lines in by a producer of this name."""
         producer = put.Producer(self.client, self.partitions, name)
-        for line in lines:
-            producer.add(line)
+        for each in lines:
+            producer.add(each)
         while not producer.send():
             pass
 
@@ -72,11 +70,11 @@ class Place:
         until(f"{count} replies", lambda: self.client.xlen(self.replies) >= count)
 
     def compare(self, *puts):
-        """Sees that the recorded replies are those of one plain run of what was put, each a producer's name and its lines, one
-        by one: all of them may be too many to hold. Gives their bytes."""
+        """Sees that the recorded replies are those of one plain run of what was put, each a producer's name and its
+        lines, one by one: all of them may be too many to hold. Gives their bytes."""
         given, taken = (os.path.join(self.room, name) for name in ("given", "taken"))
         with open(given, "wb") as file:
-            file.writelines(line + b"\n" for _, lines in puts for line in lines)
+            file.writelines(each + b"\n" for _, lines in puts for each in lines)
         with open(given, "rb") as file, open(taken, "wb") as replies:
             subprocess.run([self.program, "run"], stdin=file, stdout=replies, check=True)
         wanted = [(name.encode(), number) for name, lines in puts for number in range(len(lines))]
@@ -90,78 +88,23 @@ class Place:
             return replies.tell()
 
 
-def line(do, tenant="a", **keys):
-    return json.dumps({"do": do, "tenant": tenant, **keys}, sort_keys=True, separators=(",", ":")).encode()
-
-
 # A reply that is written, and appended, more slowly than a lease lasts.
 
 
-SLOW = """#!/usr/bin/python3 -B
-import os, subprocess, sys, time
-program = subprocess.Popen([{program!r}, *sys.argv[1:]], stdout=subprocess.PIPE)
-while piece := os.read(program.stdout.fileno(), 1 << 16):
-    time.sleep(len(piece) / {rate})
-    while piece:
-        piece = piece[os.write(1, piece):]
-"""
-
-
-class Link(threading.Thread):
-    """A slow link to the server: a port of the loopback, each of whose connections passes so many bytes a second on."""
-
-    def __init__(self, port):
-        super().__init__(daemon=True)
-        self.port, self.door = port, socket.create_server(("127.0.0.1", 0))
-        self.url = f"redis://127.0.0.1:{self.door.getsockname()[1]}"
-        self.start()
-
-    def run(self):
-        with contextlib.suppress(OSError):
-            while True:
-                near, _ = self.door.accept()
-                far = socket.create_connection(("127.0.0.1", self.port))
-                for ends in ((near, far), (far, near)):
-                    threading.Thread(target=self.carry, args=ends, daemon=True).start()
-
-    def carry(self, source, target):
-        with contextlib.suppress(OSError):
-            while piece := source.recv(1 << 16):
-                time.sleep(len(piece) / RATE)
-                target.sendall(piece)
-            target.shutdown(socket.SHUT_WR)
-
-
-def slow_program(place):
-    """A program that writes its replies slowly."""
-    path = os.path.join(place.room, "slow")
-    with open(path, "w") as file:
-        file.write(SLOW.format(program=place.program, rate=RATE))
-    os.chmod(path, 0o700)
-    return path
-
-
-def one_long_reply(tenant):
-    """Lines of a tenant whose last one is answered by 25 MB."""
-    posts = [line("post", tenant, unit=0, number=number, text=LONG) for number in range(TEXTS)]
-    return [line("open", tenant, units=["echo"]), *posts, line("flush", tenant, unit=0), line("release", tenant, unit=0)]
-
-
 def hang(place):
-    """A program that takes steps and answers none doesn't keep the lease: the next worker has it."""
-    path = os.path.join(place.room, "hangs")
-    with open(path, "w") as file:
-        file.write(f"#!/bin/sh\nexec sleep {2 * ANSWERS}\n")
-    os.chmod(path, 0o700)
-    place.give("hang", [line("status")])
-    hung = place.held(path, place.server.url)
+    """A program that takes steps and answers none doesn't keep the lease: its worker ends, and the next one has it."""
+    hung = place.held(place.program, place.server.url)
     try:
         until("the lease of the worker whose program hangs", hung.has_lease)
+        os.kill(hung.begun()[1], signal.SIGSTOP)
+        place.give("hang", [line("status")])
         begun = time.monotonic()
         with place.worker():
             place.answered(1)
         if (seconds := time.monotonic() - begun) > ANSWERS:
             raise Wrong(f"a program that hangs kept its partition for {seconds:.0f} s")
+        if hung.process.poll() is None or hung.end()[0] != 5 or "wrote nothing for 1 s" not in hung.said[-1]:
+            raise Wrong(f"the worker of a program that hangs: status {hung.process.poll()}, {hung.said[-1]}")
     finally:
         with contextlib.suppress(ProcessLookupError):
             os.kill(hung.begun()[1], signal.SIGKILL)
@@ -172,11 +115,12 @@ def hang(place):
 
 def slow_replies(place):
     hang(place)
-    lines, link = one_long_reply("a"), Link(place.server.port)
+    lines, link = one_long_reply("a"), Link(place.server.port, RATE)
+    url = f"redis://127.0.0.1:{link.port}"
     place.give("slow", lines)
     seconds = []
     try:
-        with place.worker(slow_program(place), link.url):
+        with place.worker(slow_program(place.program, RATE, place.room), url):
             begun = time.monotonic()
             place.answered(len(lines) - 1)
             seconds.append(time.monotonic() - begun)
@@ -185,19 +129,22 @@ def slow_replies(place):
             seconds.append(time.monotonic() - begun)
         more = [line("status", unit=0)]
         place.give("more", more)
-        with place.worker(slow_program(place), link.url):  # (it replays: the reply is written once more, and dropped)
+        # It replays: the reply is written once more, and dropped.
+        with place.worker(slow_program(place.program, RATE, place.room), url):
             place.answered(len(lines) + 1)
     finally:
-        link.door.close()
+        link.close()
     bytes = place.compare(("slow", lines), ("more", more))
-    return f"{bytes / 1e6:.0f} MB of replies, the last of which took {seconds[-1]:.1f} s, were recorded under one lease of {LEASE / 1000} s"
+    what = f"{bytes / 1e6:.0f} MB of replies, the last of which took {seconds[-1]:.1f} s"
+    return f"{what}, were recorded under one lease of {LEASE / 1000} s"
 
 
 # Lines that make many long replies at once.
 
 
 def many_long_replies(tenant):
-    """Lines of a tenant of sixteen units, each of which puts out what the first one was given: 26 MB, answered by 403."""
+    """Lines of a tenant of sixteen units, each of which puts out what the first one was given: 26 MB, answered by
+    403."""
     yield line("open", tenant, units=["tee"] * 15 + ["echo"])
     for number in range(TEXTS):
         yield line("post", tenant, unit=0, number=number, text=LONG)
@@ -268,7 +215,10 @@ def other_lines(place):
         "another line of as many bytes": [first[0], first[1].replace(b'"x"', b'"y"'), *first[2:]],
     }
     run = lambda lines, words=words: subprocess.run(
-        [os.path.join(place.scripts, "put.py"), *words], input=b"".join(each + b"\n" for each in lines), capture_output=True, timeout=ANSWERS
+        [os.path.join(place.scripts, "put.py"), *words],
+        input=b"".join(each + b"\n" for each in lines),
+        capture_output=True,
+        timeout=ANSWERS,
     )
     with place.worker():
         wanted = plain_run(place.program, first)
@@ -292,15 +242,36 @@ def other_lines(place):
 # Numbers that are no numbers.
 
 
-NUMBERS = ["0x0", "0.0", "", " ", "0e0", "00", "-0", "+0", " 0", "0 ", "0\n", "\0", "-1", "nan", "inf", "1" * 16, "9" * 400, "zero", "٠"]
+NUMBERS = [
+    "0x0",
+    "0.0",
+    "",
+    " ",
+    "0e0",
+    "00",
+    "-0",
+    "+0",
+    " 0",
+    "0 ",
+    "0\n",
+    "\0",
+    "-1",
+    "nan",
+    "inf",
+    "1" * 16,
+    "9" * 400,
+    "zero",
+    "٠",
+]
 
 
 def no_numbers(place):
     keys = [place.partitions[0].key(*words) for words in (("epoch",), ("steps", 0), ("producers",))]
-    lease = [place.partitions[0].key(word) for word in ("lease", "fence")]
+    lease = [place.partitions[0].key(word) for word in ("lease", "fence", "holder")]
     calls = {
         "a put": lambda number: place.client.fcall("recall_put", 3, *keys, 0, "bad", number, "", line("status")),
-        "a lease": lambda number: place.client.fcall("recall_take", 2, *lease, "word", number),
+        "a lease": lambda number: place.client.fcall("recall_take", 3, *lease, "word", number, "host", 1),
+        "a process": lambda number: place.client.fcall("recall_take", 3, *lease, "word", 1000, "host", number),
     }
     for what, call in calls.items():
         for number in NUMBERS:
@@ -318,7 +289,9 @@ def no_numbers(place):
             place.client.xadd(place.steps, {"from": "bad", "number": number, "line": "", "more": "words"})
         place.client.xadd(place.steps, {"word": "alone"})
         lines = [line("open", units=["echo"])]
-        replies = put.put(put.Producer(place.client, place.partitions, "good"), put.Replies(place.client, place.partitions), lines)
+        replies = putting.put(
+            put.Producer(place.client, place.partitions, "good"), put.Replies(place.client, place.partitions), lines
+        )
         if list(replies) != plain_run(place.program, lines):
             raise Wrong("a step after the refused ones has another reply")
     return f"{len(NUMBERS)} numbers that are none were refused in each place, before anything was written"
@@ -326,7 +299,7 @@ def no_numbers(place):
 
 def append_no_numbers(place, keys):
     """An append whose second reply has no number, or an id out of place, leaves the first one out too."""
-    held = place.client.fcall("recall_take", 2, *keys, "word", 60_000)
+    held = place.client.fcall("recall_take", 3, *keys, "word", 60_000, "host", 1)
     steps = [place.client.xadd(place.steps, {"from": "bad", "number": number, "line": ""}) for number in range(2)]
     first = (steps[0], "bad", 0, "reply")
     words = [(60_000, 0, *first, steps[1], "bad", number, "reply") for number in NUMBERS if number]
@@ -346,9 +319,314 @@ def partition_no_numbers(place):
     """A count of partitions that can't be isn't fixed for those who come later."""
     for count in ("0", "-1", "16385", "0x1", "1.0"):
         words = [f"--redis={place.server.url}", "--name=none", "--producer=one", "--", count]
-        done = subprocess.run([os.path.join(place.scripts, "put.py"), *words], input=b"{}", capture_output=True, timeout=ANSWERS)
+        done = subprocess.run(
+            [os.path.join(place.scripts, "put.py"), *words], input=b"{}", capture_output=True, timeout=ANSWERS
+        )
         if done.returncode not in (1, 2) or done.stdout or place.client.exists("none:partitions"):
             raise Wrong(f"{count} partitions: {done}")
 
 
-ATTACKS = {"slow-replies": slow_replies, "long-replies": long_replies, "other-lines": other_lines, "no-numbers": no_numbers}
+# A server that is down, refuses a password, or goes away.
+
+
+def script(place, name, *words, url=None, given=b"{}\n"):
+    """What a script does with these words at this address."""
+    return outcome([os.path.join(place.scripts, name), *words, "--redis", url or place.server.url], given)
+
+
+def scripts_of(place):
+    """Each script with words that are good."""
+    return {
+        "worker.py": [place.program, "0"],
+        "epoch.py": [place.program, "0"],
+        "put.py": ["1", "--producer", "one", "--timeout", "1"],
+        "recallctl": ["status"],
+    }
+
+
+def server_gone(place):
+    nobody = f"redis://127.0.0.1:{free_port()}"
+    for name, words in scripts_of(place).items():
+        must(f"{name} with no server", script(place, name, *words, url=nobody), 4, "can't be reached")
+        must(f"{name} with a bad address", script(place, name, *words, url="nothing"), 2, "address")
+    place.client.config_set("requirepass", "secret")
+    wrong = place.server.url.replace("//", "//:wrong@")
+    for name, words in scripts_of(place).items():
+        must(f"{name} with no password", script(place, name, *words), 4, "password")
+        must(f"{name} with a wrong password", script(place, name, *words, url=wrong), 4, "password")
+    place.client.auth("secret")
+    place.client.config_set("requirepass", "")
+    go_in_the_middle(place)
+    no_functions(place)
+    no_programs(place)
+    return "each script ends with one line and a status where the server is down, refuses it, lacks functions or goes"
+
+
+def go_in_the_middle(place):
+    """A server that is ended while scripts use it, and one that is a replica."""
+    worker = place.held(place.program, place.server.url)
+    until("the lease", worker.has_lease)
+    waiting = place.held(place.program, place.server.url)
+    command = [
+        os.path.join(place.scripts, "put.py"),
+        "1",
+        "--producer",
+        "one",
+        "--timeout",
+        "2",
+        "--redis",
+        place.server.url,
+    ]
+    os.kill(worker.begun()[1], signal.SIGSTOP)
+    producer = subprocess.Popen(command, stdin=subprocess.PIPE, stdout=subprocess.PIPE, stderr=subprocess.PIPE)
+    producer.stdin.write(b"{}\n")
+    producer.stdin.close()
+    until("a step", lambda: place.client.xlen(place.steps))
+    place.server.kill()
+    for what, held in {"a worker": worker, "a waiting worker": waiting}.items():
+        status, _ = held.end()
+        lines = [said for said in held.said if ": lease " not in said]
+        must(f"{what} whose server goes", (status, "", "\n".join([*lines, ""])), 4, "can't be reached")
+    must("put.py whose server goes", (producer.wait(), "", producer.stderr.read().decode()), 4, "can't be reached")
+    place.server.start()
+    place.client.execute_command("REPLICAOF", "127.0.0.1", free_port())
+    for name in ("worker.py", "put.py", "epoch.py"):
+        must(f"{name} on a replica", script(place, name, *scripts_of(place)[name]), 4, "replica")
+    status, said, _ = script(place, "recallctl", "status")
+    if status != 1 or "a replica whose link is down" not in said:
+        raise Wrong(f"a replica's status: {status}, {said}")
+    place.client.execute_command("REPLICAOF", "NO", "ONE")
+
+
+def no_functions(place):
+    """A server without the functions is told."""
+    place.client.flushall()
+    place.client.execute_command("FUNCTION", "FLUSH")
+    for name in ("worker.py", "put.py", "epoch.py"):
+        must(f"{name} without functions", script(place, name, *scripts_of(place)[name]), 1, "FUNCTION LOAD")
+    status, said, _ = script(place, "recallctl", "status")
+    if status != 1 or "FUNCTION LOAD" not in said:
+        raise Wrong(f"the status without functions: {status}, {said}")
+    place.server.load()
+
+
+def no_programs(place):
+    """What isn't a program is refused: a script is named in the place of the program."""
+    path = os.path.join(place.room, "script")
+    with open(path, "w") as file:
+        file.write(f"#!/bin/sh\nexec {place.program} run\n")
+    os.chmod(path, 0o700)
+    for name in ("worker.py", "epoch.py"):
+        must(f"{name} with a script", script(place, name, path, "0"), 2, "script")
+        must(f"{name} with no file", script(place, name, path + "-none", "0"), 2, "can't be read")
+    must(
+        "worker.py with a partition that isn't there",
+        script(place, "worker.py", place.program, "1"),
+        2,
+        "no partition 1",
+    )
+
+
+# What is stuck, and how it is told.
+
+
+def status_of(place, *words):
+    """What `recallctl` tells, and its status."""
+    status, said, why = script(place, "recallctl", "status", "--json", *words)
+    if not said:
+        raise Wrong(f"recallctl: status {status}, {why[-900:]}")
+    return status, {part["partition"]: part for part in json.loads(said)["partitions"]}
+
+
+def see(what, told, status, **wanted):
+    """Partition 0 is told so."""
+    got, parts = told
+    other = {word: parts[0][word] for word in wanted if parts[0][word] != wanted[word]}
+    if got != status or other:
+        raise Wrong(f"{what}: status {got}, and not {status}; {other} and not {wanted}")
+    return parts[0]
+
+
+def stuck(place):
+    """Two partitions, the second of which has a worker all the time."""
+    place.client.flushall()
+    partitions = put.partitions_of(place.client, "recall", 2)
+    producer = put.Producer(place.client, partitions, "one")
+    tenants = {running.partition_of(line("status", name), 2): name for name in "abcdefgh"}
+    lines = [line("status", tenants[0], unit=0), line("status", tenants[1], unit=0)] * 2
+    see(
+        "before a step",
+        status_of(place),
+        0,
+        lag=0,
+        steps=0,
+        replies=0,
+        lease=None,
+        holder=None,
+        fault=None,
+        faults=0,
+        oldest=None,
+    )
+    other = Held([os.path.join(place.scripts, "worker.py"), place.program, "1", "--redis", place.server.url], 1)
+    try:
+        for each in lines:
+            producer.add(each)
+        while not producer.send():
+            pass
+        until("the other partition's replies", lambda: place.client.xlen(partitions[1].key("replies", 0)) == 2)
+        no_worker(place, lines)
+        bad_worker(place)
+        program_that_hangs(place)
+    finally:
+        other.process.terminate()
+        other.end()
+    return "a partition without a worker, with one that fails and one that hangs was told, and who had its lease"
+
+
+def no_worker(place, lines):
+    """Steps wait and nobody has the lease: `recallctl` and `put.py` tell of the partition, and of no other one."""
+    time.sleep(1)
+    part = see("no worker", status_of(place), 1, lag=2, steps=2, replies=0, lease=None, holder=None)
+    if not 1 <= part["oldest"] < ANSWERS or "no worker" not in part["stuck"]:
+        raise Wrong(f"no worker: {part}")
+    status, said, _ = script(place, "recallctl", "status")
+    rows = [row.split()[0] for row in said.splitlines()[2:4]]
+    if (
+        status != 1
+        or rows != ["0", "1"]
+        or "stuck: partition 0: 2 steps wait" not in said
+        or "stuck: partition 1" in said
+    ):
+        raise Wrong(f"no worker: {status}, {said}")
+    if status_of(place, "1")[0] != 0:
+        raise Wrong("the other partition is told to be stuck")
+    given = b"".join(each + b"\n" for each in lines)
+    told = script(place, "put.py", "2", "--producer", "one", "--timeout", "1", given=given)
+    must("put.py without a worker", told, 6, "partition 0 owes 2;", "no worker has partition 0:")
+
+
+def bad_worker(place):
+    """A worker whose program ends leaves a fault, and that it had the lease."""
+    held = place.held(place.program, place.server.url)
+    until("its lease", held.has_lease)
+    os.kill(held.begun()[1], signal.SIGKILL)
+    held.end()
+    pid = held.process.pid
+    part = see("a fault", status_of(place), 0 if place.client.xlen(place.replies) == 2 else 1, lease=None, faults=1)
+    fault, holder = part["fault"], part["holder"]
+    if (
+        (fault["status"], fault["pid"], holder["pid"]) != (5, pid, pid)
+        or not 0 <= fault["ago"] < ANSWERS
+        or "-9" not in fault["why"]
+    ):
+        raise Wrong(f"a fault: {part}")
+
+
+def program_that_hangs(place):
+    """A worker whose program hangs has the lease, and the oldest step waits too long."""
+    held = place.held(place.program, place.server.url, 60_000)
+    try:
+        until("its lease", held.has_lease)
+        until("its replies", lambda: place.client.xlen(place.replies) == 2)
+        part = see("a worker", status_of(place), 0, lag=0, steps=2, replies=2, oldest=None, stuck=None)
+        if (
+            part["holder"]["pid"] != held.process.pid
+            or not 0 < part["lease"]["lasts"] <= 60
+            or part["lease"]["number"] < 2
+        ):
+            raise Wrong(f"a worker: {part}")
+        os.kill(held.begun()[1], signal.SIGSTOP)
+        place.client.xadd(place.steps, {"from": "x", "number": "0", "line": "{}"})
+        time.sleep(0.5)
+        see("a program that hangs, for a moment", status_of(place), 0, lag=1)
+        part = see("a program that hangs", status_of(place, "--stuck", "0.3"), 1, lag=1)
+        if str(held.process.pid) not in part["stuck"]:
+            raise Wrong(f"a program that hangs: {part}")
+    finally:
+        os.kill(held.begun()[1], signal.SIGKILL)
+        held.end()
+
+
+# A file of lines that is followed.
+
+
+class Follower:
+    """A producer that follows a file of lines, as a service does."""
+
+    def __init__(self, place, lines):
+        self.place, self.rest, self.producer = place, list(lines), None
+        self.given, self.taken = (os.path.join(place.room, name) for name in ("lines", "replies"))
+        open(self.given, "wb").close()
+        words = ["1", "--producer", "one", "--redis", place.server.url, "--follow", self.given, self.taken]
+        self.command = [os.path.join(place.scripts, "put.py"), *words]
+
+    def start(self):
+        return subprocess.Popen(self.command, stderr=subprocess.PIPE)
+
+    def add(self, count):
+        """Adds so many lines to the file."""
+        with open(self.given, "ab") as file:
+            file.writelines(each + b"\n" for each in self.rest[:count])
+        del self.rest[:count]
+
+    def has(self):
+        """What the file of replies has."""
+        with contextlib.suppress(FileNotFoundError), open(self.taken, "rb") as file:
+            return file.read()
+        return b""
+
+    @contextlib.contextmanager
+    def following(self):
+        """The producer runs meanwhile, and is ended by SIGKILL."""
+        self.producer = self.start()
+        try:
+            yield
+        finally:
+            self.producer.kill()
+            self.producer.wait()
+
+    def ends(self, what, *words):
+        """Another one ends with a fault."""
+        producer = self.start()
+        must(what, (producer.wait(ANSWERS), "", producer.stderr.read().decode()), 1, *words)
+
+
+def followed(place):
+    """Lines come into a file, and the producer that follows it is ended again and again: each reply is written once."""
+    lines = [line("open", units=["echo"]), *(line("post", unit=0, number=number, text="x") for number in range(400))]
+    wanted = b"".join(reply + b"\n" for reply in plain_run(place.program, lines))
+    follower = Follower(place, lines)
+    with place.worker():
+        while follower.rest:
+            with follower.following():
+                before = len(follower.has())
+                follower.add(50)
+                until("a reply", lambda: len(follower.has()) > before)
+            with open(follower.taken, "ab") as file:
+                file.write(b"torn")
+    with follower.following():
+        with place.worker():
+            until("all replies", lambda: follower.has() == wanted)
+            follower.ends("a second one", "another put.py writes")
+        place.client.flushall()
+        with place.worker():  # (a server that forgot all while nothing was owed has all lines again)
+            place.answered(len(lines))
+            time.sleep(1)
+            if follower.producer.poll() is not None or follower.has() != wanted:
+                raise Wrong(f"a file of replies to lines that were put again: status {follower.producer.poll()}")
+    with open(follower.taken, "r+b") as file:
+        file.write(b"?")
+        file.truncate(wanted.index(b"\n") + 1)
+    follower.ends("another file of replies", "delete it")
+    return f"{len(lines)} lines that came into a file have their replies in another, each once"
+
+
+ATTACKS = {
+    "slow-replies": slow_replies,
+    "long-replies": long_replies,
+    "other-lines": other_lines,
+    "no-numbers": no_numbers,
+    "server-gone": server_gone,
+    "stuck": stuck,
+    "followed": followed,
+}

@@ -3,33 +3,33 @@
 
     epoch.py PROGRAM PARTITION [--redis URL] [--name NAME] [--lease MILLISECONDS]
 
-The partition's worker must be stopped, since this takes the lease. The steps of the epoch are replayed in a run of its own,
-which then is asked: each unit must be up, know all restarts and have nothing unlogged or held, and each letter must have
-been taken, or be void. None of what it asks is put into a stream. Status 0: the epoch has begun. 1: it can't begin; what is
-not quiet is told, and nothing has changed.
+The partition's worker must be stopped, since this takes the lease. The steps of the epoch are replayed in a run of its
+own, which then is asked: each unit must be up, know all restarts and have nothing unlogged or held, and each letter
+must have been taken, or be void. None of what it asks is put into a stream. Status 0: the epoch has begun. 1: it can't
+begin; what is not quiet is told, and nothing has changed. 2: bad words. 4: the server can't be reached.
 """
 
 import json
-import sys
 import time
 
-import redis
-
+from reaching import connect, told  # (this finds the modules of the folder above)
+import running
+from running import Fault
 import worker
+import working
 
 
 class Copy:
     """A replayed copy of a partition, and what its tenants have: units, and letters ever made."""
 
     def __init__(self, program, lease):
-        self.run, self.lease = worker.Run(program), lease
-        lease.keep(self.run.is_stuck)
+        self.run, self.lease = lease.run(program), lease
         self.units, self.letters, self.count = {}, {}, 0
 
     def replay(self, steps):
         """Replays these entries of the stream of steps."""
         self.lease.check()
-        self.run.give(steps)
+        self.run.give([step.get(b"line", b"") for _, step in steps])
         for _, step in steps:
             self.count += 1
             reply = json.loads(self.run.reply())
@@ -45,7 +45,7 @@ class Copy:
     def ask(self, do, tenant, **keys):
         self.lease.check()
         line = json.dumps({"do": do, "tenant": tenant, **keys}, sort_keys=True, separators=(",", ":")).encode()
-        self.run.give([(None, {b"line": line})])
+        self.run.give([line])
         return json.loads(self.run.reply())
 
     def unrest(self):
@@ -65,35 +65,45 @@ def take(lease):
     until = time.monotonic() + lease.length / 500
     while not lease.take():
         if time.monotonic() > until:
-            sys.exit("epoch: the partition has a worker: stop it first")
-        time.sleep(worker.PAUSE)
+            raise Fault(1, "the partition has a worker: stop it first")
+        time.sleep(running.PAUSE)
 
 
 def replayed(server, stream, copy):
     """The copy, with all steps of the stream replayed."""
     last = b"0"
-    while steps := server.xrange(stream, b"(" + last, count=worker.BATCH):
+    while steps := server.xrange(stream, b"(" + last, count=working.BATCH):
         copy.replay(steps)
         last = steps[-1][0]
     return copy
 
 
-def main():
-    words = worker.words_of(__doc__)
-    partition = worker.Partition(redis.Redis.from_url(words.redis), words.name, words.partition)
+def begin(words, program, partition, lease):
+    """Begins the next epoch, if all is quiet."""
+    streams = [partition.key(stream, partition.epoch()) for stream in ("steps", "replies")]
+    copy = replayed(partition.server, streams[0], Copy(program, lease))
+    if unrest := list(copy.unrest()):
+        raise Fault(1, "\nepoch: ".join(f"not quiet: {what}" for what in unrest))
+    number = partition.call("begin", [lease.key, partition.key("epoch"), *streams], lease.held, copy.count)
+    print(f"epoch {number} of {words.name}:{words.partition} has begun; {' and '.join(streams)} are as they were")
+
+
+@told()
+def work(words):
+    """Takes the lease, begins the epoch, and gives the lease back."""
+    program = running.program_file(words.program)
+    partition = worker.Partition(connect(words.redis), words.name, words.partition)
     lease = worker.Lease(partition, words.lease)
     take(lease)
-    streams = [partition.key(stream, partition.epoch()) for stream in ("steps", "replies")]
     try:
-        copy = replayed(partition.server, streams[0], Copy(words.program, lease))
-        if unrest := list(copy.unrest()):
-            sys.exit("\n".join(f"epoch: not quiet: {what}" for what in unrest))
-        number = partition.call("begin", [lease.key, partition.key("epoch"), *streams], lease.held, copy.count)
-        print(f"epoch {number} of {words.name}:{words.partition} has begun; {' and '.join(streams)} are as they were")
-    except (redis.ResponseError, worker.Fault) as fault:
-        sys.exit(f"epoch: {fault}")
+        begin(words, program, partition, lease)
     finally:
         lease.give_back()
+
+
+def main():
+    words = worker.words_of(__doc__)
+    running.end("epoch", lambda: work(words))
 
 
 if __name__ == "__main__":

@@ -1,14 +1,20 @@
 #!lua name=recall
 
 -- The functions of a partition: who may write to it, and each write to its streams. A partition's keys have one tag in
--- braces, so they lie together in a cluster. A lease is the text `NUMBER:WORD`: NUMBER is the fencing number, which only
--- rises, and WORD tells two workers apart where a crash of the server forgot a number that it had given.
+-- braces, so they lie together in a cluster. A lease is the text `NUMBER:WORD`: NUMBER is the fencing number, which
+-- only rises, and WORD tells two workers apart where a crash of the server forgot a number that it had given.
 --
--- Each looks at all its words before it writes: an error of the server in the midst of a function doesn't take back what
--- the function wrote before it.
+-- Each looks at all its words before it writes: an error of the server in the midst of a function doesn't take back
+-- what the function wrote before it.
 
 -- The longest line that a stream of steps takes: any that is longer than 65,536 bytes is answered `bad-line` unread.
-local LONGEST_LINE, LONGEST_NAME = 65537, 256
+local LONGEST_LINE, LONGEST_NAME, LONGEST_FAULT = 65537, 256, 1000
+
+-- Now, in milliseconds since 1970.
+local function now()
+  local time = redis.call('TIME')
+  return time[1] * 1000 + math.floor(time[2] / 1000)
+end
 
 local function fenced(why)
   return redis.error_reply('FENCED ' .. why)
@@ -30,6 +36,16 @@ local function unless_time(text)
   end
 end
 
+-- The error where these aren't the name of a host and the number of a process, else nothing.
+local function unless_who(host, process)
+  if #host > LONGEST_NAME then
+    return redis.error_reply('NAME a host has a name of up to ' .. LONGEST_NAME .. ' bytes')
+  end
+  if not is_whole(process) then
+    return no_number('a process', process)
+  end
+end
+
 -- The error where this lease isn't the one that is held now, else nothing.
 local function unless_held(key, lease, what)
   local held = redis.call('GET', key)
@@ -38,9 +54,10 @@ local function unless_held(key, lease, what)
   end
 end
 
--- recall_take LEASE FENCE, word, milliseconds: the new lease, or nothing where the partition has one.
+-- recall_take LEASE FENCE HOLDER, word, milliseconds, host, process: the new lease, or nothing where the partition has
+-- one. HOLDER tells who has it, or had it last, and since when: it is for people, and nothing rests on it.
 local function take(keys, args)
-  local refused = unless_time(args[2])
+  local refused = unless_time(args[2]) or unless_who(args[3], args[4])
   if refused then
     return refused
   end
@@ -49,7 +66,23 @@ local function take(keys, args)
   end
   local lease = redis.call('INCR', keys[2]) .. ':' .. args[1]
   redis.call('SET', keys[1], lease, 'PX', args[2])
+  redis.call('SET', keys[3], cjson.encode({lease = lease, host = args[3], pid = tonumber(args[4]), since = now()}))
   return lease
+end
+
+-- recall_fault FAULT FAULTS, host, process, status, why: notes why a worker ended. FAULTS counts these.
+local function fault(keys, args)
+  local refused = unless_who(args[1], args[2])
+  if refused then
+    return refused
+  end
+  if not is_whole(args[3]) then
+    return no_number('a status', args[3])
+  end
+  local why = string.sub(args[4], 1, LONGEST_FAULT)
+  local words = {host = args[1], pid = tonumber(args[2]), status = tonumber(args[3]), when = now(), why = why}
+  redis.call('SET', keys[1], cjson.encode(words))
+  return redis.call('INCR', keys[2])
 end
 
 -- recall_renew LEASE, lease, milliseconds: makes it last so long from now on.
@@ -92,8 +125,8 @@ end
 
 -- recall_append LEASE STEPS REPLIES, lease, milliseconds, count, then for each reply the id of its step, the producer,
 -- its number of the step, and the reply. The stream of replies must have `count` of them, and the stream of steps the
--- last of these steps, or a crash of the server took what the worker knew. Each reply has its step's id as its own: Redis
--- takes ids in rising order alone, so a step has one reply at most. It renews the lease.
+-- last of these steps, or a crash of the server took what the worker knew. Each reply has its step's id as its own:
+-- Redis takes ids in rising order alone, so a step has one reply at most. It renews the lease.
 local function append(keys, args)
   local refused = unless_time(args[2]) or unless_replies(args) or unless_held(keys[1], args[1], 'an append')
   if refused then
@@ -112,9 +145,14 @@ local function append(keys, args)
   return redis.call('PEXPIRE', keys[1], args[2])
 end
 
--- recall_read REPLIES, id, count, bytes: the entries behind this id, so many at most, and no more once they have so many
--- bytes. XREAD has no limit of bytes: a thousand replies may be more than the server has memory for.
+-- recall_read REPLIES, id, count, bytes: the entries behind this id, so many at most, and no more once they have so
+-- many bytes. XREAD has no limit of bytes: a thousand replies may be more than the server has memory for. Where the
+-- entry with this id is gone (and the id isn't 0), a crash or a failover took it: what came in its place may have
+-- lesser ids.
 local function read(keys, args)
+  if args[1] ~= '0' and #redis.call('XRANGE', keys[1], args[1], args[1]) == 0 then
+    return redis.error_reply('GONE the entry ' .. args[1])
+  end
   local found, bytes, last = {}, 0, args[1]
   while #found < tonumber(args[2]) and bytes < tonumber(args[3]) do
     local entry = redis.call('XRANGE', keys[1], '(' .. last, '+', 'COUNT', 1)[1]
@@ -133,10 +171,10 @@ local function other(name, what)
   return redis.error_reply('OTHER the producer ' .. name .. ' ' .. what)
 end
 
--- What is known of a producer whose words are EPOCH STEPS PRODUCERS, epoch, producer: an error or nothing, then the number
--- of its next step, and the digest of all its steps. The key of producers has for each `NUMBER EPOCH DIGEST`, where EPOCH is
--- that of its last step. DIGEST is the SHA-1 of the digest before that step, in hexadecimal digits, and of its line: so two
--- runs of one name have the same where all their lines are.
+-- What is known of a producer whose words are EPOCH STEPS PRODUCERS, epoch, producer: an error or nothing, then the
+-- number of its next step, and the digest of all its steps. The key of producers has for each `NUMBER EPOCH DIGEST`,
+-- where EPOCH is that of its last step. DIGEST is the SHA-1 of the digest before that step, in hexadecimal digits, and
+-- of its line: so two runs of one name have the same where all their lines are.
 local function known(keys, args)
   local epoch = redis.call('GET', keys[1]) or '0'
   if epoch ~= args[1] then
@@ -166,8 +204,9 @@ local function next_of(keys, args)
 end
 
 -- recall_put EPOCH STEPS PRODUCERS, epoch, producer, number, digest, line: puts a step in where its number is the
--- producer's next one, and else nothing. The digest is that of the producer's steps before it: where it is another, or the
--- last step has another line, the name began anew with other lines, and nothing is put in. It answers as recall_next does.
+-- producer's next one, and else nothing. The digest is that of the producer's steps before it: where it is another, or
+-- the last step has another line, the name began anew with other lines, and nothing is put in. It answers as
+-- recall_next does.
 local function put(keys, args)
   if not is_whole(args[3]) then
     return no_number("a step's number", args[3])
@@ -214,5 +253,6 @@ redis.register_function('recall_give_back', give_back)
 redis.register_function('recall_append', append)
 redis.register_function('recall_put', put)
 redis.register_function('recall_begin', begin)
+redis.register_function('recall_fault', fault)
 redis.register_function{function_name = 'recall_next', callback = next_of, flags = {'no-writes'}}
 redis.register_function{function_name = 'recall_read', callback = read, flags = {'no-writes'}}

@@ -3,39 +3,38 @@
 
     worker.py PROGRAM PARTITION [--redis URL] [--name NAME] [--lease MILLISECONDS]
 
-It waits for the partition's lease, starts PROGRAM, and gives it the steps of the epoch from the first one. As many replies
-as the stream of replies has are dropped; those behind them are appended. Each write carries the lease with its fencing
-number, and the server refuses it where that is over (recall.lua). Whatever goes wrong ends the worker: start it anew.
+It waits for the partition's lease, starts PROGRAM, and gives it the steps of the epoch from the first one. As many
+replies as the stream of replies has are dropped; those behind them are appended. Each write carries the lease with its
+fencing number, and the server refuses it where that is over (recall.lua). Whatever goes wrong ends the worker: start it
+anew.
 
-The lease is renewed each third of its time by a thread of its own, however long a reply is written or appended; but not while
-the program has steps in its hands and wrote nothing for the lease's time: then the lease runs out, and another worker goes on.
-Replies are appended up to 8 MB at a time, unless one alone has more: the longest has 25 MB (1,024 outputs of 4,096 bytes,
-each of which takes six in JSON). A server that takes no words of 32 MB is a fault, before any step is read.
+The lease is renewed each third of its time by a thread of its own, however long a reply is written or appended. Where
+the program has steps in its hands and wrote nothing for the lease's time, the worker ends, and another one goes on.
+Replies are appended up to 8 MB at a time, unless one alone has more: the longest has 25 MB (1,024 outputs of 4,096
+bytes, each of which takes six in JSON). A server that takes no words of 32 MB is a fault, before any step is read.
 
-Status 0: ended by SIGTERM, and the lease given back. 1: a fault. 2: bad words. 3: fenced: a write was refused. 4: the server
-can't be reached. 5: the program ended.
+PROGRAM is the file of the program itself. A script is refused, such as `./recall`: what it runs may change between two
+workers of an epoch. URL is RECALL_REDIS of the environment where it isn't said: a password in it isn't seen by other
+users there.
+
+Status 0: ended by SIGTERM, and the lease given back. 1: a fault. 2: bad words. 3: fenced: a write was refused. 4: the
+server can't be reached. 5: the program ended. A fault is noted in the server, if that can be reached: `recallctl
+status` shows it.
 """
 
 import argparse
-import collections
 import os
-import queue
 import re
 import secrets
-import signal
-import subprocess
-import sys
-import threading
-import time
+import socket
 
 import redis
 
-BATCH, AHEAD, PAUSE = 100, 4, 0.1  # (steps read at once, such batches that may wait for their replies, seconds)
-PIECE, MOST, WORD = 1 << 16, 8 << 20, 32 << 20  # (bytes: read at once; appended at once; of a word that a server must take)
-
-
-class Fault(Exception):
-    """What ends a worker: its status, and why."""
+import reaching  # (this finds the modules of the folder above)
+import running
+from running import PAUSE, Fault
+import working
+from working import BATCH, WORD, Step
 
 
 class Partition:
@@ -53,10 +52,18 @@ class Partition:
     def call(self, function, keys, *words):
         return self.server.fcall("recall_" + function, len(keys), *keys, *words)
 
+    @reaching.told()
+    def note(self, status, why):
+        """Notes why a worker ended, in a server that can be reached and has the functions."""
+        if status != 4 and why != reaching.NO_FUNCTIONS:
+            keys = [self.key("fault"), self.key("faults")]
+            self.call("fault", keys, socket.gethostname(), os.getpid(), status, why.encode(errors="replace")[:1000])
+
 
 def look_at_limits(server):
-    """Raises a fault where the server says that it takes no word as long as the longest reply: it would end the connection
-    once there is one, and each worker after this one would end there too. A server that doesn't say is taken at its best."""
+    """Raises a fault where the server says that it takes no word as long as the longest reply: it would end the
+    connection once there is one, and each worker after this one would end there too. A server that doesn't say is taken
+    at its best."""
     for limit in ("proto-max-bulk-len", "client-query-buffer-limit"):
         try:
             most = int(server.config_get(limit).get(limit, WORD))
@@ -66,164 +73,74 @@ def look_at_limits(server):
             raise Fault(1, f"the server's {limit} is {most}, and a reply may need {WORD}")
 
 
-def number_of(step):
-    """The number that a producer gave the step, or nothing: what came into the stream otherwise may have any word there."""
-    number = step.get(b"number", b"")
-    return number if re.fullmatch(rb"0|[1-9][0-9]{0,14}", number) else b""
+def step_of(at, words):
+    """An entry of the stream of steps. Its number is the producer's, or nothing: what came into the stream otherwise
+    may have any word there."""
+    number = words.get(b"number", b"")
+    is_number = re.fullmatch(rb"0|[1-9][0-9]{0,14}", number)
+    return Step(at, words.get(b"line", b""), words.get(b"from", b""), number if is_number else b"")
 
 
 class Lease:
     """The right to write to a partition, as long as it is renewed. The server's clock alone counts."""
 
     def __init__(self, partition, length):
-        self.partition, self.key, self.length = partition, partition.key("lease"), length
-        self.is_over, self.fault = threading.Event(), None
+        self.partition, self.key, self.length, self.keeping = partition, partition.key("lease"), length, None
 
     def take(self):
         """Takes it, if nobody has it."""
-        self.held = self.partition.call("take", [self.key, self.partition.key("fence")], secrets.token_hex(8), self.length)
+        keys = [self.key, *map(self.partition.key, ("fence", "holder"))]
+        self.held = self.partition.call(
+            "take", keys, secrets.token_hex(8), self.length, socket.gethostname(), os.getpid()
+        )
         return self.held is not None
 
-    def keep(self, is_stuck):
-        """Renews it each third of its time from now on, on a connection of its own, whatever the caller waits for; but not
-        while `is_stuck` of as many seconds as it lasts."""
+    def run(self, program):
+        """Starts a run of the program, and renews the lease from now on."""
+        run = running.Run(program, self.check)
+        self.keeping = working.Keeping(self.length / 1000, run, self.renew)
+        return run
 
-        def renew():
-            try:
-                while not self.is_over.wait(self.length / 3000):
-                    if not is_stuck(self.length / 1000):
-                        self.partition.call("renew", [self.key], self.held, self.length)
-            except redis.RedisError as fault:
-                self.fault = fault
-
-        threading.Thread(target=renew, daemon=True).start()
+    @reaching.told()
+    def renew(self):
+        self.partition.call("renew", [self.key], self.held, self.length)
 
     def check(self):
-        """Raises what stopped its renewal, if anything did."""
-        if self.fault:
-            raise self.fault
+        self.keeping.check()
 
-    def append(self, streams, count, replies):
-        """Appends these replies behind the first `count`, all at once. Each is a step's entry and its reply."""
-        words = [(at, step.get(b"from", b""), number_of(step), reply) for (at, step), reply in replies]
+    def append(self, streams, count, steps, replies):
+        """Appends these replies to these steps behind the first `count`, all at once."""
+        words = [(step.at, step.sender, step.number, reply) for step, reply in zip(steps, replies)]
         self.partition.call("append", [self.key, *streams], self.held, self.length, count, *sum(words, ()))
 
     def give_back(self):
         """Gives it back, if it is still there to be given."""
-        self.is_over.set()
+        if self.keeping:
+            self.keeping.is_over.set()
         self.partition.call("give_back", [self.key], self.held)
 
 
-class Run:
-    """One run of the program."""
-
-    def __init__(self, program):
-        self.process = subprocess.Popen([program, "run"], stdin=subprocess.PIPE, stdout=subprocess.PIPE)
-        self.pieces, self.lines, self.waits_since = [], collections.deque(), None
-
-    def give(self, steps):
-        """Gives it these lines. One with a line feed in it would be answered twice: it is given as a blank one."""
-        lines = (step.get(b"line", b"") for _, step in steps)
-        self.process.stdin.write(b"".join((b"" if b"\n" in line else line) + b"\n" for line in lines))
-        self.process.stdin.flush()
-
-    def is_stuck(self, seconds):
-        """Whether a reply is waited for, and nothing of it came for so long."""
-        since = self.waits_since
-        return since is not None and time.monotonic() - since > seconds
-
-    def read(self):
-        """Waits for the next bytes of replies."""
-        self.waits_since = time.monotonic()
-        piece = os.read(self.process.stdout.fileno(), PIECE)
-        self.waits_since = None
-        if not piece:
-            raise Fault(5, f"the program ended with status {self.process.wait()}")
-        self.pieces.append(piece)
-        if b"\n" in piece:
-            *lines, rest = b"".join(self.pieces).split(b"\n")
-            self.lines += lines
-            self.pieces = [rest]
-
-    def reply(self):
-        """The next reply. One that tells of this run's machine, and not of the steps, is none to record."""
-        while not self.lines:
-            self.read()
-        line = self.lines.popleft()
-        if line.endswith((b'"no":"memory"}', b'"no":"store"}')):
-            raise Fault(1, f"the program answered {line.decode()}")
-        return line
-
-
-class Worker:
-    """What a worker has while it holds its lease: the streams, the run, and how many replies are recorded."""
+class Worker(working.Worker):
+    """A worker of two streams."""
 
     def __init__(self, partition, lease, run):
-        self.server, self.lease, self.run = partition.server, lease, run
+        self.server, self.lease = partition.server, lease
         self.streams = [partition.key(stream, partition.epoch()) for stream in ("steps", "replies")]
-        self.drop = self.count = self.server.xlen(self.streams[1])
-        self.last = self.server.xrevrange(self.streams[1], count=1)
-        self.batches = queue.Queue(AHEAD)
+        last = [(at, words[b"reply"]) for at, words in self.server.xrevrange(self.streams[1], count=1)]
+        super().__init__(run, self.server.xlen(self.streams[1]), *(last or [None]))
 
-    def feed(self):
-        """Gives the run the steps from the first one on, batch by batch, for ever. A fault is passed on as a batch."""
+    def steps(self):
         last = b"0"
-        try:
-            while True:
-                for _, steps in self.server.xread({self.streams[0]: last}, count=BATCH, block=1000):
-                    self.batches.put(steps)
-                    self.run.give(steps)
-                    last = steps[-1][0]
-        except BrokenPipeError:
-            pass  # (the reply that is missing tells of it)
-        except Exception as fault:
-            self.batches.put(fault)
+        while True:
+            for _, entries in self.server.xread({self.streams[0]: last}, count=BATCH, block=1000):
+                yield [step_of(at, words) for at, words in entries]
+                last = entries[-1][0]
 
-    def is_recorded(self, at, reply):
-        """Whether the reply to this step is recorded. The last that is must be the recorded one, to the byte."""
-        if not self.drop:
-            return False
-        self.drop -= 1
-        if self.drop == 0:
-            [(was_at, was)] = self.last
-            if (at, reply) != (was_at, was[b"reply"]):
-                raise Fault(1, f"the reply to step {at} is {reply[:1000]}, and recorded is {was_at} {was[b'reply'][:1000]}")
-        return True
+    def append(self, steps, replies):
+        self.lease.append(self.streams, self.count, steps, replies)
 
-    def append(self, replies):
-        """Appends these replies, if there are any."""
-        if replies:
-            self.lease.append(self.streams, self.count, replies)
-            self.count += len(replies)
-
-    def record(self, steps):
-        """Takes the replies to these steps, and appends those that are new: no more at once than a server takes well."""
-        replies, size = [], 0
-        for at, step in steps:
-            reply = self.run.reply()
-            if self.is_recorded(at, reply):
-                continue
-            if size + len(reply) > MOST:
-                self.append(replies)
-                replies, size = [], 0
-            replies.append(((at, step), reply))
-            size += len(reply)
-        self.append(replies)
-
-    def work(self, stopping):
-        """Records replies until it is told to stop."""
-        threading.Thread(target=self.feed, daemon=True).start()
-        while not stopping.is_set():
-            self.lease.check()
-            try:
-                batch = self.batches.get(timeout=PAUSE)
-            except queue.Empty:
-                if self.run.process.poll() is not None:
-                    self.run.reply()  # (it has none, and that is the fault)
-                continue
-            if isinstance(batch, Exception):
-                raise batch
-            self.record(batch)
+    def check(self):
+        self.lease.check()
 
 
 def words_of(page):
@@ -231,47 +148,37 @@ def words_of(page):
     reader = argparse.ArgumentParser(description=page, formatter_class=argparse.RawDescriptionHelpFormatter)
     reader.add_argument("program")
     reader.add_argument("partition", type=int)
-    reader.add_argument("--redis", default="redis://127.0.0.1:6379")
+    reader.add_argument("--redis", default=reaching.URL)
     reader.add_argument("--name", default="recall")
     reader.add_argument("--lease", type=int, default=5000)
     return reader.parse_args()
 
 
-def serve(words, stopping, say):
+@reaching.told()
+def reach(words):
+    """The partition that the words name. Where the server knows how many there are, it must be one of them."""
+    server = reaching.connect(words.redis)
+    running.check_partition(words.name, words.partition, int(server.get(f"{words.name}:partitions") or 0))
+    return Partition(server, words.name, words.partition)
+
+
+@reaching.told()
+def serve(partition, program, length, stopping, say):
     """Waits for the lease, works until it is told to stop or something fails, and gives the lease back."""
-    partition = Partition(redis.Redis.from_url(words.redis), words.name, words.partition)
-    lease = Lease(partition, words.lease)
+    lease = Lease(partition, length)
     look_at_limits(partition.server)
     while not lease.take():
         if stopping.wait(PAUSE):
             return
-    run = Run(words.program)
-    lease.keep(run.is_stuck)
+    run = lease.run(program)
     try:
         worker = Worker(partition, lease, run)
         say(f"lease {lease.held.decode()}, {worker.streams[1]} has {worker.count}, program {run.process.pid}")
         worker.work(stopping)
     finally:
-        run.process.kill()
+        run.kill()
         lease.give_back()
 
 
-def main():
-    words, stopping = words_of(__doc__), threading.Event()
-    signal.signal(signal.SIGTERM, lambda *_: stopping.set())
-    say = lambda what: print(f"worker of {words.name}:{words.partition}: {what}", file=sys.stderr, flush=True)
-    try:
-        serve(words, stopping, say)
-        status, why = 0, "ended"
-    except (redis.ConnectionError, redis.TimeoutError) as gone:
-        status, why = 4, f"the server can't be reached: {gone}"
-    except redis.ResponseError as refused:
-        status, why = 3 if str(refused).startswith("FENCED") else 1, f"refused: {refused}"
-    except Fault as fault:
-        status, why = fault.args
-    say(why)
-    sys.exit(status)
-
-
 if __name__ == "__main__":
-    main()
+    working.main(words_of(__doc__), reach, serve)
