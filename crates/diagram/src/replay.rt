@@ -256,13 +256,14 @@ impl<'h, 'a, H: Handler> Replay<'h, 'a, H> {
         let place = self.picture.intervals.len();
         let outputs_before = self.picture.outputs(unit);
         let column = self.picture.columns;
+        let entry = self.picture.entry;
         let before = self.picture.last_place(unit);
         let logged = before.is_none().then_some(column);
         self.picture.intervals.push(Interval {
             unit,
             mark,
             column,
-            entry: self.picture.entry,
+            entry,
             cause,
             before,
             vector,
