@@ -15,6 +15,10 @@ MIDDLE = """(() => { const box = document.querySelector(%s).getBoundingClientRec
 STATUSES = """Object.fromEntries(drawn.filter((each) => !isOff(each)).map((each) =>
     [each.id, STATUSES.filter((name) => each.element.classList.contains(name)).join(' ')]))"""
 
+BADGES = """Object.fromEntries(outputs.filter((each) => !isOff(each)).map((each) =>
+    [each.base.id, each.element.querySelector('.released') ? 'released' : 'held']))"""
+LISTED = "all('.output').filter((each) => each.getClientRects().length).map((each) => [each.dataset.of, each.textContent])"
+
 
 class Tried:
     """A page that is open in the browser, and what is checked of it."""
@@ -60,6 +64,18 @@ def try_statuses(tried, flow, events):
         wanted = {one.id: one.status(event) for one in flow.intervals if one.event <= event}
         found = tried.value(STATUSES)
         tried.check(f"{tried.name}, event {event}: {found} for {wanted}", found == wanted)
+        try_badges(tried, flow, event)
+
+
+def try_badges(tried, flow, event):
+    """What is held and what is released, by the badges and in the list."""
+    left = lambda one: one.released is not None and one.released <= event
+    there = [one for one in flow.intervals if one.outputs and one.event <= event and not one.is_gone(event)]
+    found, wanted = tried.value(BADGES), {one.id: "released" if left(one) else "held" for one in there}
+    tried.check(f"{tried.name}, event {event}: badges {found} for {wanted}", found == wanted)
+    entries = sorted(map(tuple, tried.value(LISTED)))
+    texts = sorted((one.id, text) for one in there if left(one) for text in one.outputs)
+    tried.check(f"{tried.name}, event {event}: listed are {entries} for {texts}", entries == texts)
 
 
 def try_lit(tried, one, event, what):

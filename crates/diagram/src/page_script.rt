@@ -208,9 +208,10 @@ function lineSentence(item) {
   if (!base) return `Line ${item.line}.`;
   const past = pastOf(base);
   const others = [...past].filter((each) => each !== base && each.line !== base.line).map((each) => each.line);
-  const lines = [...(hasEarlier(base, past) ? ['some that are not in this page'] : []), ...ranges(others)];
   const logged = base.logged <= now && base.logged > base.column ? `, logged ${by(base.logged)}` : '';
-  return `Made by line ${base.line}${logged}${lines.length ? `; its past by lines ${listed(lines)}` : ''}.`;
+  const lines = others.length ? `; its past by lines ${listed(ranges(others))}` : '';
+  const earlier = hasEarlier(base, past) ? `${lines ? ', and' : '; its past'} by lines that are not in this page` : '';
+  return `Made by line ${base.line}${logged}${lines}${earlier}.`;
 }
 
 // Lighting up.

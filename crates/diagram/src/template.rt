@@ -5,7 +5,7 @@ pub(crate) const HEAD: &str = r#"<!DOCTYPE html>
 <html lang="en">
 <head>
 <meta charset="utf-8">
-<meta http-equiv="Content-Security-Policy" content="default-src 'none'; style-src 'sha256-qMkYKEzR/XNz5zPXjNtyeZOXU4zGda5Dg+J/ogmMgJM='; script-src 'sha256-RNMcVh3KnJlxJZvYed5jRJHTIVjBR0xykFbFIeJ87HY='; base-uri 'none'; form-action 'none'">
+<meta http-equiv="Content-Security-Policy" content="default-src 'none'; style-src 'sha256-qMkYKEzR/XNz5zPXjNtyeZOXU4zGda5Dg+J/ogmMgJM='; script-src 'sha256-mW7naRGXfasf5Kn74u3x1SrAeN/mWB54aJzc6YQUcKs='; base-uri 'none'; form-action 'none'">
 <meta name="viewport" content="width=device-width, initial-scale=1">
 <title>recall: what depends on what</title>
 <style>"#;
