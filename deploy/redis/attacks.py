@@ -103,6 +103,8 @@ def hang(place):
             place.answered(1)
         if (seconds := time.monotonic() - begun) > ANSWERS:
             raise Wrong(f"a program that hangs kept its partition for {seconds:.0f} s")
+        with contextlib.suppress(subprocess.TimeoutExpired):  # (then it has no status)
+            hung.process.wait(3)
         if hung.process.poll() is None or hung.end()[0] != 5 or "wrote nothing for 1 s" not in hung.said[-1]:
             raise Wrong(f"the worker of a program that hangs: status {hung.process.poll()}, {hung.said[-1]}")
     finally:
