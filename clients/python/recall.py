@@ -44,7 +44,12 @@ from typing import NamedTuple
 
 PIECE = 1 << 16  # (bytes that are read at once, at most)
 INTERRUPTED = "a call of it was interrupted before it had read its replies (or is under way in another thread)"
-CHANGES_NUMBERS = ("post", "kill", "restart", "notice")  # (the steps that can change which number a unit's next post has)
+CHANGES_NUMBERS = (
+    "post",
+    "kill",
+    "restart",
+    "notice",
+)  # (the steps that can change which number a unit's next post has)
 
 
 class Refused(Exception):
@@ -91,9 +96,14 @@ class Host:
     def __init__(self, program="recall", words=()):
         words = list(words)
         if any(str(word).split("=")[0] == "--from" for word in words):
-            raise ValueError("a host takes no --from, since no call asks for those replies: read them by a run of their own")
+            raise ValueError(
+                "a host takes no --from, since no call asks for those replies: read them by a run of their own"
+            )
         self._free, self._why = threading.Lock(), INTERRUPTED
-        self._told = 0, []  # (how many replies earlier calls have read, and those of this one: set at once, or not at all)
+        self._told = (
+            0,
+            [],
+        )  # (how many replies earlier calls have read, and those of this one: set at once, or not at all)
         self._numbers = {}  # (by tenant and unit: the number of the next post, where it is known)
         self._start([program, "run", *words])
 
@@ -244,7 +254,14 @@ class Host:
         """Opens a tenant with a unit of each of these kinds, unit 0 first. `quota` is a dict of `held`, `letters` and
         `volatile`; `optimism` is on how many units that are not stable a letter may depend."""
         limits = {"quota": quota, "optimism": optimism}
-        self.ask({"do": "open", "tenant": name, "units": list(kinds), **{key: value for key, value in limits.items() if value is not None}})
+        self.ask(
+            {
+                "do": "open",
+                "tenant": name,
+                "units": list(kinds),
+                **{key: value for key, value in limits.items() if value is not None},
+            }
+        )
         return Tenant(self, name)
 
     def tenant(self, name):
@@ -330,7 +347,8 @@ class Output(NamedTuple):
 class Flow:
     """A flow that runs itself: one run of the program, from `program` with the words `drive` and `words` (as
     `["--journal", "file"]`; `--from` is none of them, as of `Host`). Its calls raise what those of a `Host` raise, and may
-    be made by several threads. It is iterated for the outputs: by one thread, which waits for the next one, up to the end."""
+    be made by several threads. It is iterated for the outputs: by one thread, which waits for the next one, up to the end.
+    """
 
     def __init__(self, program="recall", words=()):
         words, pipe = list(words), subprocess.PIPE
@@ -420,7 +438,14 @@ class Flow:
     def open(self, tenant, kinds, quota=None, optimism=None):
         """Opens a tenant with a unit of each of these kinds, unit 0 first, as `Host.open` does."""
         limits = {"quota": quota, "optimism": optimism}
-        return self.ask({"do": "open", "tenant": tenant, "units": list(kinds), **{key: value for key, value in limits.items() if value is not None}})
+        return self.ask(
+            {
+                "do": "open",
+                "tenant": tenant,
+                "units": list(kinds),
+                **{key: value for key, value in limits.items() if value is not None},
+            }
+        )
 
     def post(self, tenant, unit, text, number=None):
         """Gives the unit a text from outside. Without `number` it is the next one, which is asked for where it isn't known."""

@@ -81,7 +81,9 @@ def host_steps(seed):
     for number in range(chance.randrange(20, 60)):
         steps.append({"do": "post", "tenant": "a", "unit": 0, "number": number, "text": f"text {number}"})
         for _ in range(chance.randrange(6)):
-            do = chance.choice(["deliver", "flush", "flush", "release", "release", "checkpoint", "kill", "restart", "notice"])
+            do = chance.choice(
+                ["deliver", "flush", "flush", "release", "release", "checkpoint", "kill", "restart", "notice"]
+            )
             of = {"letter": number} if do == "deliver" else {"unit": chance.randrange(2)}
             steps.append({"do": do, "tenant": "a", **of})
     return steps
@@ -288,7 +290,12 @@ def other_steps_are_told(program, room):
 def refusals_are_told(program, room):
     told = []
     with own_flow(program, room, 1, refused=lambda step, reply: told.append((step["number"], reply["no"]))) as flow:
-        flow.give([{"do": "open", "tenant": "a", "units": ["echo"]}, {"do": "post", "tenant": "a", "unit": 0, "number": 7, "text": "x"}])
+        flow.give(
+            [
+                {"do": "open", "tenant": "a", "units": ["echo"]},
+                {"do": "post", "tenant": "a", "unit": 0, "number": 7, "text": "x"},
+            ]
+        )
         list(flow)
     return None if told == [(7, "gap")] else str(told)
 
@@ -334,8 +341,21 @@ def an_error_is_raised(program, room):
 
 def pip_installs_it(_, room):
     """From the folder alone, without a network."""
-    words = [sys.executable, "-m", "pip", "install", "-q", "--no-index", "--disable-pip-version-check", "--target", room, HERE]
-    ran = subprocess.run(words, capture_output=True, timeout=SECONDS, env={**os.environ, "PYTHONDONTWRITEBYTECODE": "1"})
+    words = [
+        sys.executable,
+        "-m",
+        "pip",
+        "install",
+        "-q",
+        "--no-index",
+        "--disable-pip-version-check",
+        "--target",
+        room,
+        HERE,
+    ]
+    ran = subprocess.run(
+        words, capture_output=True, timeout=SECONDS, env={**os.environ, "PYTHONDONTWRITEBYTECODE": "1"}
+    )
     if b"No module named pip" in ran.stderr:
         return None
     found = {name for name in os.listdir(room) if name.endswith((".py", ".dist-info"))}

@@ -178,7 +178,12 @@ class Numbers(unittest.TestCase):
 
     def test_a_refused_post_is_not_counted(self):
         tenants = [self.tenant, self.host.tenant("a")]
-        for text, number, name in [("x" * 5000, None, "too-much"), ("x", 9, "gap"), ("x", 2**32, "bad-line"), ("x", -1, "bad-line")]:
+        for text, number, name in [
+            ("x" * 5000, None, "too-much"),
+            ("x", 9, "gap"),
+            ("x", 2**32, "bad-line"),
+            ("x", -1, "bad-line"),
+        ]:
             with self.assertRaises(recall.Refused) as refused:
                 self.tenant.post(0, text, number=number)
             self.assertEqual(refused.exception.name, name)
@@ -222,7 +227,11 @@ class NoSteps(unittest.TestCase):
         good = self.tenant.step("status", unit=0)
         for value in self.bad_values():
             bad = self.tenant.step("post", unit=0, number=0, text=value)
-            calls = [lambda: self.host.ask(bad), lambda: self.host.ask_all([bad]), lambda: self.host.ask_all([good, bad, good])]
+            calls = [
+                lambda: self.host.ask(bad),
+                lambda: self.host.ask_all([bad]),
+                lambda: self.host.ask_all([good, bad, good]),
+            ]
             for call in calls:
                 with within(LIMIT), self.assertRaises((TypeError, ValueError, RecursionError)):
                     call()
@@ -300,7 +309,9 @@ class Interrupts(unittest.TestCase):
                 broken.append(False)
             except recall.Broken as why:
                 self.assertIn("the host is broken", str(why))
-                self.assertIn(why.total - why.count, [11] if why.count else [11, 12, 14])  # (`host` reads 11, a call 1 or 3)
+                self.assertIn(
+                    why.total - why.count, [11] if why.count else [11, 12, 14]
+                )  # (`host` reads 11, a call 1 or 3)
                 broken.append(True)
         self.assertEqual(len(set(broken)), 1, broken)
         return broken[0]

@@ -25,13 +25,23 @@ class Browser:
         self.room = tempfile.TemporaryDirectory()
         own_read, its_write = os.pipe()
         its_read, own_write = os.pipe()
-        words = ["--headless", "--no-sandbox", "--disable-gpu", "--hide-scrollbars", "--remote-debugging-pipe", "--no-first-run"]
+        words = [
+            "--headless",
+            "--no-sandbox",
+            "--disable-gpu",
+            "--hide-scrollbars",
+            "--remote-debugging-pipe",
+            "--no-first-run",
+        ]
         words += [f"--user-data-dir={self.room.name}", f"--window-size={width},{height}", "about:blank"]
         # The browser reads commands from descriptor 3, and writes answers to descriptor 4.
         shell = f'exec "$@" 3<&{its_read} 4>&{its_write}'
         self.process = subprocess.Popen(
-            ["bash", "-c", shell, "-", path, *words], pass_fds=(its_read, its_write),
-            stdin=subprocess.DEVNULL, stdout=subprocess.DEVNULL, stderr=subprocess.DEVNULL,
+            ["bash", "-c", shell, "-", path, *words],
+            pass_fds=(its_read, its_write),
+            stdin=subprocess.DEVNULL,
+            stdout=subprocess.DEVNULL,
+            stderr=subprocess.DEVNULL,
         )
         os.close(its_read)
         os.close(its_write)
@@ -98,11 +108,16 @@ class Browser:
             self.point(x, y, kind)
 
     def press(self, key, text=None, modifiers=0):
-        self.call("Input.dispatchKeyEvent", type="keyDown", key=key, modifiers=modifiers, **({"text": text} if text else {}))
+        self.call(
+            "Input.dispatchKeyEvent", type="keyDown", key=key, modifiers=modifiers, **({"text": text} if text else {})
+        )
         self.call("Input.dispatchKeyEvent", type="keyUp", key=key, modifiers=modifiers)
 
     def dark(self, is_dark):
-        self.call("Emulation.setEmulatedMedia", features=[{"name": "prefers-color-scheme", "value": "dark" if is_dark else "light"}])
+        self.call(
+            "Emulation.setEmulatedMedia",
+            features=[{"name": "prefers-color-scheme", "value": "dark" if is_dark else "light"}],
+        )
 
     def picture(self, path):
         with open(path, "wb") as file:

@@ -17,7 +17,9 @@ STATUSES = """Object.fromEntries(drawn.filter((each) => !isOff(each)).map((each)
 
 BADGES = """Object.fromEntries(outputs.filter((each) => !isOff(each)).map((each) =>
     [each.base.id, each.element.querySelector('.released') ? 'released' : 'held']))"""
-LISTED = "all('.output').filter((each) => each.getClientRects().length).map((each) => [each.dataset.of, each.textContent])"
+LISTED = (
+    "all('.output').filter((each) => each.getClientRects().length).map((each) => [each.dataset.of, each.textContent])"
+)
 
 
 class Tried:
@@ -87,7 +89,14 @@ def try_lit(tried, one, event, what):
     unstable = {each.id for each in one.past() if not each.is_stable(event)}
     tried.check(f"{name}: {sorted(standing_out)} stand out for {sorted(unstable)}", standing_out == unstable)
     taken = sorted((each.letter, each.id) for each in one.past() if each.letter is not None)
-    arrows = sorted(map(tuple, tried.value("letters.filter((each) => each.element.classList.contains('past')).map((each) => [each.letter, each.to])")))
+    arrows = sorted(
+        map(
+            tuple,
+            tried.value(
+                "letters.filter((each) => each.element.classList.contains('past')).map((each) => [each.letter, each.to])"
+            ),
+        )
+    )
     tried.check(f"{name}: arrows {arrows} for {taken}", arrows == taken)
 
 
@@ -100,12 +109,24 @@ def try_words(tried, flow, one, event):
     waits = not gone and one.status(event) != "firm"
     for what in (r"unit (\d+) has not logged", r"flush (\d+)"):
         tried.check(f"{name}: {what}", sorted(map(int, re.findall(what, said))) == (open_units if waits else []))
-    kills = sorted({int(each) for part in re.findall(r"ill of (.*?)(?: before| what|$)", loses) for each in re.findall(r"unit (\d+)", part)})
+    kills = sorted(
+        {
+            int(each)
+            for part in re.findall(r"ill of (.*?)(?: before| what|$)", loses)
+            for each in re.findall(r"unit (\d+)", part)
+        }
+    )
     tried.check(f"{name}: kills {kills}", kills == (open_units if waits else []))
     tried.check(f"{name}: never", ("never be firm" in said) == (gone and not one.is_gone(event)))
     lines = sorted({each.line for each in one.past()} - {one.line})
     made = tried.text("lines")
-    numbers = [int(each) for part in re.findall(r"past by lines (.*)\.", made) for each in re.findall(r"\d+", re.sub(r"(\d+) to (\d+)", lambda run: " ".join(map(str, range(int(run[1]), int(run[2]) + 1))), part))]
+    numbers = [
+        int(each)
+        for part in re.findall(r"past by lines (.*)\.", made)
+        for each in re.findall(
+            r"\d+", re.sub(r"(\d+) to (\d+)", lambda run: " ".join(map(str, range(int(run[1]), int(run[2]) + 1))), part)
+        )
+    ]
     tried.check(f"{name}: {made!r} for lines {lines}", made.startswith(f"Made by line {one.line}") and numbers == lines)
 
 
@@ -142,7 +163,14 @@ def try_promise(tried, flow, lines, one, event):
 
 
 def held(flow, event):
-    return [one for one in flow.intervals if one.outputs and one.event <= event and not one.is_gone(event) and not (one.released is not None and one.released <= event)]
+    return [
+        one
+        for one in flow.intervals
+        if one.outputs
+        and one.event <= event
+        and not one.is_gone(event)
+        and not (one.released is not None and one.released <= event)
+    ]
 
 
 def try_held(tried, flow, lines, event):
@@ -152,7 +180,9 @@ def try_held(tried, flow, lines, event):
         selector = f".outputs[data-of={one.id}]"
         if tried.is_seen(selector):
             tried.point(selector)
-            tried.check(f"{tried.name}, event {event}: {selector} isn't what is told", tried.text("state").startswith("held: "))
+            tried.check(
+                f"{tried.name}, event {event}: {selector} isn't what is told", tried.text("state").startswith("held: ")
+            )
             try_lit(tried, one, event, "output")
             try_words(tried, flow, one, event)
             try_promise(tried, flow, lines, one, event)
@@ -179,7 +209,11 @@ def try_letters(tried, flow, event):
 def moments(flow):
     """Three events of a flow: one where something is held or open, the last but one, and the last."""
     last = len(flow.events) - 1
-    waits = [event for event in range(last) if any(one.status(event) == "volatile" for one in flow.intervals if one.event <= event)]
+    waits = [
+        event
+        for event in range(last)
+        if any(one.status(event) == "volatile" for one in flow.intervals if one.event <= event)
+    ]
     return [waits[len(waits) // 2] if waits else 0, max(last - 1, 0), last]
 
 
@@ -242,12 +276,25 @@ def try_hostile(tried):
         tried.open(what, page_of(tried.program, texts_flow(text)))
         shown = read_back(text)
         tried.check(f"{what}: a script ran", tried.value("typeof hacked") == "undefined")
-        notes = tried.value("[...drawn, ...letters, ...outputs].filter((each) => each.id !== 'i0-0-0' && each.id !== 'i1-0-0').map(noteOf)")
-        tried.check(f"{what}: {notes}", len(notes) == 6 and all(shown.replace("\r\n", "\n") in each or shown in each for each in notes))
+        notes = tried.value(
+            "[...drawn, ...letters, ...outputs].filter((each) => each.id !== 'i0-0-0' && each.id !== 'i1-0-0').map(noteOf)"
+        )
+        tried.check(
+            f"{what}: {notes}",
+            len(notes) == 6 and all(shown.replace("\r\n", "\n") in each or shown in each for each in notes),
+        )
         tried.value("choose(intervals.get('i1-0-1'))")
-        tried.check(f"{what}: what is told", tried.text("state").startswith("volatile: unit 1 has not logged [0,1]; flush 1"))
-        tried.check(f"{what}: the released text", tried.value("document.querySelector('.output a').textContent") in (shown, shown.replace("\r\n", "\n")))
-        tried.check(f"{what}: other elements", tried.value("document.querySelectorAll('script, img, iframe, [onload], [onerror], [onfocus]').length") == 1)
+        tried.check(
+            f"{what}: what is told", tried.text("state").startswith("volatile: unit 1 has not logged [0,1]; flush 1")
+        )
+        tried.check(
+            f"{what}: the released text",
+            tried.value("document.querySelector('.output a').textContent") in (shown, shown.replace("\r\n", "\n")),
+        )
+        tried.check(
+            f"{what}: other elements",
+            tried.value("document.querySelectorAll('script, img, iframe, [onload], [onerror], [onfocus]').length") == 1,
+        )
         tried.is_quiet()
 
 
@@ -259,12 +306,20 @@ def try_keys(tried):
     tried.value("rover.element.focus()")
     tried.check(f"the first is {told()!r}", told() == "unit 0 [0,0]")
     for key, wanted in [
-        ("ArrowRight", "unit 0 [0,1]"), ("ArrowRight", "letter 0 from unit 0 [0,1] to unit 1"), ("ArrowLeft", "unit 0 [0,1]"),
-        ("ArrowDown", "unit 1 [0,0]"), ("ArrowRight", "unit 1 [0,1]"), ("ArrowRight", "outputs of unit 1 [0,1]"), ("Home", "unit 1 [0,0]"), ("ArrowUp", "unit 0 [0,0]"),
+        ("ArrowRight", "unit 0 [0,1]"),
+        ("ArrowRight", "letter 0 from unit 0 [0,1] to unit 1"),
+        ("ArrowLeft", "unit 0 [0,1]"),
+        ("ArrowDown", "unit 1 [0,0]"),
+        ("ArrowRight", "unit 1 [0,1]"),
+        ("ArrowRight", "outputs of unit 1 [0,1]"),
+        ("Home", "unit 1 [0,0]"),
+        ("ArrowUp", "unit 0 [0,0]"),
     ]:
         press(key)
         tried.check(f"keys: {key} comes to {told()!r} for {wanted!r}", told() == wanted)
-    tried.check("keys: the label", tried.value("document.activeElement.getAttribute('aria-label')").startswith("unit 0 [0,0]"))
+    tried.check(
+        "keys: the label", tried.value("document.activeElement.getAttribute('aria-label')").startswith("unit 0 [0,0]")
+    )
     press("Escape")
     tried.check("keys: Escape", tried.value("svg.classList.contains('lit')") is False)
     press(",", ",")
@@ -279,8 +334,15 @@ def try_keys(tried):
     tried.check(f"search for a line: {told()!r}", told() in ("unit 1 [0,1]", "outputs of unit 1 [0,1]"))
     tried.go_to("slider.max")
     tried.browser.click(*tried.middle(".output a"))
-    tried.check("the link of an output", told() == "unit 1 [0,1]" and tried.value("document.activeElement.id") == "i1-0-1")
-    tried.check("labels", tried.value("[...document.querySelectorAll('button, input')].every((each) => each.getAttribute('aria-label') || each.textContent || each.labels.length)"))
+    tried.check(
+        "the link of an output", told() == "unit 1 [0,1]" and tried.value("document.activeElement.id") == "i1-0-1"
+    )
+    tried.check(
+        "labels",
+        tried.value(
+            "[...document.querySelectorAll('button, input')].every((each) => each.getAttribute('aria-label') || each.textContent || each.labels.length)"
+        ),
+    )
     tried.is_quiet()
 
 

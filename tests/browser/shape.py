@@ -36,7 +36,17 @@ def try_policy(check, text):
 def try_script(check):
     """The script makes no markup of a text."""
     script = read("page", "page.js")
-    for word in ("innerHTML", "outerHTML", "insertAdjacent", "document.write", "eval", "Function(", "DOMParser", "srcdoc", "javascript:"):
+    for word in (
+        "innerHTML",
+        "outerHTML",
+        "insertAdjacent",
+        "document.write",
+        "eval",
+        "Function(",
+        "DOMParser",
+        "srcdoc",
+        "javascript:",
+    ):
         check(f"the script says {word}", word not in script)
 
 
@@ -50,7 +60,13 @@ def try_page(check, name, text, flow, first=0):
     ids = [own["id"] for _, own, _ in page.elements if "id" in own]
     check(f"{name}: two elements of one id", len(ids) == len(set(ids)))
     links = [own["data-of"] for _, own in page.of_class("output")]
-    wanted = [one.id for one in sorted(flow.intervals, key=lambda one: one.unit) if one.event >= first for each in one.outputs if one.released is not None]
+    wanted = [
+        one.id
+        for one in sorted(flow.intervals, key=lambda one: one.unit)
+        if one.event >= first
+        for each in one.outputs
+        if one.released is not None
+    ]
     check(f"{name}: the released outputs are {links} for {wanted}", links == wanted)
 
 
@@ -62,7 +78,10 @@ def try_texts(check, program):
         check(f"{what}: {page.flaws or value_flaws(page)}", not page.flaws and not value_flaws(page))
         check(f"{what}: the page has other elements", page.skeleton() == plain.skeleton())
         said = [page.texts.get(place, "") for place, (tag, _, _) in enumerate(page.elements) if tag in ("title", "a")]
-        check(f"{what}: {sum(read_back(text) in each for each in said)} of 5 texts", sum(read_back(text) in each for each in said) >= 5)
+        check(
+            f"{what}: {sum(read_back(text) in each for each in said)} of 5 texts",
+            sum(read_back(text) in each for each in said) >= 5,
+        )
 
 
 def try_windows(check, program):
@@ -82,14 +101,23 @@ def try_windows(check, program):
 def try_ends(check, program):
     for lines in ([], ["x"], [step("post", unit=0, number=0, text="x")]):
         text = page_of(program, lines)
-        check(f"{lines}: no page that says so", text is not None and "no tenant is open" in text and "<script" not in text and not Page(text).flaws)
+        check(
+            f"{lines}: no page that says so",
+            text is not None and "no tenant is open" in text and "<script" not in text and not Page(text).flaws,
+        )
     ran = run(program, [step("open", units=["echo"])], "draw", "--html", "--tenant", "b")
     check("a tenant that isn't open", (ran.returncode, ran.stderr) == (1, b'recall: the tenant "b" is not open\n'))
 
 
 def try_lines(check, program):
     """Lines that are no steps, and those of others, are counted."""
-    lines = ["x", step("open", units=["echo"]), '{"do":"flush","tenant":"b","unit":0}', "", step("post", unit=0, number=0, text="x")]
+    lines = [
+        "x",
+        step("open", units=["echo"]),
+        '{"do":"flush","tenant":"b","unit":0}',
+        "",
+        step("post", unit=0, number=0, text="x"),
+    ]
     page = Page(page_of(program, lines))
     found = [own["data-line"] for _, own in page.of_class("interval") if "id" in own]
     check(f"lines {found}", found == ["2", "5"])

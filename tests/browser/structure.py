@@ -7,7 +7,24 @@ EMPTY = {"meta", "input", "path", "rect", "circle"}
 # What the attributes of the diagram's elements may be, whatever the texts of the steps are.
 NUMBER, NAME, NAMES = r"\d+", r"i\d+-\d+-\d+", r"(i\d+-\d+-\d+( i\d+-\d+-\d+)*)"
 VALUES = {
-    **dict.fromkeys(["unit", "column", "line", "logged", "released", "lost", "cut", "letter", "receiver", "until", "gone", "first", "end"], NUMBER),
+    **dict.fromkeys(
+        [
+            "unit",
+            "column",
+            "line",
+            "logged",
+            "released",
+            "lost",
+            "cut",
+            "letter",
+            "receiver",
+            "until",
+            "gone",
+            "first",
+            "end",
+        ],
+        NUMBER,
+    ),
     **dict.fromkeys(["all", "left", "step", "right"], NUMBER),
     **dict.fromkeys(["from", "to", "of", "before"], NAME),
     "mark": r"\d+,\d+",
@@ -18,7 +35,7 @@ HOSTILE = {
     "the end of a script": "</script><script>hacked=1</script>",
     "an image": "\"><img src=x onerror=hacked=1>'><svg onload=hacked=1>",
     "the end of a title": "</title></svg></style><script>hacked=1</script>",
-    "quotes": "\"'`\" onfocus=hacked=1 autofocus=\"",
+    "quotes": '"\'`" onfocus=hacked=1 autofocus="',
     "references": "&lt;&amp;&quot;&#39;&#x3c;script&#62;&notin;",
     "comments and sections": "<!--<![CDATA[]]>-->--!>",
     "controls": "".join(map(chr, range(32))) + "\x7f\x85\u2028",
@@ -110,10 +127,19 @@ def fact_flaws(page, flow, first=0):
                 flaws.append(f"{one.id} isn't there")
             continue
         wanted = {
-            "unit": one.unit, "column": one.event, "line": one.line, "logged": one.logged, "lost": one.lost, "cut": one.cut,
+            "unit": one.unit,
+            "column": one.event,
+            "line": one.line,
+            "logged": one.logged,
+            "lost": one.lost,
+            "cut": one.cut,
             "released": one.released,
         }
-        flaws += [f"{one.id}: {name} {number(own, name)} for {value}" for name, value in wanted.items() if number(own, name) != value]
+        flaws += [
+            f"{one.id}: {name} {number(own, name)} for {value}"
+            for name, value in wanted.items()
+            if number(own, name) != value
+        ]
         if own.get("data-before") != (one.before and one.before.id):
             flaws.append(f"{one.id}: before {own.get('data-before')}")
         tops = {}

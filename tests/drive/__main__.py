@@ -107,7 +107,9 @@ def memory_refused_of_row(program, name, room):
     """Of a flow over a store that fails: only there a letter has to wait for a notice, or is an orphan."""
     if not os.path.isfile(ROWS_PROGRAM):
         return "the rows' own program isn't there: `rt ci` builds it"
-    with open(os.path.join(ROWS, name + ".steps"), "rb") as steps, open(os.path.join(ROWS, name + ".replies"), "rb") as due:
+    with open(os.path.join(ROWS, name + ".steps"), "rb") as steps, open(
+        os.path.join(ROWS, name + ".replies"), "rb"
+    ) as due:
         lines, wanted = steps.read().splitlines(), due.read()
     for host in ("book", "host"):
         wrong = memory.wrong_in_row(Program(program, room), f"{host} {name}", lines, wanted)

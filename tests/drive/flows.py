@@ -117,10 +117,7 @@ FLOWS = [
     ),
     (
         "pending: units are flushed before a letter that rests on too much is tried again",
-        [
-            (open_line("relay", "echo", optimism=0), opened(2)),
-            (post(0, 0), took(0, 1, 0, 0), out(1)),
-        ],
+        [(open_line("relay", "echo", optimism=0), opened(2)), (post(0, 0), took(0, 1, 0, 0), out(1))],
     ),
     (
         "quota: what is full is flushed and released, and the letter is tried again",

@@ -19,7 +19,15 @@ import kills
 import messages
 from program import Program
 
-SUITES = (("memory", allocations), ("what is kept", kept), ("input and output", ends), ("kills", kills), ("lines", bad_lines), ("footprint", footprint), ("messages", messages))
+SUITES = (
+    ("memory", allocations),
+    ("what is kept", kept),
+    ("input and output", ends),
+    ("kills", kills),
+    ("lines", bad_lines),
+    ("footprint", footprint),
+    ("messages", messages),
+)
 
 
 def named(word):

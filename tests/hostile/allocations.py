@@ -29,7 +29,10 @@ AUDITS = {(b'{"audit":"ok","tenant":"a"}\n', 0), (b'{"audit":"memory","tenant":"
 def long_feed(name, count):
     """The lines of a feed of so many steps, of a tenant of its own: how far the logger is shows in none of their replies."""
     post = '{"do":"post","number":%d,"tenant":"%s","text":"a text of more than sixteen bytes","unit":0}\n'
-    return ('{"do":"open","tenant":"%s","units":["echo"]}\n' % name + "".join(post % (number, name) for number in range(count - 1))).encode()
+    return (
+        '{"do":"open","tenant":"%s","units":["echo"]}\n' % name
+        + "".join(post % (number, name) for number in range(count - 1))
+    ).encode()
 
 
 LONG = long_feed("a", 100), long_feed("b", 100)
@@ -50,7 +53,11 @@ def places(steps):
 def status_lines(steps):
     """A line that asks for the status of each unit."""
     ask = {"do": "status"}
-    return [json.dumps({**ask, "tenant": name, "unit": unit}).encode() for name, units in places(steps).items() for unit in range(units)]
+    return [
+        json.dumps({**ask, "tenant": name, "unit": unit}).encode()
+        for name, units in places(steps).items()
+        for unit in range(units)
+    ]
 
 
 def statuses_before(program, steps, asked):
@@ -154,6 +161,8 @@ def checks():
         yield f"allocations of {name}", lambda program, row_of=(name, steps, replies): row(program, *row_of)
     for name, steps, replies in rows():
         if name in AUDITED:
-            yield f"allocations of {name} with an audit", lambda program, row_of=(name, steps, replies): row(program, *row_of, ("run", "--audit"), AUDITS)
+            yield f"allocations of {name} with an audit", lambda program, row_of=(name, steps, replies): row(
+                program, *row_of, ("run", "--audit"), AUDITS
+            )
     yield "allocations of two feeds", lambda program: feeds(program, (FIRST, SECOND), "feed")
     yield "allocations of two feeds of 100 steps", lambda program: feeds(program, LONG, "long")

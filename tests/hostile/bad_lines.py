@@ -4,7 +4,9 @@ from program import joined
 
 OPEN = b'{"do":"open","tenant":"a","units":["echo"]}'
 STATUS = b'{"do":"status","tenant":"a","unit":0}'
-BEGUN = b'{"at":[0,0],"held":0,"known":0,"ok":"status","outside":0,"released":0,"rows":0,"stable":0,"up":true,"volatile":0}'
+BEGUN = (
+    b'{"at":[0,0],"held":0,"known":0,"ok":"status","outside":0,"released":0,"rows":0,"stable":0,"up":true,"volatile":0}'
+)
 BAD, NO_UNIT, NO_TENANT = b'{"no":"bad-line"}', b'{"no":"no-unit"}', b'{"no":"no-tenant"}'
 LONGEST = 65536
 
@@ -83,7 +85,11 @@ LINES = [
     ("an optimism of 33 bits", opening(b'[],"optimism":4294967296'), BAD),
     ("a quota with a key too few", opening(b'[],"quota":{"held":1,"letters":2}'), BAD),
     ("a quota with a key too many", opening(b'[],"quota":{"held":1,"letters":2,"volatile":3,"x":4}'), BAD),
-    ("an open of nothing", opening(b'[],"quota":{"held":0,"letters":0,"volatile":0},"optimism":0'), b'{"no":"bad-open"}'),
+    (
+        "an open of nothing",
+        opening(b'[],"quota":{"held":0,"letters":0,"volatile":0},"optimism":0'),
+        b'{"no":"bad-open"}',
+    ),
     ("the greatest letter", b'{"do":"deliver","letter":4294967295,"tenant":"a"}', b'{"no":"no-letter"}'),
     ("a text of 4,097 bytes", post().replace(b'"x"', b'"%s"' % (b"x" * 4097)), b'{"no":"too-much"}'),
     ("a number with a plus", post(number=b"+0"), BAD),
@@ -103,13 +109,19 @@ LINES = [
 
 # Each form with its keys in another order, blanks and escapes: lines and replies.
 UNUSUAL = [
-    (b' {"optimism":16,"quota":{"letters":9,"volatile":8,"held":7},"units" : ["echo","tee"],"tenant":"a-9","do":"open"} ',
-     b'{"ok":"open","units":2}'),
+    (
+        b' {"optimism":16,"quota":{"letters":9,"volatile":8,"held":7},"units" : ["echo","tee"],"tenant":"a-9","do":"open"} ',
+        b'{"ok":"open","units":2}',
+    ),
     (b'{"kind":"r\\u0065lay","tenant":"a-9","do":"join"}', b'{"ok":"join","unit":2}'),
-    (b'\t{"text":"x\\n\\u00e9\\"","number":0,"unit":0,"tenant":"a-9","do":"post"}\r',
-     b'{"at":[0,1],"held":1,"letters":[],"ok":"accepted"}'),
-    (b'{"do" : "post" , "unit" : 1 , "text" : "\\u0061" , "number" : 0 , "tenant" : "a-9"}',
-     b'{"at":[0,1],"held":1,"letters":[0],"ok":"accepted"}'),
+    (
+        b'\t{"text":"x\\n\\u00e9\\"","number":0,"unit":0,"tenant":"a-9","do":"post"}\r',
+        b'{"at":[0,1],"held":1,"letters":[],"ok":"accepted"}',
+    ),
+    (
+        b'{"do" : "post" , "unit" : 1 , "text" : "\\u0061" , "number" : 0 , "tenant" : "a-9"}',
+        b'{"at":[0,1],"held":1,"letters":[0],"ok":"accepted"}',
+    ),
     (b'{"letter":0,"tenant":"a-9","do":"deliver"}', b'{"at":[0,1],"held":0,"letters":[1],"ok":"accepted"}'),
     (b'{"unit":0,"tenant":"a-9","do":"flush"}', b'{"count":1,"ok":"flush"}'),
     (b'{"unit":0,"do":"checkpoint","tenant":"a-9"}', b'{"at":[0,1],"ok":"checkpoint"}'),
@@ -117,8 +129,10 @@ UNUSUAL = [
     (b'{"unit":0,"tenant":"a-9","do":"restart"}', b'{"ok":"restart","row":[1,2]}'),
     (b'{"unit":1,"tenant":"a-9","do":"notice"}', b'{"ok":"notice","row":null}'),
     (b'{"unit":0,"tenant":"a-9","do":"release"}', '{"ok":"released","outputs":["x\\né\\""]}'.encode()),
-    (b'{"unit":0,"tenant":"a\\u002d9","do":"status"}',
-     b'{"at":[0,1],"held":0,"known":1,"ok":"status","outside":1,"released":1,"rows":1,"stable":1,"up":true,"volatile":0}'),
+    (
+        b'{"unit":0,"tenant":"a\\u002d9","do":"status"}',
+        b'{"at":[0,1],"held":0,"known":1,"ok":"status","outside":1,"released":1,"rows":1,"stable":1,"up":true,"volatile":0}',
+    ),
 ]
 
 # Input, and how many bad lines it is.

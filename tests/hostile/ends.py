@@ -6,6 +6,7 @@ is short, nothing changes.
 
 from program import joined, rows
 
+
 def reader(program, name, steps, replies):
     """Fails the input before each line, and at its end."""
     given, wrong, at = joined(steps), [], 0

@@ -15,7 +15,9 @@ WANTING = "what is kept is as it must be, and a step found no memory"
 
 def names():
     """The rows of what is kept."""
-    return sorted(name for name, kind in map(os.path.splitext, os.listdir(ROWS)) if kind == ".steps" and name.startswith("kept-"))
+    return sorted(
+        name for name, kind in map(os.path.splitext, os.listdir(ROWS)) if kind == ".steps" and name.startswith("kept-")
+    )
 
 
 def run(program, name, **faults):

@@ -45,7 +45,13 @@ def texts():
 
 def matcher(text):
     """What a message of this text reads like."""
-    return re.compile("".join(".*" if part.startswith("{") else re.escape(part) for part in re.split(r"(\{[^{}]*\})", text.replace('\\"', '"'))), re.S)
+    return re.compile(
+        "".join(
+            ".*" if part.startswith("{") else re.escape(part)
+            for part in re.split(r"(\{[^{}]*\})", text.replace('\\"', '"'))
+        ),
+        re.S,
+    )
 
 
 class Runs:
@@ -64,7 +70,15 @@ class Runs:
     def run(self, given, *words, out=subprocess.PIPE, **faults):
         own = self.file("given", given)
         with open(own, "rb") as stream:
-            ran = subprocess.run([self.program.path, *words], stdin=stream, stdout=out, stderr=subprocess.PIPE, timeout=SECONDS, cwd=self.room, env=self.program.environment(**faults))
+            ran = subprocess.run(
+                [self.program.path, *words],
+                stdin=stream,
+                stdout=out,
+                stderr=subprocess.PIPE,
+                timeout=SECONDS,
+                cwd=self.room,
+                env=self.program.environment(**faults),
+            )
         self.count += 1
         self.said += ran.stderr.decode(errors="replace").splitlines()
         return ran.returncode
@@ -142,7 +156,9 @@ def journals(runs):
 def held(runs, change):
     """A run whose journal is asked for by another, and then changed."""
     path, pipe = os.path.join(runs.room, change), subprocess.PIPE
-    talk = subprocess.Popen([runs.program.path, "run", "--journal", change], stdin=pipe, stdout=pipe, stderr=pipe, cwd=runs.room, bufsize=0)
+    talk = subprocess.Popen(
+        [runs.program.path, "run", "--journal", change], stdin=pipe, stdout=pipe, stderr=pipe, cwd=runs.room, bufsize=0
+    )
     talk.stdin.write(OPEN)
     talk.stdout.readline()
     runs.run(b"", "run", "--journal", change)

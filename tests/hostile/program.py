@@ -20,11 +20,17 @@ class Program:
         self.path = os.path.abspath(path)
         self.room = room
         self.shim = os.path.join(room, "faults.so")
-        subprocess.run(["cc", "-O1", "-fPIC", "-shared", "-o", self.shim, os.path.join(HERE, "faults.c"), "-ldl"], check=True)
+        subprocess.run(
+            ["cc", "-O1", "-fPIC", "-shared", "-o", self.shim, os.path.join(HERE, "faults.c"), "-ldl"], check=True
+        )
 
     def environment(self, **faults):
         """The environment in which these faults come: RECALL_REFUSE and its kin, without the prefix and in lower case."""
-        own = {"PATH": os.environ.get("PATH", ""), "LD_PRELOAD": self.shim, "RECALL_ONLY": os.environ.get("RECALL_ONLY", os.path.basename(self.path))}
+        own = {
+            "PATH": os.environ.get("PATH", ""),
+            "LD_PRELOAD": self.shim,
+            "RECALL_ONLY": os.environ.get("RECALL_ONLY", os.path.basename(self.path)),
+        }
         return {**own, **{"RECALL_" + name.upper(): str(value) for name, value in faults.items()}}
 
     def run(self, given, *words, **faults):
@@ -32,7 +38,13 @@ class Program:
         with tempfile.TemporaryFile(dir=self.room) as file:
             file.write(given)
             file.seek(0)
-            ran = subprocess.run([self.path, *(words or ["run"])], stdin=file, capture_output=True, timeout=SECONDS, env=self.environment(**faults))
+            ran = subprocess.run(
+                [self.path, *(words or ["run"])],
+                stdin=file,
+                capture_output=True,
+                timeout=SECONDS,
+                env=self.environment(**faults),
+            )
         return ran.stdout, ran.stderr, ran.returncode
 
     def count(self, given, *words):
@@ -42,7 +54,9 @@ class Program:
     def run_row(self, line, **faults):
         """Gives the rows' own program a line: what it wrote, and its status."""
         environment = {**self.environment(**faults), "RECALL_ONLY": os.path.basename(ROWS_PROGRAM)}
-        ran = subprocess.run([ROWS_PROGRAM], input=line.encode() + b"\n", capture_output=True, timeout=SECONDS, env=environment, cwd=ROWS)
+        ran = subprocess.run(
+            [ROWS_PROGRAM], input=line.encode() + b"\n", capture_output=True, timeout=SECONDS, env=environment, cwd=ROWS
+        )
         return ran.stdout, ran.returncode
 
     def counted(self, run):
@@ -102,7 +116,9 @@ def rows():
     found = []
     for file in sorted(os.listdir(ROWS)):
         name, kind = os.path.splitext(file)
-        if kind == ".steps" and not name.startswith(("audited-", "certified-", "driven-", "fails-", "kept-", "told-", "turns-")):
+        if kind == ".steps" and not name.startswith(
+            ("audited-", "certified-", "driven-", "fails-", "kept-", "told-", "turns-")
+        ):
             steps = open(os.path.join(ROWS, file), "rb").read().splitlines()
             replies = open(os.path.join(ROWS, name + ".replies"), "rb").read().splitlines()
             found.append((name, steps, replies))

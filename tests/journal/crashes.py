@@ -50,7 +50,8 @@ def feed(process, given, chance, is_last):
 
 def run_once(program, journal, lines, seen, chance, is_last):
     """One run, which is killed at a random moment, or comes to its end where it is the last: what was seen of what it wrote
-    (each second time its reader is lost with it, and with that a random part), whether it was killed, and what was wrong."""
+    (each second time its reader is lost with it, and with that a random part), whether it was killed, and what was wrong.
+    """
     durable = whole_lines(journal)
     wanted = len(lines) if is_last else min(seen + chance.randrange(MOST_REPLIES), len(lines))
     words = [program, "run", "--journal", journal, "--from", str(seen)]
@@ -62,7 +63,9 @@ def run_once(program, journal, lines, seen, chance, is_last):
     if is_last:
         written = process.stdout.read()
     else:
-        written = read_until_killed(process, wanted - seen, b"".join(lines[max(durable, wanted) :][:MOST_REPLIES]), chance)
+        written = read_until_killed(
+            process, wanted - seen, b"".join(lines[max(durable, wanted) :][:MOST_REPLIES]), chance
+        )
     said = process.stderr.read()
     status = process.wait(SECONDS)
     is_silent = not watcher.is_alive()

@@ -123,7 +123,10 @@ def words(own):
     past = f'recall: the journal "{journal}" has {LINES} lines: there is no line {LINES + 1} to go on from\n'.encode()
     if own.program.run(b"", *run, "--from", str(LINES + 1)) != (b"", past, 2):
         return 1, "going on from past the end"
-    if own.program.run(b"", *run, "--log", own.new("log"))[2] != 2 or own.program.run(b"", "run", "--from", "1")[2] != 2:
+    if (
+        own.program.run(b"", *run, "--log", own.new("log"))[2] != 2
+        or own.program.run(b"", "run", "--from", "1")[2] != 2
+    ):
         return 1, "--log, or --from alone"
     audited = own.program.run(b"", *run, "--from", str(LINES), "--audit")
     if audited[2] != 0 or audited[0].count(b'{"audit":"ok","tenant":') != 4:
@@ -161,6 +164,11 @@ def torn(own):
 def checks(program, room):
     """Each check's name, and what does it."""
     own = Journal(program, room)
-    named = (("syncs that fail", syncs), ("writes that fail", writes), ("memory that is refused", memory),
-             ("calls that are interrupted", interrupted), ("words", words))
+    named = (
+        ("syncs that fail", syncs),
+        ("writes that fail", writes),
+        ("memory that is refused", memory),
+        ("calls that are interrupted", interrupted),
+        ("words", words),
+    )
     return [(name, lambda check=check: check(own)) for name, check in named]

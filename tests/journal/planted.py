@@ -73,7 +73,10 @@ def is_found(real, body, room):
     with open(proxy, "w") as file:
         file.write((HEAD + body).format(real=real))
     os.chmod(proxy, 0o755)
-    return [subprocess.run([sys.executable, "-B", HERE, program, "kills of input 7"], capture_output=True).returncode for program in (real, proxy)] == [0, 1]
+    return [
+        subprocess.run([sys.executable, "-B", HERE, program, "kills of input 7"], capture_output=True).returncode
+        for program in (real, proxy)
+    ] == [0, 1]
 
 
 def main():

@@ -8,11 +8,50 @@ import sys
 
 sys.path.insert(0, os.path.join(os.path.dirname(os.path.abspath(__file__)), "..", "programs"))
 
-from assembler import A0, A1, A2, A7, BRANCHES, HEADER, IMMEDIATES, LOADS, OPERATIONS, SHIFTS, STORES, T0, T1, T2, T3, T4, ZERO, Code, encode
+from assembler import (
+    A0,
+    A1,
+    A2,
+    A7,
+    BRANCHES,
+    HEADER,
+    IMMEDIATES,
+    LOADS,
+    OPERATIONS,
+    SHIFTS,
+    STORES,
+    T0,
+    T1,
+    T2,
+    T3,
+    T4,
+    ZERO,
+    Code,
+    encode,
+)
 
 BASE, DATA, DUMPS, HEX = 0x10000, 0x28400, 0x2C000, 0x37000
 BLOCKS, PER_BLOCK, PER_OUTPUT = 200, 25, 1280
-CORNERS = [0, 1, 2, 3, 31, 32, 33, 0x7F, 0x80, 0xFF, 0x7FFF, 0x8000, 0xFFFF, 0x7FFFFFFF, 0x80000000, 0x80000001, 0xFFFFFFFE, 0xFFFFFFFF]
+CORNERS = [
+    0,
+    1,
+    2,
+    3,
+    31,
+    32,
+    33,
+    0x7F,
+    0x80,
+    0xFF,
+    0x7FFF,
+    0x8000,
+    0xFFFF,
+    0x7FFFFFFF,
+    0x80000000,
+    0x80000001,
+    0xFFFFFFFE,
+    0xFFFFFFFF,
+]
 POINTER, DUMP = 8, 9  # (the registers that point to the data and to where the next dump goes)
 FREE = [register for register in range(1, 32) if register not in (POINTER, DUMP)]
 
@@ -26,7 +65,10 @@ class Program(Code):
         return self.chance.choice([*FREE, ZERO])
 
     def constant(self):
-        self.li(self.chance.choice(FREE), self.chance.choice(CORNERS) if self.chance.random() < 0.5 else self.chance.getrandbits(32))
+        self.li(
+            self.chance.choice(FREE),
+            self.chance.choice(CORNERS) if self.chance.random() < 0.5 else self.chance.getrandbits(32),
+        )
 
     def new_label(self):
         self.count += 1
@@ -43,7 +85,9 @@ class Program(Code):
     def jump_by_register(self):
         """One to an odd address, whose lowest bit is cleared."""
         label, register = self.new_label(), self.chance.choice(FREE)
-        self.la(register, label).put("jalr", self.any(), 1, register).put("addi", self.any(), self.any(), 1).label(label)
+        self.la(register, label).put("jalr", self.any(), 1, register).put("addi", self.any(), self.any(), 1).label(
+            label
+        )
 
     def instruction(self):
         kind, chance = self.chance.randrange(100), self.chance
@@ -89,7 +133,9 @@ class Program(Code):
         self.label("part").li(T3, HEX).li(T4, PER_OUTPUT).label("byte").put("lbu", T0, 0, POINTER)
         for shift in (4, 0):
             ready = self.new_label()
-            self.put("srli", T1, T0, shift).put("andi", T1, T1, 15).put("slti", T2, T1, 10).put("addi", T1, T1, 48).put("bne", T2, ZERO, ready).put("addi", T1, T1, 39)
+            self.put("srli", T1, T0, shift).put("andi", T1, T1, 15).put("slti", T2, T1, 10).put("addi", T1, T1, 48).put(
+                "bne", T2, ZERO, ready
+            ).put("addi", T1, T1, 39)
             self.label(ready).put("sb", T1, 0, T3).put("addi", T3, T3, 1)
         self.put("addi", POINTER, POINTER, 1).put("addi", T4, T4, -1).put("bne", T4, ZERO, "byte")
         self.li(A1, 2 * PER_OUTPUT)
@@ -124,5 +170,6 @@ def for_linux(seed):
     body = code.bytes()
     ident = b"\x7fELF\x01\x01\x01" + bytes(9)
     header = ident + struct.pack("<HHIIIIIHHHHHH", 2, 243, 1, BASE, 52, 0, 0, 52, 32, 1, 0, 0, 0)
-    return (header + struct.pack("<8I", 1, 0x1000, BASE, BASE, len(body), 0x40000 - BASE, 7, 0x1000)).ljust(0x1000, b"\0") + body
-
+    return (header + struct.pack("<8I", 1, 0x1000, BASE, BASE, len(body), 0x40000 - BASE, 7, 0x1000)).ljust(
+        0x1000, b"\0"
+    ) + body

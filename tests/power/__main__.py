@@ -25,7 +25,9 @@ class Machine:
         self.program, self.room, self.chance = program, room, random.Random(seed)
         self.journal = os.path.join(room, "journal")
         self.lines = small_input(seed)
-        self.wanted = subprocess.run([program, "run"], input=b"".join(self.lines), capture_output=True, timeout=SECONDS).stdout
+        self.wanted = subprocess.run(
+            [program, "run"], input=b"".join(self.lines), capture_output=True, timeout=SECONDS
+        ).stdout
         self.collected = b""
 
     def environment(self, **words):
@@ -45,8 +47,14 @@ class Machine:
     def run(self, given, **words):
         """A run that has these lines more, block by block; what it wrote is added to what was collected."""
         seen = self.collected.count(b"\n")
-        running = subprocess.Popen([self.program, "run", "-q", "--journal", self.journal, "--from", str(seen)], stdin=subprocess.PIPE, stdout=subprocess.PIPE,
-                                   stderr=subprocess.PIPE, env=self.environment(**words), bufsize=0)
+        running = subprocess.Popen(
+            [self.program, "run", "-q", "--journal", self.journal, "--from", str(seen)],
+            stdin=subprocess.PIPE,
+            stdout=subprocess.PIPE,
+            stderr=subprocess.PIPE,
+            env=self.environment(**words),
+            bufsize=0,
+        )
         written = self.feed(running, given)
         said = running.stderr.read()
         status = running.wait(SECONDS)
@@ -79,7 +87,11 @@ class Machine:
     def cut(self):
         """What stands in the file after the cut: what the disk has, and a part of the rest."""
         memory, disk = self.contents(self.journal), self.on_disk()
-        kind = self.chance.choice(("nothing", "beginning", "zeros")) if memory.startswith(disk) and len(memory) > len(disk) else "nothing"
+        kind = (
+            self.chance.choice(("nothing", "beginning", "zeros"))
+            if memory.startswith(disk) and len(memory) > len(disk)
+            else "nothing"
+        )
         left = disk
         if kind == "beginning":
             left = memory[: self.chance.randrange(len(disk), len(memory) + 1)]
@@ -148,7 +160,9 @@ def main():
     with tempfile.TemporaryDirectory() as room:
         shim = os.path.join(room, "disk.so")
         subprocess.run(["cc", "-O1", "-fPIC", "-shared", "-o", shim, os.path.join(HERE, "disk.c"), "-ldl"], check=True)
-        checks = [(f"input {seed}", lambda own, seed=seed: cuts(program, own, seed)) for seed in range(first, first + INPUTS)]
+        checks = [
+            (f"input {seed}", lambda own, seed=seed: cuts(program, own, seed)) for seed in range(first, first + INPUTS)
+        ]
         for name, check in [("a sync that fails", lambda own: failed_sync(program, own))] + checks:
             with tempfile.TemporaryDirectory(dir=room) as own:
                 wrong = check(own)

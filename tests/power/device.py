@@ -81,7 +81,13 @@ def cut(program, disk, lines, collected, chance):
     """A run that is cut at a random moment: what was collected, and what is wrong."""
     journal, seen = os.path.join(disk.at, "journal"), collected.count(b"\n")
     given = lines[lines_of(journal) :][: chance.randrange(1, 60)]
-    running = subprocess.Popen([program, "run", "-q", "--journal", journal, "--from", str(seen)], stdin=subprocess.PIPE, stdout=subprocess.PIPE, stderr=subprocess.PIPE, bufsize=0)
+    running = subprocess.Popen(
+        [program, "run", "-q", "--journal", journal, "--from", str(seen)],
+        stdin=subprocess.PIPE,
+        stdout=subprocess.PIPE,
+        stderr=subprocess.PIPE,
+        bufsize=0,
+    )
     for begin in range(0, len(given), step := chance.choice((1, 3, 20))):
         running.stdin.write(b"".join(given[begin : begin + step]))
     written = read_some(running, chance.random() * 0.05)
@@ -108,16 +114,25 @@ def main():
         try:
             while done < cuts:
                 lines, chance, collected = small_input(seed), random.Random(seed), b""
-                wanted = subprocess.run([program, "run"], input=b"".join(lines), capture_output=True, timeout=SECONDS).stdout
+                wanted = subprocess.run(
+                    [program, "run"], input=b"".join(lines), capture_output=True, timeout=SECONDS
+                ).stdout
                 for _ in range(min(10, cuts - done)):
                     collected, wrong = cut(program, disk, lines, collected, chance)
                     done += 1
                     if wrong:
                         sys.exit(f"device: input {seed}, cut {done}: {wrong}")
                 journal = os.path.join(disk.at, "journal")
-                ran = subprocess.run([program, "run", "-q", "--journal", journal, "--from", str(collected.count(b"\n"))], input=b"".join(lines[lines_of(journal) :]), capture_output=True, timeout=SECONDS)
+                ran = subprocess.run(
+                    [program, "run", "-q", "--journal", journal, "--from", str(collected.count(b"\n"))],
+                    input=b"".join(lines[lines_of(journal) :]),
+                    capture_output=True,
+                    timeout=SECONDS,
+                )
                 if ran.returncode or collected + ran.stdout != wanted:
-                    sys.exit(f"device: input {seed}: the end: status {ran.returncode}, {ran.stderr!r}, {(collected + ran.stdout).count(10)} replies")
+                    sys.exit(
+                        f"device: input {seed}: the end: status {ran.returncode}, {ran.stderr!r}, {(collected + ran.stdout).count(10)} replies"
+                    )
                 for name in os.listdir(disk.at):
                     if name.startswith("journal"):
                         os.remove(os.path.join(disk.at, name))

@@ -67,8 +67,20 @@ def loaded(name, memory, at):
 # Rows of the manual's table of division, apart from the functions above: operation, dividend, divisor, result.
 LEAST, ONES = 0x80000000, 0xFFFFFFFF
 DIVISIONS = [
-    ("divu", 7, 0, ONES), ("remu", 7, 0, 7), ("div", 7, 0, ONES), ("rem", 7, 0, 7), ("div", LEAST, ONES, LEAST), ("rem", LEAST, ONES, 0),
-    ("div", 7, -2 % FULL, -3 % FULL), ("rem", 7, -2 % FULL, 1), ("div", -7 % FULL, 2, -3 % FULL), ("rem", -7 % FULL, 2, ONES),
-    ("divu", LEAST, ONES, 0), ("remu", LEAST, ONES, LEAST), ("mulh", LEAST, LEAST, 0x40000000), ("mulhsu", ONES, ONES, ONES),
-    ("mulhu", ONES, ONES, 0xFFFFFFFE), ("mulhsu", LEAST, ONES, LEAST),
+    ("divu", 7, 0, ONES),
+    ("remu", 7, 0, 7),
+    ("div", 7, 0, ONES),
+    ("rem", 7, 0, 7),
+    ("div", LEAST, ONES, LEAST),
+    ("rem", LEAST, ONES, 0),
+    ("div", 7, -2 % FULL, -3 % FULL),
+    ("rem", 7, -2 % FULL, 1),
+    ("div", -7 % FULL, 2, -3 % FULL),
+    ("rem", -7 % FULL, 2, ONES),
+    ("divu", LEAST, ONES, 0),
+    ("remu", LEAST, ONES, LEAST),
+    ("mulh", LEAST, LEAST, 0x40000000),
+    ("mulhsu", ONES, ONES, ONES),
+    ("mulhu", ONES, ONES, 0xFFFFFFFE),
+    ("mulhsu", LEAST, ONES, LEAST),
 ]

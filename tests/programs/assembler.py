@@ -15,9 +15,24 @@ S2, S3, S4, S5, S6, S7, S8, S9, S10, S11, T3, T4, T5, T6 = range(18, 32)
 
 # funct7, funct3 of the operations on two registers
 OPERATIONS = {
-    "add": (0x00, 0), "sub": (0x20, 0), "sll": (0x00, 1), "slt": (0x00, 2), "sltu": (0x00, 3), "xor": (0x00, 4), "srl": (0x00, 5),
-    "sra": (0x20, 5), "or": (0x00, 6), "and": (0x00, 7), "mul": (0x01, 0), "mulh": (0x01, 1), "mulhsu": (0x01, 2), "mulhu": (0x01, 3),
-    "div": (0x01, 4), "divu": (0x01, 5), "rem": (0x01, 6), "remu": (0x01, 7),
+    "add": (0x00, 0),
+    "sub": (0x20, 0),
+    "sll": (0x00, 1),
+    "slt": (0x00, 2),
+    "sltu": (0x00, 3),
+    "xor": (0x00, 4),
+    "srl": (0x00, 5),
+    "sra": (0x20, 5),
+    "or": (0x00, 6),
+    "and": (0x00, 7),
+    "mul": (0x01, 0),
+    "mulh": (0x01, 1),
+    "mulhsu": (0x01, 2),
+    "mulhu": (0x01, 3),
+    "div": (0x01, 4),
+    "divu": (0x01, 5),
+    "rem": (0x01, 6),
+    "remu": (0x01, 7),
 }
 IMMEDIATES = {"addi": 0, "slti": 2, "sltiu": 3, "xori": 4, "ori": 6, "andi": 7}
 SHIFTS = {"slli": (0x00, 1), "srli": (0x00, 5), "srai": (0x20, 5)}
@@ -121,10 +136,14 @@ class Code:
     def la(self, register, label):
         """The address of a label, in two instructions."""
         at, self.here = self.here, self.here + 8
+
         def words():
             value = self.labels[label]
             low = (value & 0xFFF) - ((value & 0x800) << 1)
-            return struct.pack("<II", encode("lui", register, (value - low) >> 12), encode("addi", register, register, low))
+            return struct.pack(
+                "<II", encode("lui", register, (value - low) >> 12), encode("addi", register, register, low)
+            )
+
         self.parts.append(words)
         return self
 

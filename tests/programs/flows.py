@@ -15,7 +15,9 @@ LANGUAGES = ("c", "rust")
 
 
 def billing_lines():
-    with open(os.path.join(BILLING, "stdin"), encoding="utf-8") as steps, open(os.path.join(BILLING, "stdout"), encoding="utf-8") as replies:
+    with open(os.path.join(BILLING, "stdin"), encoding="utf-8") as steps, open(
+        os.path.join(BILLING, "stdout"), encoding="utf-8"
+    ) as replies:
         return [json.loads(line) for line in steps], [json.loads(line) for line in replies]
 
 
@@ -52,6 +54,7 @@ def translated(language):
 
 def as_billing(language):
     """Each step is answered as the crate answers it: outputs, letters, what is held and what is refused."""
+
     def check(host):
         lines, at = translated(language)
         replies = host.replies(lines, "--audit")
@@ -63,22 +66,43 @@ def as_billing(language):
                     return f"{lines[line]}: {got}, and the crate {reply}"
         audits = replies[len(lines) :]
         return None if [it["audit"] for it in audits] == ["ok"] * 3 else f"{audits}"
+
     return check
 
 
 def lost_charge(language):
     """The ledger is killed before it logged a charge: the card's output never leaves; given again, it leaves once."""
+
     def check(host):
         lines, (first, _) = loaded("shop", language)
         begin = len(lines)
         charge = lambda number: step("post", "shop", unit=0, number=number, text="charge alice 500")
         on = lambda do, unit: step(do, "shop", unit=unit)
-        lines += [charge(first), step("deliver", "shop", letter=0), on("flush", 1), on("release", 1), on("kill", 0), on("release", 1)]
+        lines += [
+            charge(first),
+            step("deliver", "shop", letter=0),
+            on("flush", 1),
+            on("release", 1),
+            on("kill", 0),
+            on("release", 1),
+        ]
         lines += [on("restart", 0), on("release", 1), on("notice", 1), on("flush", 1), on("release", 1)]
-        lines += [charge(first), step("deliver", "shop", letter=0), step("deliver", "shop", letter=1), on("flush", 1), on("release", 1), on("flush", 0), on("release", 1)]
+        lines += [
+            charge(first),
+            step("deliver", "shop", letter=0),
+            step("deliver", "shop", letter=1),
+            on("flush", 1),
+            on("release", 1),
+            on("flush", 0),
+            on("release", 1),
+        ]
         lines += [on("kill", 1), on("restart", 1), on("release", 1), step("deliver", "shop", letter=1)]
         # The balance is that of one charge, whoever is killed.
-        lines += [step("post", "shop", unit=0, number=first + 1, text="refund alice 501"), on("flush", 0), on("release", 0)]
+        lines += [
+            step("post", "shop", unit=0, number=first + 1, text="refund alice 501"),
+            on("flush", 0),
+            on("release", 0),
+        ]
         replies = host.replies(lines, "--audit")[begin:]
         outputs = [reply["outputs"] for reply in replies if "outputs" in reply]
         refusals = [reply["no"] for reply in replies if "no" in reply]
@@ -86,23 +110,36 @@ def lost_charge(language):
         if outputs != wanted or refusals != ["orphan", "repeat"] or replies[-1] != {"audit": "ok", "tenant": "shop"}:
             return f"{outputs}, {refusals}, {replies[-1]}"
         return None
+
     return check
 
 
 def driven(language):
     """A flow that runs itself: the card is down when it is charged. Once it is up each charge leaves, and one that is given twice
     leaves once."""
+
     def check(host):
         lines, (first, _) = loaded("shop", language)
         charge = lambda number, amount: step("post", "shop", unit=0, number=number, text=f"charge alice {amount}")
-        lines += [charge(first, 5), step("kill", "shop", unit=1), charge(first + 1, 7), charge(first + 1, 7), step("restart", "shop", unit=1)]
+        lines += [
+            charge(first, 5),
+            step("kill", "shop", unit=1),
+            charge(first + 1, 7),
+            charge(first + 1, 7),
+            step("restart", "shop", unit=1),
+        ]
         ran = host.ran(["drive", "--programs", "--audit"], "".join(line + "\n" for line in lines).encode())
         told = [json.loads(line) for line in ran.stdout.splitlines()]
         outputs = [(it["unit"], it["output"]) for it in told if "output" in it]
         refusals = [it["no"] for it in told if "no" in it]
-        if outputs != [(1, "card charge alice 5"), (1, "card charge alice 7")] or refusals != ["repeat"] or told[-1] != {"audit": "ok", "tenant": "shop"}:
+        if (
+            outputs != [(1, "card charge alice 5"), (1, "card charge alice 7")]
+            or refusals != ["repeat"]
+            or told[-1] != {"audit": "ok", "tenant": "shop"}
+        ):
             return f"{outputs}, {refusals}, {told[-1]}, {ran.stderr!r}"
         return None
+
     return check
 
 
@@ -151,22 +188,47 @@ def another_handler(host):
 
 def limits(language):
     """The rate limiter: its clock comes in as texts, and is replayed with them."""
+
     def check(host):
         texts = loading_texts(image_of(f"{language}/ratelimit"))
         first = len(texts)
-        rows = [("limit 2 3", []), ("take a", ["granted a 2"]), ("take a", ["granted a 1"]), ("take a", ["granted a 0"]), ("take a", ["denied a 500"]),
-                ("clock 499", []), ("take a", ["denied a 1"]), ("clock 500", []), ("take a", ["granted a 0"]), ("clock 400", ["refused: the clock is at 500"]),
-                ("take b", ["granted b 2"]), ("give a", ["not understood: give a"]), ("limit 0 1", ["refused: a limit is 1 to 1000000"]), ("take a", ["denied a 500"])]
-        lines = [step("open", "a", units=[KIND])] + [step("post", "a", unit=0, number=at, text=text) for at, text in enumerate(texts)] + [step("flush", "a", unit=0)]
+        rows = [
+            ("limit 2 3", []),
+            ("take a", ["granted a 2"]),
+            ("take a", ["granted a 1"]),
+            ("take a", ["granted a 0"]),
+            ("take a", ["denied a 500"]),
+            ("clock 499", []),
+            ("take a", ["denied a 1"]),
+            ("clock 500", []),
+            ("take a", ["granted a 0"]),
+            ("clock 400", ["refused: the clock is at 500"]),
+            ("take b", ["granted b 2"]),
+            ("give a", ["not understood: give a"]),
+            ("limit 0 1", ["refused: a limit is 1 to 1000000"]),
+            ("take a", ["denied a 500"]),
+        ]
+        lines = (
+            [step("open", "a", units=[KIND])]
+            + [step("post", "a", unit=0, number=at, text=text) for at, text in enumerate(texts)]
+            + [step("flush", "a", unit=0)]
+        )
         marks = []
         for at, (text, _) in enumerate(rows):
-            lines += [step("kill", "a", unit=0), step("restart", "a", unit=0), step("post", "a", unit=0, number=first + at, text=text), step("flush", "a", unit=0), step("release", "a", unit=0)]
+            lines += [
+                step("kill", "a", unit=0),
+                step("restart", "a", unit=0),
+                step("post", "a", unit=0, number=first + at, text=text),
+                step("flush", "a", unit=0),
+                step("release", "a", unit=0),
+            ]
             marks.append(len(lines) - 1)
         replies = host.replies(lines)
         for (text, wanted), mark in zip(rows, marks):
             if replies[mark].get("outputs") != wanted:
                 return f"{text}: {replies[mark]}"
         return None
+
     return check
 
 
@@ -183,12 +245,22 @@ def without_the_word(host):
 
 def other_kinds(host):
     """With it the sample's kinds do what they always do, and an unknown kind is told what there is."""
-    lines = [step("open", "a", units=["echo", "relay", "count", "adder", "tee", KIND]), step("open", "b", units=["rv32-2"])]
-    lines += [step("post", "a", unit=unit, number=0, text="7") for unit in range(6)] + [step("flush", "a", unit=unit) for unit in range(6)] + [step("release", "a", unit=unit) for unit in range(6)]
+    lines = [
+        step("open", "a", units=["echo", "relay", "count", "adder", "tee", KIND]),
+        step("open", "b", units=["rv32-2"]),
+    ]
+    lines += (
+        [step("post", "a", unit=unit, number=0, text="7") for unit in range(6)]
+        + [step("flush", "a", unit=unit) for unit in range(6)]
+        + [step("release", "a", unit=unit) for unit in range(6)]
+    )
     ran = host.ran(["run", "--programs", "--explain"], "".join(line + "\n" for line in lines).encode())
     replies = [json.loads(line) for line in ran.stdout.splitlines()]
     outputs = [reply["outputs"] for reply in replies[-6:]]
-    if outputs != [["7"], [], ["1"], ["7"], ["7"], ["no program"]] or b"take one of echo, relay, count, adder, tee, rv32-1\n" not in ran.stderr:
+    if (
+        outputs != [["7"], [], ["1"], ["7"], ["7"], ["no program"]]
+        or b"take one of echo, relay, count, adder, tee, rv32-1\n" not in ran.stderr
+    ):
         return f"{outputs}, {ran.stderr!r}"
     return None
 
@@ -196,7 +268,12 @@ def other_kinds(host):
 def feeds_and_pictures(host):
     """`feeds --programs` and `draw --programs` run them too."""
     lines, (first, _) = loaded("shop", "c")
-    lines += [step("post", "shop", unit=0, number=first, text="charge alice 5"), step("deliver", "shop", letter=0), *[step("flush", "shop", unit=unit) for unit in (0, 1)], step("release", "shop", unit=1)]
+    lines += [
+        step("post", "shop", unit=0, number=first, text="charge alice 5"),
+        step("deliver", "shop", letter=0),
+        *[step("flush", "shop", unit=unit) for unit in (0, 1)],
+        step("release", "shop", unit=1),
+    ]
     given = "".join(line + "\n" for line in lines).encode()
     with tempfile.TemporaryDirectory() as room:
         for name in ("one", "two"):
@@ -214,7 +291,16 @@ def feeds_and_pictures(host):
 def checks():
     own = []
     for language in LANGUAGES:
-        own += [(f"as the crate billing, in {language}", as_billing(language)), (f"a lost charge, in {language}", lost_charge(language)), (f"the rate limiter, in {language}", limits(language)),
-                (f"a driven flow, in {language}", driven(language))]
-    return own + [("the process is killed", process_killed), ("another handler's journal", another_handler), ("without the word", without_the_word),
-                  ("other kinds", other_kinds), ("feeds and pictures", feeds_and_pictures)]
+        own += [
+            (f"as the crate billing, in {language}", as_billing(language)),
+            (f"a lost charge, in {language}", lost_charge(language)),
+            (f"the rate limiter, in {language}", limits(language)),
+            (f"a driven flow, in {language}", driven(language)),
+        ]
+    return own + [
+        ("the process is killed", process_killed),
+        ("another handler's journal", another_handler),
+        ("without the word", without_the_word),
+        ("other kinds", other_kinds),
+        ("feeds and pictures", feeds_and_pictures),
+    ]

@@ -55,7 +55,11 @@ class Host:
             tenant = f"t{number}"
             lines.append(step("open", tenant, units=[KIND]))
             for at, text in enumerate(texts):
-                lines += [step("post", tenant, unit=0, number=at, text=text), step("flush", tenant, unit=0), step("release", tenant, unit=0)]
+                lines += [
+                    step("post", tenant, unit=0, number=at, text=text),
+                    step("flush", tenant, unit=0),
+                    step("release", tenant, unit=0),
+                ]
                 marks.append((number, len(lines) - 1))
         replies = self.replies(lines)
         told = [[] for _ in trials]

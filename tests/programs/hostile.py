@@ -8,7 +8,28 @@ import shutil
 import subprocess
 import tempfile
 
-from assembler import A0, A1, A2, A3, BRANCHES, HEADER, IMMEDIATES, LOADS, OPERATIONS, RA, S0, S1, S2, S3, S4, SHIFTS, STORES, TEXT_AT, ZERO, Code
+from assembler import (
+    A0,
+    A1,
+    A2,
+    A3,
+    BRANCHES,
+    HEADER,
+    IMMEDIATES,
+    LOADS,
+    OPERATIONS,
+    RA,
+    S0,
+    S1,
+    S2,
+    S3,
+    S4,
+    SHIFTS,
+    STORES,
+    TEXT_AT,
+    ZERO,
+    Code,
+)
 from host import KIND, SECONDS, TOP, loading_texts, step
 
 SEED = 20260101
@@ -30,7 +51,9 @@ DATA = 0x20000
 
 def random_instruction(code, chance):
     """One of any sort, most of which do no harm, or a call."""
-    pick, kind = lambda: chance.choice([register for register in range(32) if register not in (RA, S0, S1)]), chance.randrange(100)
+    pick, kind = lambda: chance.choice(
+        [register for register in range(32) if register not in (RA, S0, S1)]
+    ), chance.randrange(100)
     if kind < 35:
         code.put(chance.choice([*OPERATIONS]), pick(), pick(), pick())
     elif kind < 50:
@@ -38,7 +61,12 @@ def random_instruction(code, chance):
     elif kind < 56:
         code.put(chance.choice([*SHIFTS]), pick(), pick(), chance.randrange(32))
     elif kind < 68:  # (one in fifty may be misaligned)
-        code.put(chance.choice([*LOADS, *STORES]), pick(), chance.randrange(-512, 512) & ~(3 if chance.random() < 0.98 else 0), S0)
+        code.put(
+            chance.choice([*LOADS, *STORES]),
+            pick(),
+            chance.randrange(-512, 512) & ~(3 if chance.random() < 0.98 else 0),
+            S0,
+        )
     elif kind < 76:
         code.put(chance.choice([*BRANCHES]), pick(), pick(), 4 * chance.randrange(1, 4))
     elif kind < 80:
@@ -57,7 +85,11 @@ def random_instruction(code, chance):
 
 def random_program(chance):
     """Its loads and stores go to data, or, in one of four, to its own code."""
-    code = Code().li(S0, DATA + 4 * chance.randrange(64) if chance.random() < 0.75 else 512 + 4 * chance.randrange(4, 64)).put("addi", S1, RA, 0)
+    code = (
+        Code()
+        .li(S0, DATA + 4 * chance.randrange(64) if chance.random() < 0.75 else 512 + 4 * chance.randrange(4, 64))
+        .put("addi", S1, RA, 0)
+    )
     for _ in range(chance.randrange(5, 60)):
         random_instruction(code, chance)
     return code.put("jalr", ZERO, 0, S1).image()
@@ -80,7 +112,12 @@ def every_reply(host):
         tenant = f"t{number}"
         lines.append(step("open", tenant, units=[KIND]))
         lines += [step("post", tenant, unit=0, number=at, text=text) for at, text in enumerate(texts)]
-        lines += [step("flush", tenant, unit=0), step("kill", tenant, unit=0), step("restart", tenant, unit=0), step("release", tenant, unit=0)]
+        lines += [
+            step("flush", tenant, unit=0),
+            step("kill", tenant, unit=0),
+            step("restart", tenant, unit=0),
+            step("release", tenant, unit=0),
+        ]
     replies = host.replies(lines, "--audit")
     audits = replies[len(lines) :]
     if len(audits) != len(images) or any(reply != {"audit": "ok", "tenant": reply["tenant"]} for reply in audits):
@@ -107,7 +144,11 @@ def again_and_replayed(host):
         lines.append(step("open", tenant, units=[KIND]))
         for at, text in enumerate(texts):
             lines += [step(do, tenant, unit=0) for do in ("kill", "restart")]
-            lines += [step("post", tenant, unit=0, number=at, text=text), step("flush", tenant, unit=0), step("release", tenant, unit=0)]
+            lines += [
+                step("post", tenant, unit=0, number=at, text=text),
+                step("flush", tenant, unit=0),
+                step("release", tenant, unit=0),
+            ]
             marks.append((number, at, len(lines) - 1))
     replies = host.replies(lines)
     for number, at, line in marks:
@@ -125,12 +166,23 @@ def plain_turns(plain, image, texts, room):
     path = os.path.join(room, "image")
     with open(path, "wb") as file:
         file.write(image)
-    ran = subprocess.run([plain, path], input="".join(escaped(text) + "\n" for text in texts).encode(), capture_output=True, timeout=SECONDS, check=True)
+    ran = subprocess.run(
+        [plain, path],
+        input="".join(escaped(text) + "\n" for text in texts).encode(),
+        capture_output=True,
+        timeout=SECONDS,
+        check=True,
+    )
     turns, lines = [], []
     for line in ran.stdout.split(b"\n")[:-1]:
         lines.append(line)
         if not line:  # (it is the end of a turn)
-            turns.append(([text[5:].decode() for text in lines if text.startswith(b"out: ")], sum(text.startswith(b"to 0: ") for text in lines)))
+            turns.append(
+                (
+                    [text[5:].decode() for text in lines if text.startswith(b"out: ")],
+                    sum(text.startswith(b"to 0: ") for text in lines),
+                )
+            )
             lines = []
     return turns
 
@@ -155,9 +207,18 @@ def spends_its_budget(host):
     """A unit that spends its budget in each turn goes on, and its neighbours do: 30 turns, a kill, and the replay of all of them."""
     image = Code().put("jal", ZERO, 0).image()
     texts = loading_texts(image) + ["x"] * 30
-    lines = [step("open", "a", units=[KIND, "count"])] + [step("post", "a", unit=0, number=at, text=text) for at, text in enumerate(texts)]
+    lines = [step("open", "a", units=[KIND, "count"])] + [
+        step("post", "a", unit=0, number=at, text=text) for at, text in enumerate(texts)
+    ]
     lines += [step("post", "a", unit=1, number=0, text="x")]
-    lines += [step("flush", "a", unit=0), step("kill", "a", unit=0), step("restart", "a", unit=0), step("release", "a", unit=0), step("flush", "a", unit=1), step("release", "a", unit=1)]
+    lines += [
+        step("flush", "a", unit=0),
+        step("kill", "a", unit=0),
+        step("restart", "a", unit=0),
+        step("release", "a", unit=0),
+        step("flush", "a", unit=1),
+        step("release", "a", unit=1),
+    ]
     replies = host.replies(lines)
     if replies[-3].get("outputs") != ["trap: budget spent at 4"] * 30 or replies[-1].get("outputs") != ["1"]:
         return f"{replies[-3:]}"
@@ -166,18 +227,29 @@ def spends_its_budget(host):
 
 def many_letters(host):
     """Two units that send each other 64 texts in each turn: none is lost."""
-    code = Code().put("addi", S1, A0, 0).put("addi", S2, A1, 0).put("addi", S4, ZERO, 1).put("sub", S4, S4, A3).li(S3, 64)
-    code.label("again").put("addi", A0, S4, 0).put("addi", A1, S1, 0).put("addi", A2, S2, 0).call(2).put("addi", S3, S3, -1).put("bne", S3, ZERO, "again").ret()
+    code = (
+        Code().put("addi", S1, A0, 0).put("addi", S2, A1, 0).put("addi", S4, ZERO, 1).put("sub", S4, S4, A3).li(S3, 64)
+    )
+    code.label("again").put("addi", A0, S4, 0).put("addi", A1, S1, 0).put("addi", A2, S2, 0).call(2).put(
+        "addi", S3, S3, -1
+    ).put("bne", S3, ZERO, "again").ret()
     texts = loading_texts(code.image())
     lines = [step("open", "a", units=[KIND, KIND])]
     for unit in (0, 1):
         lines += [step("post", "a", unit=unit, number=at, text=text) for at, text in enumerate(texts)]
-    lines += [step("post", "a", unit=0, number=len(texts), text="x")] + [step("deliver", "a", letter=letter) for letter in range(10)]
+    lines += [step("post", "a", unit=0, number=len(texts), text="x")] + [
+        step("deliver", "a", letter=letter) for letter in range(10)
+    ]
     replies = host.replies(lines)
     letters = [number for reply in replies[-11:] for number in reply["letters"]]
     return None if letters == list(range(64 * 11)) else f"{json.dumps(replies[-2:])[:300]}"
 
 
 def checks():
-    return [("random images", every_reply), ("again and replayed", again_and_replayed), ("as the plain interpreter", as_the_plain_interpreter),
-            ("a budget spent each turn", spends_its_budget), ("many letters", many_letters)]
+    return [
+        ("random images", every_reply),
+        ("again and replayed", again_and_replayed),
+        ("as the plain interpreter", as_the_plain_interpreter),
+        ("a budget spent each turn", spends_its_budget),
+        ("many letters", many_letters),
+    ]

@@ -4,10 +4,55 @@ digits. What is wanted is computed in `arithmetic`, from the manual."""
 import struct
 
 from arithmetic import DIVISIONS, FULL, TAKEN, VALUE, loaded
-from assembler import A0, A1, A2, A7, ALL, BRANCHES, IMMEDIATES, LOADS, MEMORY, OPERATIONS, RA, S0, S1, S2, S3, SHIFTS, STORES, T0, T1, T2, T3, T4, T5, T6, ZERO, Code, encode
+from assembler import (
+    A0,
+    A1,
+    A2,
+    A7,
+    ALL,
+    BRANCHES,
+    IMMEDIATES,
+    LOADS,
+    MEMORY,
+    OPERATIONS,
+    RA,
+    S0,
+    S1,
+    S2,
+    S3,
+    SHIFTS,
+    STORES,
+    T0,
+    T1,
+    T2,
+    T3,
+    T4,
+    T5,
+    T6,
+    ZERO,
+    Code,
+    encode,
+)
 from host import loading_texts
 
-CORNERS = [0, 1, 2, 3, 31, 32, 0x7F, 0x80, 0x7FFF, 0x8000, 0x12345678, 0x7FFFFFFF, 0x80000000, 0x80000001, 0xFFFFFFFE, 0xFFFFFFFF]
+CORNERS = [
+    0,
+    1,
+    2,
+    3,
+    31,
+    32,
+    0x7F,
+    0x80,
+    0x7FFF,
+    0x8000,
+    0x12345678,
+    0x7FFFFFFF,
+    0x80000000,
+    0x80000001,
+    0xFFFFFFFE,
+    0xFFFFFFFF,
+]
 SMALL = [-2048, -2047, -1, 0, 1, 2, 31, 0x555, 2047]
 UPPER = [0, 1, 2, 0x12345, 0x7FFFF, 0x80000, 0xFFFFF]
 AMOUNTS = [0, 1, 2, 15, 16, 30, 31]
@@ -33,7 +78,9 @@ class Table(Code):
         """Puts out what was collected, and returns. The routine behind it writes a0 in hexadecimal digits where s0 points."""
         self.li(A0, BUFFER).put("sub", A1, S0, A0).call(1).put("jalr", ZERO, 0, S1)
         self.label("hex").put("addi", T0, ZERO, 28).label("digit").put("srl", T1, A0, T0).put("andi", T1, T1, 15)
-        self.put("addi", T2, ZERO, 10).put("blt", T1, T2, "decimal").put("addi", T1, T1, 39).label("decimal").put("addi", T1, T1, 48)
+        self.put("addi", T2, ZERO, 10).put("blt", T1, T2, "decimal").put("addi", T1, T1, 39).label("decimal").put(
+            "addi", T1, T1, 48
+        )
         self.put("sb", T1, 0, S0).put("addi", S0, S0, 1).put("addi", T0, T0, -4).put("bge", T0, ZERO, "digit").ret()
         return self
 
@@ -65,8 +112,11 @@ def aliased(table, name, one, other):
     """The same where registers coincide, and where the result goes into x0."""
     value = VALUE[name]
     for what, words, wanted in (
-        (f"{name} a0, a0, a2", (A0, A0, A2), value(one, other)), (f"{name} a0, a2, a0", (A0, A2, A0), value(other, one)), (f"{name} a0, a0, a0", (A0, A0, A0), value(one, one)),
-        (f"{name} a0, x0, a2", (A0, ZERO, A2), value(0, other)), (f"{name} a0, a0, x0", (A0, A0, ZERO), value(one, 0)),
+        (f"{name} a0, a0, a2", (A0, A0, A2), value(one, other)),
+        (f"{name} a0, a2, a0", (A0, A2, A0), value(other, one)),
+        (f"{name} a0, a0, a0", (A0, A0, A0), value(one, one)),
+        (f"{name} a0, x0, a2", (A0, ZERO, A2), value(0, other)),
+        (f"{name} a0, a0, x0", (A0, A0, ZERO), value(one, 0)),
     ):
         table.li(A0, one).li(A2, other).put(name, *words)
         table.result(what, wanted)
@@ -76,7 +126,9 @@ def aliased(table, name, one, other):
 
 def operation(name):
     table = Table()
-    pairs = [(a, b, VALUE[name](a, b)) for a in CORNERS for b in CORNERS] + [(a, b, wanted) for one, a, b, wanted in DIVISIONS if one == name]
+    pairs = [(a, b, VALUE[name](a, b)) for a in CORNERS for b in CORNERS] + [
+        (a, b, wanted) for one, a, b, wanted in DIVISIONS if one == name
+    ]
     for a, b, wanted in pairs:
         table.li(T3, a).li(T4, b).put(name, A0, T3, T4)
         table.result(f"{name} of {a:x} and {b:x}", wanted)
@@ -85,7 +137,10 @@ def operation(name):
 
 
 def immediate(name):
-    table, of = Table(), {"addi": "add", "slti": "slt", "sltiu": "sltu", "xori": "xor", "ori": "or", "andi": "and"}[name]
+    table, of = (
+        Table(),
+        {"addi": "add", "slti": "slt", "sltiu": "sltu", "xori": "xor", "ori": "or", "andi": "and"}[name],
+    )
     for a in CORNERS:
         for b in SMALL:
             table.li(T3, a).put(name, A0, T3, b)
@@ -194,7 +249,10 @@ def store(name):
                 memory[at : at + size] = (value % (1 << 8 * size)).to_bytes(size, "little")
                 for word in range(3):
                     table.put("lw", A0, 4 * word, T3)
-                    table.result(f"word {word} after {name} of {value:x} at {at} by {offset}", struct.unpack_from("<I", memory, 4 * word)[0])
+                    table.result(
+                        f"word {word} after {name} of {value:x} at {at} by {offset}",
+                        struct.unpack_from("<I", memory, 4 * word)[0],
+                    )
     table.li(T3, MEMORY - size).li(T4, 0x81).put(name, T4, 0, T3).put("lbu", A0, 0, T3)
     table.result(f"{name} to the last bytes of memory", 0x81)
     return table
@@ -240,10 +298,24 @@ class Break(Code):
 
 
 def table_of(name):
-    for names, make in ((OPERATIONS, operation), (IMMEDIATES, immediate), (SHIFTS, shift), (BRANCHES, branch), (LOADS, load), (STORES, store), (("lui", "auipc"), upper)):
+    for names, make in (
+        (OPERATIONS, operation),
+        (IMMEDIATES, immediate),
+        (SHIFTS, shift),
+        (BRANCHES, branch),
+        (LOADS, load),
+        (STORES, store),
+        (("lui", "auipc"), upper),
+    ):
         if name in names:
             return make(name)
-    return {"jal": jump_and_link, "jalr": jump_and_link_register, "fence": fence, "ecall": environment_call, "ebreak": Break}[name]()
+    return {
+        "jal": jump_and_link,
+        "jalr": jump_and_link_register,
+        "fence": fence,
+        "ecall": environment_call,
+        "ebreak": Break,
+    }[name]()
 
 
 def checks():
@@ -256,6 +328,7 @@ def checks():
             if not told:
                 told.update(zip(tables, host.outputs([table.texts() for table in tables.values()])))
             return tables[name].wrong(told[name])
+
         return look
 
     return [(f"instruction {name}", check(name)) for name in ALL]

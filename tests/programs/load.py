@@ -22,13 +22,25 @@ def elf(segments, machine=243, bits=1, order=1, kind=2, entry=4, flags=0):
         headers += struct.pack("<8I", what, at + len(bodies), address, address, len(data), size, 7, 4)
         bodies += data
     ident = b"\x7fELF" + bytes([bits, order, 1]) + bytes(9)
-    return ident + struct.pack("<HHIIIIIHHHHHH", kind, machine, 1, entry, 52 if segments else 0, 0, flags, 52, 32, len(segments), 0, 0, 0) + headers + bodies
+    return (
+        ident
+        + struct.pack(
+            "<HHIIIIIHHHHHH", kind, machine, 1, entry, 52 if segments else 0, 0, flags, 52, 32, len(segments), 0, 0, 0
+        )
+        + headers
+        + bodies
+    )
 
 
 def wide_elf(machine=243):
     """One of 64 bits."""
     ident = b"\x7fELF\x02\x01\x01" + bytes(9)
-    return ident + struct.pack("<HHIQQQIHHHHHH", 2, machine, 1, 4, 64, 0, 0, 64, 56, 1, 0, 0, 0) + struct.pack("<IIQQQQQQ", LOADABLE, 7, 120, 0, 0, len(FLAT), len(FLAT), 4) + FLAT
+    return (
+        ident
+        + struct.pack("<HHIQQQIHHHHHH", 2, machine, 1, 4, 64, 0, 0, 64, 56, 1, 0, 0, 0)
+        + struct.pack("<IIQQQQQQ", LOADABLE, 7, 120, 0, 0, len(FLAT), len(FLAT), 4)
+        + FLAT
+    )
 
 
 # What a file has, and the image that is loaded.
@@ -39,9 +51,17 @@ IMAGES = [
     ("an image of the header alone", HEADER, HEADER),
     ("one segment", elf([(LOADABLE, 0, FLAT, len(FLAT))]), FLAT),
     ("a segment that goes on in memory", elf([(LOADABLE, 0, FLAT, 0x20000)]), FLAT),
-    ("two segments with a gap", elf([(LOADABLE, 0, FLAT[:8], 8), (LOADABLE, 0x100, b"data", 64)]), FLAT[:8] + bytes(0x100 - 8) + b"data"),
+    (
+        "two segments with a gap",
+        elf([(LOADABLE, 0, FLAT[:8], 8), (LOADABLE, 0x100, b"data", 64)]),
+        FLAT[:8] + bytes(0x100 - 8) + b"data",
+    ),
     ("segments in another order", elf([(LOADABLE, 8, FLAT[8:], len(FLAT) - 8), (LOADABLE, 0, FLAT[:8], 8)]), FLAT),
-    ("a segment that isn't loaded", elf([(NOTE, 0, b"a note of some bytes", 20), (LOADABLE, 0, FLAT, len(FLAT))]), FLAT),
+    (
+        "a segment that isn't loaded",
+        elf([(NOTE, 0, b"a note of some bytes", 20), (LOADABLE, 0, FLAT, len(FLAT))]),
+        FLAT,
+    ),
     ("a segment of variables alone", elf([(LOADABLE, 0, FLAT, len(FLAT)), (LOADABLE, 0x8000, b"", 0x4000)]), FLAT),
 ]
 
@@ -73,11 +93,18 @@ FAULTS = [
 
 # Words that are none. The status is 2.
 BAD_WORDS = [
-    ("no file", [*WORDS]), ("no tenant", ["image", "--unit", "0"]), ("no unit", ["image", "--tenant", "shop"]), ("two files", ["image", "image", *WORDS]),
-    ("a tenant in capitals", ["image", "--tenant", "SHOP", "--unit", "0"]), ("a tenant of no letters", ["image", "--tenant", "", "--unit", "0"]),
-    ("a long tenant", ["image", "--tenant", "a" * 33, "--unit", "0"]), ("unit 256", ["image", "--tenant", "shop", "--unit", "256"]),
-    ("a unit that is no number", ["image", "--tenant", "shop", "--unit", "x"]), ("a number below zero", ["image", *WORDS, "--number=-1"]),
-    ("a number that is too great", ["image", *WORDS, "--number", "4294967296"]), ("another option", ["image", *WORDS, "--walk"]),
+    ("no file", [*WORDS]),
+    ("no tenant", ["image", "--unit", "0"]),
+    ("no unit", ["image", "--tenant", "shop"]),
+    ("two files", ["image", "image", *WORDS]),
+    ("a tenant in capitals", ["image", "--tenant", "SHOP", "--unit", "0"]),
+    ("a tenant of no letters", ["image", "--tenant", "", "--unit", "0"]),
+    ("a long tenant", ["image", "--tenant", "a" * 33, "--unit", "0"]),
+    ("unit 256", ["image", "--tenant", "shop", "--unit", "256"]),
+    ("a unit that is no number", ["image", "--tenant", "shop", "--unit", "x"]),
+    ("a number below zero", ["image", *WORDS, "--number=-1"]),
+    ("a number that is too great", ["image", *WORDS, "--number", "4294967296"]),
+    ("another option", ["image", *WORDS, "--walk"]),
 ]
 
 
@@ -93,7 +120,10 @@ def posts(out, unit, first):
     texts = []
     for number, line in enumerate(out.decode().splitlines()):
         it = json.loads(line)
-        if it != {"do": "post", "number": first + number, "tenant": "shop", "text": it.get("text"), "unit": unit} or len(it["text"]) > 4096:
+        if (
+            it != {"do": "post", "number": first + number, "tenant": "shop", "text": it.get("text"), "unit": unit}
+            or len(it["text"]) > 4096
+        ):
             raise ValueError(line[:200])
         # The layout that is read fastest: keys in byte order, no blanks.
         if line != json.dumps(it, sort_keys=True, separators=(",", ":")):
@@ -112,6 +142,7 @@ def loaded(data, wanted):
             return f"status {ran.returncode}, {ran.stderr!r}"
         image = posts(ran.stdout, 0, 0)
         return None if image == wanted else f"{len(image)} bytes for {len(wanted)}"
+
     return check
 
 
@@ -120,9 +151,16 @@ def refused(data):
         with tempfile.TemporaryDirectory() as room:
             write(room, "some-image", data)
             ran = host.ran(["load", "some-image", *WORDS], cwd=room)
-        if ran.returncode != 1 or ran.stdout or not ran.stderr.startswith(b"recall: ") or b'"some-image"' not in ran.stderr or ran.stderr.count(b"\n") != 1:
+        if (
+            ran.returncode != 1
+            or ran.stdout
+            or not ran.stderr.startswith(b"recall: ")
+            or b'"some-image"' not in ran.stderr
+            or ran.stderr.count(b"\n") != 1
+        ):
             return f"status {ran.returncode}, {ran.stdout[:100]!r}, {ran.stderr!r}"
         return None
+
     return check
 
 
@@ -143,7 +181,12 @@ def files(host):
         write(room, "image", FLAT)
         for name in ("nofile", ".", "image/x"):
             ran = host.ran(["load", name, *WORDS], cwd=room)
-            if ran.returncode != 1 or ran.stdout or not ran.stderr.startswith(b"recall: ") or b'"%s"' % name.encode() not in ran.stderr:
+            if (
+                ran.returncode != 1
+                or ran.stdout
+                or not ran.stderr.startswith(b"recall: ")
+                or b'"%s"' % name.encode() not in ran.stderr
+            ):
                 return f"{name}: status {ran.returncode}, {ran.stderr!r}"
     return None
 
@@ -162,18 +205,36 @@ def full_disk(host):
     with tempfile.TemporaryDirectory() as room, open("/dev/full", "wb") as full:
         path = write(room, "image", FLAT)
         ran = subprocess.run([host.path, "load", path, *WORDS], stdout=full, stderr=subprocess.PIPE, timeout=SECONDS)
-    return None if ran.returncode == 1 and ran.stderr.startswith(b"recall: the output can't be written") else f"status {ran.returncode}, {ran.stderr!r}"
+    return (
+        None
+        if ran.returncode == 1 and ran.stderr.startswith(b"recall: the output can't be written")
+        else f"status {ran.returncode}, {ran.stderr!r}"
+    )
 
 
 def piped(host):
     """What one types: the lines of `load`, then steps."""
-    rows = [("flat", FLAT), ("elf", elf([(LOADABLE, 0, FLAT[:8], 8), (LOADABLE, 8, FLAT[8:], 0x9000)])), ("the ledger", image_of("c/ledger"))]
+    rows = [
+        ("flat", FLAT),
+        ("elf", elf([(LOADABLE, 0, FLAT[:8], 8), (LOADABLE, 8, FLAT[8:], 0x9000)])),
+        ("the ledger", image_of("c/ledger")),
+    ]
     with tempfile.TemporaryDirectory() as room:
         for name, data in rows:
             lines = host.ran(["load", write(room, "image", data), *WORDS]).stdout
             count = lines.count(b"\n")
-            rest = [step("post", "shop", unit=0, number=count, text="charge alice 5"), step("flush", "shop", unit=0), step("release", "shop", unit=0), step("status", "shop", unit=0)]
-            given = step("open", "shop", units=[KIND, "echo"]).encode() + b"\n" + lines + "".join(line + "\n" for line in rest).encode()
+            rest = [
+                step("post", "shop", unit=0, number=count, text="charge alice 5"),
+                step("flush", "shop", unit=0),
+                step("release", "shop", unit=0),
+                step("status", "shop", unit=0),
+            ]
+            given = (
+                step("open", "shop", units=[KIND, "echo"]).encode()
+                + b"\n"
+                + lines
+                + "".join(line + "\n" for line in rest).encode()
+            )
             ran = host.ran(["run", "--programs", "--strict"], given)
             last = [json.loads(line) for line in ran.stdout.splitlines()][-4:]
             wanted = ([], [0]) if name == "the ledger" else (["hello"], [])
@@ -193,6 +254,13 @@ def same_as_by_hand(host):
 
 
 def checks():
-    return [*[(f"load {name}", loaded(data, wanted)) for name, data, wanted in IMAGES], *[(f"load {name}", refused(data)) for name, data in FAULTS],
-            ("load: numbers and units", numbers_and_units), ("load: files", files), ("load: bad words", bad_words), ("load: a full disk", full_disk),
-            ("load: piped into a run", piped), ("load: as by hand", same_as_by_hand)]
+    return [
+        *[(f"load {name}", loaded(data, wanted)) for name, data, wanted in IMAGES],
+        *[(f"load {name}", refused(data)) for name, data in FAULTS],
+        ("load: numbers and units", numbers_and_units),
+        ("load: files", files),
+        ("load: bad words", bad_words),
+        ("load: a full disk", full_disk),
+        ("load: piped into a run", piped),
+        ("load: as by hand", same_as_by_hand),
+    ]

@@ -23,7 +23,9 @@ def patched(store):
     elif store == "sh":
         code.put("lbu", T1, 3, S0).put("slli", T1, T1, 8).put("or", T0, T0, T1).put("sh", T0, 2, S0)
     else:
-        code.put("lhu", T1, 0, S0).put("slli", T0, T0, 16).put("or", T0, T0, T1).put("lbu", T1, 3, S0).put("slli", T1, T1, 24).put("or", T0, T0, T1).put("sw", T0, 0, S0)
+        code.put("lhu", T1, 0, S0).put("slli", T0, T0, 16).put("or", T0, T0, T1).put("lbu", T1, 3, S0).put(
+            "slli", T1, T1, 24
+        ).put("or", T0, T0, T1).put("sw", T0, 0, S0)
     code.put("blt", S1, S3, "here")
     # The instruction is as it was for the next turn.
     return show(code.li(T0, encode("addi", A0, ZERO, 0x30)).put("sw", T0, 0, S0), 10).ret().image()
@@ -41,7 +43,10 @@ def a_text_that_is_code(host):
     code = Code().put("addi", S1, 1, 0).la(S2, "back").li(T0, TEXT_AT).put("jalr", ZERO, 0, T0)
     code.label("back").li(T1, LINE).put("sb", A0, 0, T1)
     show(code, 1).put("jalr", ZERO, 0, S1)
-    texts = [struct.pack("<II", encode("addi", A0, ZERO, ord(letter)), encode("jalr", ZERO, 0, S2)).decode() for letter in "abcABC"]
+    texts = [
+        struct.pack("<II", encode("addi", A0, ZERO, ord(letter)), encode("jalr", ZERO, 0, S2)).decode()
+        for letter in "abcABC"
+    ]
     told = host.upon(code.image(), *texts)
     return None if told == [[letter] for letter in "abcABC"] else f"{told}"
 
@@ -49,7 +54,14 @@ def a_text_that_is_code(host):
 def growing():
     """Puts out the letter in an instruction, `@` at first. A text that begins with `p` or `x` adds one to that before it is run, and
     one with `x` traps then."""
-    code = Code().la(S0, "here").li(S1, TEXT_AT).put("lbu", S1, 0, S1).put("addi", S2, ZERO, ord("p")).put("blt", S1, S2, "here")
+    code = (
+        Code()
+        .la(S0, "here")
+        .li(S1, TEXT_AT)
+        .put("lbu", S1, 0, S1)
+        .put("addi", S2, ZERO, ord("p"))
+        .put("blt", S1, S2, "here")
+    )
     code.put("lw", T0, 0, S0).put("lui", T1, 0x100).put("add", T0, T0, T1).put("sw", T0, 0, S0)
     code.label("here").put("addi", A0, ZERO, 0x40).li(T1, LINE).put("sb", A0, 0, T1)
     show(code, 1).put("addi", S2, ZERO, ord("x")).put("beq", S1, S2, "trap").ret()
@@ -68,10 +80,18 @@ def a_restart_brings_it_back(host):
     image = growing().image()
     for checkpoint in (False, True):
         texts = [*loading_texts(image), "a", "p"]
-        lines = [step("open", "a", units=[KIND])] + [step("post", "a", unit=0, number=at, text=text) for at, text in enumerate(texts)]
+        lines = [step("open", "a", units=[KIND])] + [
+            step("post", "a", unit=0, number=at, text=text) for at, text in enumerate(texts)
+        ]
         lines += [step("flush", "a", unit=0)] + checkpoint * [step("checkpoint", "a", unit=0)]
-        lines += [step("post", "a", unit=0, number=len(texts), text="p"), step("flush", "a", unit=0), step("post", "a", unit=0, number=len(texts) + 1, text="p")]
-        lines += [step(do, "a", unit=0) for do in ("kill", "restart")] + [step("post", "a", unit=0, number=len(texts) + 1, text="a")]
+        lines += [
+            step("post", "a", unit=0, number=len(texts), text="p"),
+            step("flush", "a", unit=0),
+            step("post", "a", unit=0, number=len(texts) + 1, text="p"),
+        ]
+        lines += [step(do, "a", unit=0) for do in ("kill", "restart")] + [
+            step("post", "a", unit=0, number=len(texts) + 1, text="a")
+        ]
         lines += [step("flush", "a", unit=0), step("release", "a", unit=0)]
         if (told := host.replies(lines)[-1]["outputs"]) != ["@", "A", "B", "B"]:
             return f"checkpoint {checkpoint}: {told}"
@@ -84,7 +104,10 @@ def units_have_their_own(host):
     lines = [step("open", "a", units=[KIND, KIND])]
     for unit, turns in ((0, "apa"), (1, "a")):
         lines += [step("post", "a", unit=unit, number=at, text=text) for at, text in enumerate([*texts, *turns])]
-    lines += [step("post", "a", unit=0, number=len(texts) + 3, text="p"), step("post", "a", unit=1, number=len(texts) + 1, text="a")]
+    lines += [
+        step("post", "a", unit=0, number=len(texts) + 3, text="p"),
+        step("post", "a", unit=1, number=len(texts) + 1, text="a"),
+    ]
     lines += [step("flush", "a", unit=unit) for unit in (0, 1)] + [step("release", "a", unit=unit) for unit in (0, 1)]
     told = [reply["outputs"] for reply in host.replies(lines)[-2:]]
     return None if told == [["@", "A", "A", "B"], ["@", "@"]] else f"{told}"
@@ -95,7 +118,9 @@ def far_away(host):
     code = Code().put("addi", S1, 1, 0).li(S0, 0x2000).li(S2, LINE).li(S3, 0x3E000)
     code.label("page")
     for letter in "pq":
-        code.li(T0, encode("addi", A0, ZERO, ord(letter))).put("sw", T0, 0xFC, S0).li(T0, encode("jalr", ZERO, 0, 1)).put("sw", T0, 0x100, S0)
+        code.li(T0, encode("addi", A0, ZERO, ord(letter))).put("sw", T0, 0xFC, S0).li(
+            T0, encode("jalr", ZERO, 0, 1)
+        ).put("sw", T0, 0x100, S0)
         code.put("jalr", 1, 0xFC, S0).put("sb", A0, 0, S2).put("addi", S2, S2, 1)
     code.put("lui", T0, 1).put("add", S0, S0, T0).put("blt", S0, S3, "page")
     code.li(T0, LINE).put("addi", A0, T0, 0).put("sub", A1, S2, T0).call(1).put("jalr", ZERO, 0, S1)
@@ -104,5 +129,11 @@ def far_away(host):
 
 
 def checks():
-    return [("own code: by each store", by_each_store), ("own code: a text that is code", a_text_that_is_code), ("own code: a trap undoes it", a_trap_undoes_it),
-            ("own code: a restart brings it back", a_restart_brings_it_back), ("own code: units have their own", units_have_their_own), ("own code: in every page", far_away)]
+    return [
+        ("own code: by each store", by_each_store),
+        ("own code: a text that is code", a_text_that_is_code),
+        ("own code: a trap undoes it", a_trap_undoes_it),
+        ("own code: a restart brings it back", a_restart_brings_it_back),
+        ("own code: units have their own", units_have_their_own),
+        ("own code: in every page", far_away),
+    ]

@@ -31,9 +31,18 @@ def from_an_empty_folder(host):
         os.mkdir(own)
         os.symlink(host.path, os.path.join(own, "recall"))
         place = {**os.environ, "RECALL": TOP, "PATH": own + os.pathsep + os.environ["PATH"]}
-        ran = subprocess.run(["bash", "-euo", "pipefail", "-c", page["sh"]], cwd=room, env=place, capture_output=True, text=True, timeout=SECONDS)
+        ran = subprocess.run(
+            ["bash", "-euo", "pipefail", "-c", page["sh"]],
+            cwd=room,
+            env=place,
+            capture_output=True,
+            text=True,
+            timeout=SECONDS,
+        )
     wanted = "3 passed, 0 failed\n" + page["json"]
-    return None if ran.returncode == 0 and ran.stdout == wanted else f"status {ran.returncode}, {ran.stdout}, {ran.stderr}"
+    return (
+        None if ran.returncode == 0 and ran.stdout == wanted else f"status {ran.returncode}, {ran.stdout}, {ran.stderr}"
+    )
 
 
 def checks():

@@ -18,21 +18,33 @@ def counting(first):
 the_new_one_runs = upon_loading(
     ([*LOADED, "=" + encoded(OTHER), "x", "=" + encoded(HELLO), "x"], WORKS + [[], ["other"], [], ["hello"]]),
     # Until the image is whole the old program runs; texts with a mark are of the image.
-    ([*LOADED, "+" + encoded(OTHER[:9]), "x", "y", "=" + encoded(OTHER[9:]), "x"], WORKS + [[], ["hello"], ["hello"], [], ["other"]]),
+    (
+        [*LOADED, "+" + encoded(OTHER[:9]), "x", "y", "=" + encoded(OTHER[9:]), "x"],
+        WORKS + [[], ["hello"], ["hello"], [], ["other"]],
+    ),
     ([*LOADED, "+" + encoded(OTHER[:9]), "+", "+" + encoded(OTHER[9:]), "=", "x"], WORKS + [[], [], [], [], ["other"]]),
 )
 
 what_was_there_stays = upon_loading(
-    (["=" + encoded(counting("0")), "x", "x", "=" + encoded(counting("@")), "x", "x"], [[], ["1"], ["2"], [], ["C"], ["D"]]),
+    (
+        ["=" + encoded(counting("0")), "x", "x", "=" + encoded(counting("@")), "x", "x"],
+        [[], ["1"], ["2"], [], ["C"], ["D"]],
+    )
 )
 
 LARGE = "+" + encoded(bytes(3069))
 
 one_that_is_refused = upon_loading(
     # The old program stays, and a text with a mark is for it again.
-    ([*LOADED, "+" + encoded(OTHER[:9]), "+!", "x", "=" + encoded(OTHER[9:]), "x"], WORKS + [[], ["bad base64"], ["hello"], ["hello"], ["hello"]]),
+    (
+        [*LOADED, "+" + encoded(OTHER[:9]), "+!", "x", "=" + encoded(OTHER[9:]), "x"],
+        WORKS + [[], ["bad base64"], ["hello"], ["hello"], ["hello"]],
+    ),
     ([*LOADED, "+UlYxA", "x"], WORKS + [["bad base64"], ["hello"]]),
-    ([*LOADED, "+" + encoded(OTHER), *[LARGE] * (MOST // 3069), LARGE, "x"], WORKS + [[]] * (1 + MOST // 3069) + [["image too large"], ["hello"]]),
+    (
+        [*LOADED, "+" + encoded(OTHER), *[LARGE] * (MOST // 3069), LARGE, "x"],
+        WORKS + [[]] * (1 + MOST // 3069) + [["image too large"], ["hello"]],
+    ),
     # An image of the header alone is one: at address 4 the old program's code stands.
     ([*LOADED, "=UlYxAQ==", "x"], WORKS + [[], ["hello"]]),
 )
@@ -57,7 +69,11 @@ def each_text_has_its_program(host):
     lines = [step("open", "a", units=[KIND])]
     lines += [step("post", "a", unit=0, number=number, text=text) for number, text in enumerate(texts)]
     lines += [step("flush", "a", unit=0), step("kill", "a", unit=0), step("restart", "a", unit=0)]
-    lines += [step("post", "a", unit=0, number=len(texts), text="x"), step("flush", "a", unit=0), step("release", "a", unit=0)]
+    lines += [
+        step("post", "a", unit=0, number=len(texts), text="x"),
+        step("flush", "a", unit=0),
+        step("release", "a", unit=0),
+    ]
     replies = host.replies(lines, "--audit")
     told, audit = replies[len(lines) - 1]["outputs"], replies[len(lines)]
     return None if told == ["1", "2", "C", "D"] and audit["audit"] == "ok" else f"{told}, {audit}"
