@@ -1,4 +1,5 @@
-"""What `pip install clients/python` builds: a wheel of the two modules. It needs nothing but the standard library, and no network."""
+"""What `pip install clients/python` builds: a wheel of the two modules. It needs nothing but the standard library, and
+no network."""
 
 import base64
 import hashlib

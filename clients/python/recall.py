@@ -8,8 +8,8 @@
         tenant.flush(0)
         print(tenant.release(0))        # ['x']
 
-`Host` starts `recall run` and talks to it in lines of JSON. A reply is a dict of what the line says. Each call below may
-raise one of these:
+`Host` starts `recall run` and talks to it in lines of JSON. A reply is a dict of what the line says. Each call below
+may raise one of these:
 
 - `Refused`: the step was refused, and changed nothing. Its `name` says why (docs/FORMATS.md lists the names).
 - `Ended`: the program has ended. It carries its status, what it wrote to standard error, and the replies that the call had
@@ -61,9 +61,9 @@ class Refused(Exception):
 
 
 class Ended(Exception):
-    """The host's program has ended: `status` is its exit status, `complaint` what it wrote to standard error. `replies` are
-    those that the call had read, to its first steps, and `count` is how many; `total` is how many the host has read since it
-    was started, these among them."""
+    """The host's program has ended: `status` is its exit status, `complaint` what it wrote to standard error. `replies`
+    are those that the call had read, to its first steps, and `count` is how many; `total` is how many the host has read
+    since it was started, these among them."""
 
     def __init__(self, status, complaint, replies=(), total=0):
         super().__init__(f"recall ended with status {status}: {complaint.strip() or 'it said nothing'}")
@@ -72,9 +72,9 @@ class Ended(Exception):
 
 
 class Broken(Exception):
-    """The host can't tell any more which reply is whose, and does no call: `why` says what came before. `replies` are those
-    that the interrupted call had read, to its first steps, and `count` is how many; `total` is how many the host has read
-    since it was started, these among them."""
+    """The host can't tell any more which reply is whose, and does no call: `why` says what came before. `replies` are
+    those that the interrupted call had read, to its first steps, and `count` is how many; `total` is how many the host
+    has read since it was started, these among them."""
 
     def __init__(self, why, replies=(), total=0):
         super().__init__(f"the host is broken: {why}: close it, and start another")
@@ -90,8 +90,8 @@ def _line_of(step):
 
 
 class Host:
-    """One run of the program, from `program` with the words `run` and `words` (as `["--log", "file"]`). `--from` is none of
-    them (`ValueError`): it has replies written that no call asked for."""
+    """One run of the program, from `program` with the words `run` and `words` (as `["--log", "file"]`). `--from` is
+    none of them (`ValueError`): it has replies written that no call asked for."""
 
     def __init__(self, program="recall", words=()):
         words = list(words)
@@ -127,8 +127,8 @@ class Host:
         self.close()
 
     def close(self):
-        """Ends the input, waits for the program's end, and gives its exit status. What it still wrote is let go. A host that
-        is broken is closed in the same way; where the program may never end, kill it."""
+        """Ends the input, waits for the program's end, and gives its exit status. What it still wrote is let go. A host
+        that is broken is closed in the same way; where the program may never end, kill it."""
         process = self._process
         if not process.stdout.closed:
             try:
@@ -152,8 +152,8 @@ class Host:
         return Broken(self._why, replies, before + len(replies))
 
     def _exchange(self, steps):
-        """The replies to these steps. While the first byte may be written and the last reply isn't read the host is not free.
-        An interrupt leaves it so: nothing here sets it free but the last reply, or the program's end."""
+        """The replies to these steps. While the first byte may be written and the last reply isn't read the host is not
+        free. An interrupt leaves it so: nothing here sets it free but the last reply, or the program's end."""
         lines = [_line_of(step) for step in steps]
         if not self._free.acquire(blocking=False):
             raise self._broken()
@@ -171,7 +171,8 @@ class Host:
         return replies
 
     def _talk(self, lines, count):
-        """Writes the lines, and reads so many replies meanwhile: the program reads no further while nobody reads from it."""
+        """Writes the lines, and reads so many replies meanwhile: the program reads no further while nobody reads from
+        it."""
         unsent, (_, replies) = memoryview(b"".join(lines)), self._told
         while len(replies) < count:
             unsent = self._write(unsent)
@@ -191,7 +192,8 @@ class Host:
             return unsent[:0]  # (the replies that are missing tell of it)
 
     def _can_read(self, unsent):
-        """Whether to read now. Where bytes are unsent it waits for either pipe, and tells whether it is the replies'."""
+        """Whether to read now. Where bytes are unsent it waits for either pipe, and tells whether it is the
+        replies'."""
         if not unsent:
             return True
         pipes, out = select.poll(), self._process.stdout.fileno()
@@ -225,8 +227,8 @@ class Host:
         raise self._broken()
 
     def _forget_numbers(self, steps):
-        """Lets go of the numbers that these steps may change, before any of them is written: so a step that is interrupted or
-        refused leaves none that isn't so, and the next post asks."""
+        """Lets go of the numbers that these steps may change, before any of them is written: so a step that is
+        interrupted or refused leaves none that isn't so, and the next post asks."""
         for step in steps:
             if isinstance(step, dict) and step.get("do") in CHANGES_NUMBERS:
                 tenant, unit = step.get("tenant"), step.get("unit")
@@ -234,7 +236,8 @@ class Host:
                     self._numbers.pop((tenant, unit), None)
 
     def _known_number(self, tenant, unit):
-        """The number of the unit's next post, or None where it must be asked for. A host that does no call knows none."""
+        """The number of the unit's next post, or None where it must be asked for. A host that does no call knows
+        none."""
         return None if self._free.locked() or self._process.stdin.closed else self._numbers.get((tenant, unit))
 
     def ask(self, step):
@@ -246,8 +249,8 @@ class Host:
 
     def ask_all(self, steps):
         """The replies to these steps, in order, where all are sent at once. None is raised: a reply that has the key
-        `no` is a refusal, and the steps behind it were done all the same. Where the program ends in the midst of them, the
-        replies that were read are in the `Ended` that is raised. Where one isn't JSON, none is written."""
+        `no` is a refusal, and the steps behind it were done all the same. Where the program ends in the midst of them,
+        the replies that were read are in the `Ended` that is raised. Where one isn't JSON, none is written."""
         return self._exchange(list(steps))
 
     def open(self, name, kinds, quota=None, optimism=None):
@@ -284,8 +287,8 @@ class Tenant:
 
     def next_number(self, unit):
         """The number that the next post to the unit must have: how many posts are on its path. After a kill, a restart
-        or a notice it may be lower than before: the posts from it on were lost, and are to be given again. The host is asked
-        where it isn't known, as it is after a post that was refused."""
+        or a notice it may be lower than before: the posts from it on were lost, and are to be given again. The host is
+        asked where it isn't known, as it is after a post that was refused."""
         number = self.host._known_number(self.name, unit)
         if number is None:
             number = self.host._numbers[self.name, unit] = self.status(unit)["outside"]
@@ -308,7 +311,8 @@ class Tenant:
         return self._ask("flush", unit=unit)["count"]
 
     def checkpoint(self, unit):
-        """Keeps the unit's state, so that a restart replays from there; all that it took must be logged. The reply has `at`."""
+        """Keeps the unit's state, so that a restart replays from there; all that it took must be logged. The reply has
+        `at`."""
         return self._ask("checkpoint", unit=unit)
 
     def kill(self, unit):
@@ -346,9 +350,9 @@ class Output(NamedTuple):
 
 class Flow:
     """A flow that runs itself: one run of the program, from `program` with the words `drive` and `words` (as
-    `["--journal", "file"]`; `--from` is none of them, as of `Host`). Its calls raise what those of a `Host` raise, and may
-    be made by several threads. It is iterated for the outputs: by one thread, which waits for the next one, up to the end.
-    """
+    `["--journal", "file"]`; `--from` is none of them, as of `Host`). Its calls raise what those of a `Host` raise, and
+    may be made by several threads. It is iterated for the outputs: by one thread, which waits for the next one, up to
+    the end."""
 
     def __init__(self, program="recall", words=()):
         words, pipe = list(words), subprocess.PIPE
@@ -389,7 +393,8 @@ class Flow:
         self.close()
 
     def close(self):
-        """Ends the input, waits for the program's end, and gives its exit status. Outputs that nobody took stay there."""
+        """Ends the input, waits for the program's end, and gives its exit status. Outputs that nobody took stay
+        there."""
         with self._writing:
             if not self._process.stdin.closed:
                 try:
@@ -412,8 +417,8 @@ class Flow:
         raise StopIteration
 
     def ask(self, step):
-        """The reply to one step, a dict with the keys of its line; `Refused` where it was refused. A call that is interrupted
-        leaves the flow as it is: the step may have been done."""
+        """The reply to one step, a dict with the keys of its line; `Refused` where it was refused. A call that is
+        interrupted leaves the flow as it is: the step may have been done."""
         number = self._send(_line_of(step))
         with self._news:
             self._news.wait_for(lambda: number in self._replies or self._is_over)
@@ -448,7 +453,8 @@ class Flow:
         )
 
     def post(self, tenant, unit, text, number=None):
-        """Gives the unit a text from outside. Without `number` it is the next one, which is asked for where it isn't known."""
+        """Gives the unit a text from outside. Without `number` it is the next one, which is asked for where it isn't
+        known."""
         if number is None:
             number = self._numbers.get((tenant, unit))
         if number is None:

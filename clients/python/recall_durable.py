@@ -1,5 +1,5 @@
-"""A flow that survives, over Python's standard library alone. The program, the machine and this process may be killed at any
-moment, and each output is still acted on once.
+"""A flow that survives, over Python's standard library alone. The program, the machine and this process may be killed
+at any moment, and each output is still acted on once.
 
     from recall_durable import DurableFlow
 
@@ -8,14 +8,15 @@ moment, and each output is still acted on once.
         for output in flow:
             flow.db.execute("INSERT INTO sent (text) VALUES (?)", [output.text])
 
-`steps` are all steps of the flow, from the first on, as dicts (docs/FORMATS.md): the same ones in the same order whenever it is
-run again. Those that the journal has are passed over, and the others are given to `recall drive`, ahead of their replies. How
-many lines of its output were seen stands in the SQLite file `seen`.
+`steps` are all steps of the flow, from the first on, as dicts (docs/FORMATS.md): the same ones in the same order
+whenever it is run again. Those that the journal has are passed over, and the others are given to `recall drive`, ahead
+of their replies. How many lines of its output were seen stands in the SQLite file `seen`.
 
-Outputs come in batches, of what the program wrote at once. What the loop does by `flow.db` is one transaction with the count of
-that batch's lines. So it is done once for each output, whoever dies: where this process does, or the loop is left, nothing of
-its last batch was done, and a later run gives those outputs again. Whoever acts elsewhere acts at least once for each: he tells
-the act's key from the output, or notes in `flow.db` what is to be done and does it behind the loop.
+Outputs come in batches, of what the program wrote at once. What the loop does by `flow.db` is one transaction with the
+count of that batch's lines. So it is done once for each output, whoever dies: where this process does, or the loop is
+left, nothing of its last batch was done, and a later run gives those outputs again. Whoever acts elsewhere acts at
+least once for each: he tells the act's key from the output, or notes in `flow.db` what is to be done and does it behind
+the loop.
 
 `async for output in flow` does the same where an event loop runs. What its body awaits is within the transaction too.
 
@@ -32,9 +33,9 @@ or, where the next step depends on what came before,
         with host.transaction():
             act(host.db, host.ask(step))
 
-A program that was killed is started again. One that ends with an error several times in a row raises `recall.Ended`, and
-`ValueError` is raised where the journal has other lines than the steps. A step that is refused is told to `refused`, a function
-of the step and its reply, if there is one.
+A program that was killed is started again. One that ends with an error several times in a row raises `recall.Ended`,
+and `ValueError` is raised where the journal has other lines than the steps. A step that is refused is told to
+`refused`, a function of the step and its reply, if there is one.
 """
 
 import asyncio
@@ -94,7 +95,8 @@ def transaction_of(db):
 
 
 class DurableFlow:
-    """A flow of the program `program`, with `drive`, this journal, and `words`. It is iterated for its outputs, by one thread."""
+    """A flow of the program `program`, with `drive`, this journal, and `words`. It is iterated for its outputs, by one
+    thread."""
 
     def __init__(self, program, journal, seen, words=(), refused=None):
         words = list(words)
@@ -120,15 +122,16 @@ class DurableFlow:
         self.close()
 
     def close(self):
-        """Ends the program and lets go of the files. What was given stands in the journal, or is given by a later run."""
+        """Ends the program and lets go of the files. What was given stands in the journal, or is given by a later
+        run."""
         if self._process:
             self._process.kill()
             self._end()
         self.db.close()
 
     def give(self, steps):
-        """All steps of the flow, from the first on: any iterable, which may wait for what comes. Without them the flow gives
-        the outputs of what the journal has."""
+        """All steps of the flow, from the first on: any iterable, which may wait for what comes. Without them the flow
+        gives the outputs of what the journal has."""
         self._steps = iter(steps)
 
     def __iter__(self):
@@ -208,7 +211,8 @@ class DurableFlow:
             self._feeder.start()
 
     def _pass_over(self):
-        """Takes the steps that the journal has and that weren't given by this process. Gives how many the journal has."""
+        """Takes the steps that the journal has and that weren't given by this process. Gives how many the journal
+        has."""
         count = 0
         for line in lines_of(self._journal):
             count += 1
@@ -271,10 +275,11 @@ class DurableFlow:
 class DurableHost(Host):
     """A `recall.Host` over this journal, with its calls: each step by hand, of `program` with `run` and `words`.
 
-    Each reply is counted in the SQLite file `seen`. Those of the calls within `with host.transaction()` are counted at its end,
-    together with what was done by `host.db`; of any other call at its return. Where the program ends, it is started again, and what
-    the journal hasn't is given again: the call doesn't notice. Where this process ends, or a transaction is left by an exception,
-    the replies that weren't counted are given by `missed`, before any other call."""
+    Each reply is counted in the SQLite file `seen`. Those of the calls within `with host.transaction()` are counted at
+    its end, together with what was done by `host.db`; of any other call at its return. Where the program ends, it is
+    started again, and what the journal hasn't is given again: the call doesn't notice. Where this process ends, or a
+    transaction is left by an exception, the replies that weren't counted are given by `missed`, before any other
+    call."""
 
     def __init__(self, program, journal, seen, words=()):
         words = list(words)
@@ -356,8 +361,8 @@ class DurableHost(Host):
         return replies
 
     def _begin(self, answered):
-        """Sees that the program runs, behind as many replies as were seen and answered. Gives how many of the lines that come
-        next it has in the journal already."""
+        """Sees that the program runs, behind as many replies as were seen and answered. Gives how many of the lines
+        that come next it has in the journal already."""
         if self._process:
             return answered
         self._start([*self._words, "--from", str(self._seen + answered)])
@@ -373,9 +378,10 @@ class DurableHost(Host):
         return Ended(status, "".join(self._complaint), replies, self._seen + len(replies))
 
     def run(self, steps, ahead=AHEAD):
-        """Each of these steps that wasn't counted, with its reply. `steps` are all of the host, from the first on, as dicts: the same
-        ones in the same order whenever it is run again; `ValueError` where the journal has others. They are given `ahead` at a time,
-        which share a sync; what the loop does by `db` for as many is one transaction with their count."""
+        """Each of these steps that wasn't counted, with its reply. `steps` are all of the host, from the first on, as
+        dicts: the same ones in the same order whenever it is run again; `ValueError` where the journal has others. They
+        are given `ahead` at a time, which share a sync; what the loop does by `db` for as many is one transaction with
+        their count."""
         lines = map(_line_of, steps)
         for number, line in enumerate(itertools.islice(lines_of(self._journal), self._seen)):
             self._pass_over(number, line, next(lines, None))
@@ -395,8 +401,8 @@ class DurableHost(Host):
             raise ValueError(f"line {number} of the journal is {line[:80]!r}, and not the step {own!r}")
 
     def missed(self):
-        """Each step that was given before and whose reply wasn't counted, with its reply, in order. What the loop does by `db` for
-        one is one transaction with its count."""
+        """Each step that was given before and whose reply wasn't counted, with its reply, in order. What the loop does
+        by `db` for one is one transaction with its count."""
         lines, self._unseen = self._unseen, []
         try:
             for line, reply in zip(lines, self._answers(lines)):
@@ -409,8 +415,8 @@ class DurableHost(Host):
 
     @contextlib.contextmanager
     def transaction(self):
-        """What is done within it by `db` is one transaction with the count of the replies of its calls. Where it is left by an
-        exception nothing of it was done, and `missed` gives the replies again."""
+        """What is done within it by `db` is one transaction with the count of the replies of its calls. Where it is
+        left by an exception nothing of it was done, and `missed` gives the replies again."""
         if self._is_within:
             raise ValueError("a transaction of this host is under way")
         self._is_within = True
@@ -428,9 +434,9 @@ class DurableHost(Host):
 
 
 class AsyncDurableHost:
-    """The same where an event loop runs: each call is awaited, `async with host.transaction()`, `async for step, reply in
-    host.missed()`. All is done in one thread of its own, in the order of the calls; what is done by the database goes through
-    `execute`. A call that is cancelled may have been done."""
+    """The same where an event loop runs: each call is awaited, `async with host.transaction()`, `async for step, reply
+    in host.missed()`. All is done in one thread of its own, in the order of the calls; what is done by the database
+    goes through `execute`. A call that is cancelled may have been done."""
 
     def __init__(self, program, journal, seen, words=()):
         self._thread = concurrent.futures.ThreadPoolExecutor(1)

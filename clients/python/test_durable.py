@@ -1,8 +1,8 @@
 #!/usr/bin/env python3
 """Tests of recall_durable: python3 clients/python/test_durable.py PROGRAM
 
-200 flows and 200 hosts whose program and whose client are killed at random moments: what the client did is what one plain run puts
-out. The last line is `N passed, M failed`.
+200 flows and 200 hosts whose program and whose client are killed at random moments: what the client did is what one
+plain run puts out. The last line is `N passed, M failed`.
 """
 
 import asyncio
@@ -167,8 +167,8 @@ def children_of(process):
 
 
 def killed_once(words, chance):
-    """Runs the client, and kills its program once or more, and then the client itself, unless it came to its end before.
-    Gives its status, what it complained of, and how often something was killed."""
+    """Runs the client, and kills its program once or more, and then the client itself, unless it came to its end
+    before. Gives its status, what it complained of, and how often something was killed."""
     client, count = subprocess.Popen(words, stdout=subprocess.DEVNULL, stderr=subprocess.PIPE), 0
     for _ in range(chance.randrange(3)):
         time.sleep(0.05 + chance.random() * 0.1)
@@ -186,7 +186,8 @@ def killed_once(words, chance):
 
 
 def survives(program, client, seed, room):
-    """A client that is killed several times and comes to its end. Gives how often, and what is wrong, if anything is."""
+    """A client that is killed several times and comes to its end. Gives how often, and what is wrong, if anything
+    is."""
     chance, kills = random.Random(seed + 1000), 0
     words = [sys.executable, "-B", __file__, client, program, room, str(seed)]
     for _ in range(KILLS):

@@ -30,7 +30,8 @@ def hang(*_):
 
 @contextlib.contextmanager
 def alarms(handler, seconds, again=0.0):
-    """Calls the handler after so many seconds, and again and again after so many more, in the midst of what is done here."""
+    """Calls the handler after so many seconds, and again and again after so many more, in the midst of what is done
+    here."""
     before = signal.signal(signal.SIGALRM, handler)
     signal.setitimer(signal.ITIMER_REAL, seconds, again)
     try:
@@ -77,7 +78,8 @@ def has_written(host):
 
 @contextlib.contextmanager
 def interrupted(host):
-    """Interrupts what is done here once it has written to the host's program, which is stopped: it waits for a reply."""
+    """Interrupts what is done here once it has written to the host's program, which is stopped: it waits for a
+    reply."""
     with stopped(host), alarms(lambda *_: has_written(host) and interrupt(), 0.02, 0.02):
         yield
 

@@ -1,9 +1,10 @@
 """The page of `recall draw --html`: tests/browser PROGRAM [--pictures FOLDER]
 
-First its structure, without a browser. Then, where Chromium is to be had (of Debian, the package `chromium`), the page in it:
-what lights up when something is pointed at, what is said of it, how the diagram stood at each event, keys, search and links.
-What is wanted is worked out from the lines and replies alone (`happened`), and what a sentence promises is tried with the
-program. `--pictures` keeps pictures of the tour's flows at three moments each. The last line is `N passed, M failed`.
+First its structure, without a browser. Then, where Chromium is to be had (of Debian, the package `chromium`), the page
+in it: what lights up when something is pointed at, what is said of it, how the diagram stood at each event, keys,
+search and links. What is wanted is worked out from the lines and replies alone (`happened`), and what a sentence
+promises is tried with the program. `--pictures` keeps pictures of the tour's flows at three moments each. The last line
+is `N passed, M failed`.
 """
 
 import argparse

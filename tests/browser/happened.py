@@ -1,14 +1,16 @@
 """What depends on what in a flow of step lines, by the lines and their replies alone.
 
-It follows the definitions and nothing of the program's code: an interval's past is the least set that holds it and, with each
-of its intervals, the one before it on its unit's path and the sender of its letter. Units are of the sample handler's kinds.
+It follows the definitions and nothing of the program's code: an interval's past is the least set that holds it and,
+with each of its intervals, the one before it on its unit's path and the sender of its letter. Units are of the sample
+handler's kinds.
 """
 
 import json
 
 
 class Interval:
-    """One interval: its unit, mark, event and line, the interval before it, the sender of its letter, and what became of it."""
+    """One interval: its unit, mark, event and line, the interval before it, the sender of its letter, and what became
+    of it."""
 
     def __init__(self, unit, mark, event, line, before=None, sender=None, letter=None, text=None):
         self.unit, self.mark, self.event, self.line = unit, tuple(mark), event, line

@@ -141,7 +141,8 @@ def outputs_left(program, lines, unit):
 
 
 def try_promise(tried, flow, lines, one, event):
-    """What is said of a held output, tried with the program: the flushes let it out, and a kill that is named doesn't."""
+    """What is said of a held output, tried with the program: the flushes let it out, and a kill that is named
+    doesn't."""
     own = lambda do, unit: json.dumps({"do": do, "tenant": flow.tenant, "unit": unit})
     said, loses = tried.text("state"), tried.text("loses")
     begin = lines[: flow.events[event][0]]

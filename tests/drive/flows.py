@@ -52,7 +52,8 @@ def restarted(incarnation, start):
     return f'{{"ok":"restart","row":[{incarnation},{start}]}}'
 
 
-# A ring of more deliveries than a line has: it goes on behind the next line of its tenant, until the quota of letters is
+# A ring of more deliveries than a line has: it goes on behind the next line of its tenant, until the quota of letters
+# is
 # used up.
 LARGE_RING = [
     (open_line("relay", "relay", letters=70_000, held=1, volatile=1024), opened(2)),

@@ -1,8 +1,8 @@
 """Each request for memory of a driven flow refused in turn.
 
 Either the run goes on and a line is answered `memory`, with all before it as it must be; or the program ends with
-status 1, and what it wrote is a beginning of what it must be. No unit puts out what nobody posted, or a text twice, where
-units pass on what they receive.
+status 1, and what it wrote is a beginning of what it must be. No unit puts out what nobody posted, or a text twice,
+where units pass on what they receive.
 """
 
 import json

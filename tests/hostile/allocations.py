@@ -1,9 +1,9 @@
 """Each request for memory refused in turn.
 
-The step where it fell is answered `memory`, with every unit's status as it was before; given again it has the reply that
-it must have, and so have all lines after it. A flush that had logged k records is answered with that count, and the next
-one logs the rest. Where a buffer or a reply found no memory the program ends with status 1, and what it wrote is a
-beginning of what it must be.
+The step where it fell is answered `memory`, with every unit's status as it was before; given again it has the reply
+that it must have, and so have all lines after it. A flush that had logged k records is answered with that count, and
+the next one logs the rest. Where a buffer or a reply found no memory the program ends with status 1, and what it wrote
+is a beginning of what it must be.
 """
 
 import json
@@ -21,13 +21,15 @@ SECOND = b"""{"do":"open","tenant":"b","units":["echo"]}
 """
 UNMATCHED = b"the history is not that of the feeds"
 
-# Rows that end with an audit too, and how a run of one may end: audited, without memory for that, or without a word of it.
+# Rows that end with an audit too, and how a run of one may end: audited, without memory for that, or without a word of
+# it.
 AUDITED = ("output-waits-for-sender", "wait-then-notice", "cascade")
 AUDITS = {(b'{"audit":"ok","tenant":"a"}\n', 0), (b'{"audit":"memory","tenant":"a"}\n', 1), (b"", 1)}
 
 
 def long_feed(name, count):
-    """The lines of a feed of so many steps, of a tenant of its own: how far the logger is shows in none of their replies."""
+    """The lines of a feed of so many steps, of a tenant of its own: how far the logger is shows in none of their
+    replies."""
     post = '{"do":"post","number":%d,"tenant":"%s","text":"a text of more than sixteen bytes","unit":0}\n'
     return (
         '{"do":"open","tenant":"%s","units":["echo"]}\n' % name

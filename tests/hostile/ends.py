@@ -1,7 +1,7 @@
 """Standard input that fails before each line in turn, and standard output that fails after each byte in turn.
 
-Each line that was read has its reply, and the status is 1. Where each second read and write is interrupted, and each write
-is short, nothing changes.
+Each line that was read has its reply, and the status is 1. Where each second read and write is interrupted, and each
+write is short, nothing changes.
 """
 
 from program import joined, rows

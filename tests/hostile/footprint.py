@@ -3,8 +3,8 @@
 Long texts go down a chain of units that put them out and send them on. The run may take three times their bytes at its
 peak: kept once, they and all else take less than that, and eight times as much where each unit keeps its own.
 
-Short posts are all logged. Each may take 290 bytes for its record, its interval, its letter and its place in the log. They
-take more where each record has a name of its own for its tenant, and where a history is stored.
+Short posts are all logged. Each may take 290 bytes for its record, its interval, its letter and its place in the log.
+They take more where each record has a name of its own for its tenant, and where a history is stored.
 """
 
 import json

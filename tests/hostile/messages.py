@@ -1,7 +1,7 @@
 """Each text that the program writes to standard error, seen in a run.
 
-The texts are read off the sources. Each must be seen in one of the runs here, but for those that are named with the reason
-why no run shows them.
+The texts are read off the sources. Each must be seen in one of the runs here, but for those that are named with the
+reason why no run shows them.
 """
 
 import glob

@@ -25,7 +25,8 @@ class Program:
         )
 
     def environment(self, **faults):
-        """The environment in which these faults come: RECALL_REFUSE and its kin, without the prefix and in lower case."""
+        """The environment in which these faults come: RECALL_REFUSE and its kin, without the prefix and in lower
+        case."""
         own = {
             "PATH": os.environ.get("PATH", ""),
             "LD_PRELOAD": self.shim,
@@ -112,7 +113,8 @@ class Talk:
 
 
 def rows():
-    """The worked rows that need no store that fails and no turn that is worked elsewhere: name, step lines, reply lines."""
+    """The worked rows that need no store that fails and no turn that is worked elsewhere: name, step lines, reply
+    lines."""
     found = []
     for file in sorted(os.listdir(ROWS)):
         name, kind = os.path.splitext(file)

@@ -1,7 +1,7 @@
 """Runs that are ended by SIGKILL at random moments, and go on.
 
-The producer sends from the line that the run tells, and the consumer asks for the replies from the count that he has on.
-What he collected in the end is what one plain run of all lines writes.
+The producer sends from the line that the run tells, and the consumer asks for the replies from the count that he has
+on. What he collected in the end is what one plain run of all lines writes.
 """
 
 import os
@@ -49,9 +49,9 @@ def feed(process, given, chance, is_last):
 
 
 def run_once(program, journal, lines, seen, chance, is_last):
-    """One run, which is killed at a random moment, or comes to its end where it is the last: what was seen of what it wrote
-    (each second time its reader is lost with it, and with that a random part), whether it was killed, and what was wrong.
-    """
+    """One run, which is killed at a random moment, or comes to its end where it is the last: what was seen of what it
+    wrote (each second time its reader is lost with it, and with that a random part), whether it was killed, and what
+    was wrong."""
     durable = whole_lines(journal)
     wanted = len(lines) if is_last else min(seen + chance.randrange(MOST_REPLIES), len(lines))
     words = [program, "run", "--journal", journal, "--from", str(seen)]
@@ -83,7 +83,8 @@ def run_once(program, journal, lines, seen, chance, is_last):
 
 
 def read_until_killed(process, replies, more, chance):
-    """What a run writes that is given some more bytes once it wrote so many replies, and is killed while it has them."""
+    """What a run writes that is given some more bytes once it wrote so many replies, and is killed while it has
+    them."""
     written = bytearray()
     while written.count(b"\n") < replies and (got := process.stdout.read(65536)):
         written += got

@@ -1,7 +1,7 @@
 """Each write and each sync of a journal failing in turn, each request for memory refused in turn, and the words.
 
-After a fault the run ends with status 1, what it wrote is a beginning of what a plain run writes, with no reply `memory`,
-and each reply is to a line that stands in the journal. A run that goes on gives the rest.
+After a fault the run ends with status 1, what it wrote is a beginning of what a plain run writes, with no reply
+`memory`, and each reply is to a line that stands in the journal. A run that goes on gives the rest.
 """
 
 import json

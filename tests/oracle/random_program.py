@@ -1,5 +1,5 @@
-"""Random programs of RV32IM, each for recall and for Linux: the same instructions at the same addresses, which dump their registers
-after each block. What they put out in the end must be the same."""
+"""Random programs of RV32IM, each for recall and for Linux: the same instructions at the same addresses, which dump
+their registers after each block. What they put out in the end must be the same."""
 
 import os
 import random

@@ -1,9 +1,10 @@
 """Power cuts over a journal: python3 tests/power PROGRAM [SEED]
 
-A shim keeps beside the journal what the disk has of it (`disk.c`). A run is given lines, a few at a time, and the power is cut at one of its
-writes or syncs; in every third run a sync fails before. What is left is what the disk has, and of what was not synced
-nothing, a beginning, or a page of zeros before its end. The next run goes on from there. Each reply that was seen must stand to a line that is on the disk,
-and what is collected in the end is what one run without a cut writes. The last line is `N passed, M failed`."""
+A shim keeps beside the journal what the disk has of it (`disk.c`). A run is given lines, a few at a time, and the power
+is cut at one of its writes or syncs; in every third run a sync fails before. What is left is what the disk has, and of
+what was not synced nothing, a beginning, or a page of zeros before its end. The next run goes on from there. Each reply
+that was seen must stand to a line that is on the disk, and what is collected in the end is what one run without a cut
+writes. The last line is `N passed, M failed`."""
 
 import os
 import random
@@ -138,7 +139,8 @@ def cuts(program, room, seed):
 
 
 def failed_sync(program, room):
-    """A sync that fails once, a restart that reads what memory has, and a power cut: no line that was answered is gone."""
+    """A sync that fails once, a restart that reads what memory has, and a power cut: no line that was answered is
+    gone."""
     for lose in range(1, 12):
         for name in ("journal", "journal.disk", "journal.about"):
             if os.path.exists(os.path.join(room, name)):

@@ -2,8 +2,8 @@
 
 A journal lies in an ext4 file system of its own, on a loop device. A cut copies the device's bytes as they are at that
 moment, with the program stopped, and the file system goes on from the copy: what was not written to the device is gone.
-Each reply that was seen must stand to a line of the journal that is left, and what is collected in the end is what one run
-without a cut writes. Prints how many cuts there were."""
+Each reply that was seen must stand to a line of the journal that is left, and what is collected in the end is what one
+run without a cut writes. Prints how many cuts there were."""
 
 import os
 import random

@@ -1,7 +1,7 @@
 """Units that run programs, in the built program: python3 tests/programs PROGRAM [WORD]
 
-Each check prints a line where it fails or is skipped; the last line is `N passed, M failed`, in which those that are skipped
-don't count. With WORD, only the checks whose names have it.
+Each check prints a line where it fails or is skipped; the last line is `N passed, M failed`, in which those that are
+skipped don't count. With WORD, only the checks whose names have it.
 """
 
 import signal

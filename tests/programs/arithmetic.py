@@ -1,5 +1,5 @@
-"""What each operation of RV32IM gives, in Python's whole numbers, from the words of the RISC-V manual (volume I, chapters RV32I
-and "M"). Registers are numbers from 0 to 2^32 - 1."""
+"""What each operation of RV32IM gives, in Python's whole numbers, from the words of the RISC-V manual (volume I,
+chapters RV32I and "M"). Registers are numbers from 0 to 2^32 - 1."""
 
 FULL = 1 << 32
 
@@ -16,12 +16,14 @@ def truncated(dividend, divisor):
 
 
 def div(a, b):
-    """Division by zero has all bits set. The only overflow is of the least number by -1, which gives the least number."""
+    """Division by zero has all bits set. The only overflow is of the least number by -1, which gives the least
+    number."""
     return FULL - 1 if b == 0 else truncated(signed(a), signed(b)) % FULL
 
 
 def rem(a, b):
-    """The remainder has the sign of the dividend; by zero it is the dividend, and where the quotient overflows it is 0."""
+    """The remainder has the sign of the dividend; by zero it is the dividend, and where the quotient overflows it is
+    0."""
     return a if b == 0 else (signed(a) - signed(b) * truncated(signed(a), signed(b))) % FULL
 
 

@@ -1,4 +1,5 @@
-"""An assembler for RV32IM, from the tables of the RISC-V manual (volume I, instruction set listings), and the image of a program."""
+"""An assembler for RV32IM, from the tables of the RISC-V manual (volume I, instruction set listings), and the image of
+a program."""
 
 import struct
 

@@ -1,5 +1,5 @@
-"""The examples: their native tests, and that their images are what their sources give. What needs a tool that isn't there is
-skipped, and says which package has it."""
+"""The examples: their native tests, and that their images are what their sources give. What needs a tool that isn't
+there is skipped, and says which package has it."""
 
 import base64
 import os
@@ -102,7 +102,8 @@ def harness(_):
 
 
 def support(_):
-    """What stands in for a C library where clang builds alone: runs of bytes, and division of 64 bits, beside this machine's."""
+    """What stands in for a C library where clang builds alone: runs of bytes, and division of 64 bits, beside this
+    machine's."""
     if lacking := missing(("cc", "Debian's package gcc")):
         return lacking
     with tempfile.TemporaryDirectory() as room:
@@ -130,8 +131,8 @@ def compiler_of(language):
 
 
 def built(name):
-    """The image that clang makes of the source is the committed one, where it is the compiler that made that; where it is another
-    one, that it makes an image."""
+    """The image that clang makes of the source is the committed one, where it is the compiler that made that; where it
+    is another one, that it makes an image."""
 
     def check(host):
         if lacking := missing(*CLANG):

@@ -1,5 +1,6 @@
-"""The billing flow by the programs `ledger` and `card` in C and in Rust: its texts are those of the crate `billing`, which is proved, and so
-are its outputs. Whoever is killed, a charge that the ledger lost never leaves, and one that is given again leaves once."""
+"""The billing flow by the programs `ledger` and `card` in C and in Rust: its texts are those of the crate `billing`,
+which is proved, and so are its outputs. Whoever is killed, a charge that the ledger lost never leaves, and one that is
+given again leaves once."""
 
 import json
 import os
@@ -33,7 +34,8 @@ def loaded(tenant, language):
 
 
 def translated(language):
-    """The steps of `crates/billing/stdin` with programs in place of its kinds, and where among them each of its steps stands."""
+    """The steps of `crates/billing/stdin` with programs in place of its kinds, and where among them each of its steps
+    stands."""
     steps, _ = billing_lines()
     lines, at, counts = [], [], {}
     for it in steps:
@@ -115,8 +117,8 @@ def lost_charge(language):
 
 
 def driven(language):
-    """A flow that runs itself: the card is down when it is charged. Once it is up each charge leaves, and one that is given twice
-    leaves once."""
+    """A flow that runs itself: the card is down when it is charged. Once it is up each charge leaves, and one that is
+    given twice leaves once."""
 
     def check(host):
         lines, (first, _) = loaded("shop", language)
@@ -164,7 +166,8 @@ def killed_at(host, lines, wanted, at, room):
 
 
 def process_killed(host):
-    """With a journal, and SIGKILL after each reply in turn: what is seen is what a run without an end gives, and the audit says ok."""
+    """With a journal, and SIGKILL after each reply in turn: what is seen is what a run without an end gives, and the
+    audit says ok."""
     lines = [line.encode() + b"\n" for line in translated("c")[0]]
     wanted = host.ran(["run", "--programs"], b"".join(lines)).stdout
     with tempfile.TemporaryDirectory() as room:

@@ -48,8 +48,8 @@ class Host:
         return replies
 
     def turns(self, trials):
-        """What unit 0 of a new tenant puts out upon each text, and how many letters it sends itself, for each trial: a list of texts,
-        the loading ones among them."""
+        """What unit 0 of a new tenant puts out upon each text, and how many letters it sends itself, for each trial: a
+        list of texts, the loading ones among them."""
         lines, marks = [], []
         for number, texts in enumerate(trials):
             tenant = f"t{number}"

@@ -1,5 +1,6 @@
-"""Programs that nobody meant: a seeded thousand of random images, random programs of real instructions, and what a host with them
-must still do. Where there is a C compiler they are also run by the plain interpreter in tests/oracle, which was written apart."""
+"""Programs that nobody meant: a seeded thousand of random images, random programs of real instructions, and what a host
+with them must still do. Where there is a C compiler they are also run by the plain interpreter in tests/oracle, which
+was written apart."""
 
 import json
 import os
@@ -133,7 +134,8 @@ def every_reply(host):
 
 
 def again_and_replayed(host):
-    """The same images put out the same in another process, and where each unit is killed and replayed after each text."""
+    """The same images put out the same in another process, and where each unit is killed and replayed after each
+    text."""
     images = random_images()[::5] + random_programs()[::5]
     first = host.outputs(texts_of(images))
     if host.outputs(texts_of(images)) != first:
@@ -188,7 +190,8 @@ def plain_turns(plain, image, texts, room):
 
 
 def as_the_plain_interpreter(host):
-    """The same outputs and letters as those of an interpreter in C that was written apart, of random images and programs."""
+    """The same outputs and letters as those of an interpreter in C that was written apart, of random images and
+    programs."""
     if not shutil.which("cc"):
         return "skipped: cc is missing: it is in Debian's package gcc"
     images = [image for image in random_images() if image.startswith(HEADER)][:200] + random_programs()
@@ -204,7 +207,8 @@ def as_the_plain_interpreter(host):
 
 
 def spends_its_budget(host):
-    """A unit that spends its budget in each turn goes on, and its neighbours do: 30 turns, a kill, and the replay of all of them."""
+    """A unit that spends its budget in each turn goes on, and its neighbours do: 30 turns, a kill, and the replay of
+    all of them."""
     image = Code().put("jal", ZERO, 0).image()
     texts = loading_texts(image) + ["x"] * 30
     lines = [step("open", "a", units=[KIND, "count"])] + [

@@ -1,5 +1,5 @@
-"""Each instruction of RV32IM at its corner values: a program for each computes them, and puts the results out in hexadecimal
-digits. What is wanted is computed in `arithmetic`, from the manual."""
+"""Each instruction of RV32IM at its corner values: a program for each computes them, and puts the results out in
+hexadecimal digits. What is wanted is computed in `arithmetic`, from the manual."""
 
 import struct
 
@@ -60,8 +60,8 @@ BUFFER, SCRATCH, PLANTED = 0x3A000, 0x38000, 0x20000
 
 
 class Table(Code):
-    """A program that computes one result after another. `wanted` are the results, `names` what each is of, and `before` what it
-    puts out before them."""
+    """A program that computes one result after another. `wanted` are the results, `names` what each is of, and `before`
+    what it puts out before them."""
 
     def __init__(self):
         super().__init__()
@@ -75,7 +75,8 @@ class Table(Code):
         self.names.append(what)
 
     def end(self):
-        """Puts out what was collected, and returns. The routine behind it writes a0 in hexadecimal digits where s0 points."""
+        """Puts out what was collected, and returns. The routine behind it writes a0 in hexadecimal digits where s0
+        points."""
         self.li(A0, BUFFER).put("sub", A1, S0, A0).call(1).put("jalr", ZERO, 0, S1)
         self.label("hex").put("addi", T0, ZERO, 28).label("digit").put("srl", T1, A0, T0).put("andi", T1, T1, 15)
         self.put("addi", T2, ZERO, 10).put("blt", T1, T2, "decimal").put("addi", T1, T1, 39).label("decimal").put(
@@ -204,7 +205,8 @@ def jump_and_link():
 
 
 def jump_and_link_register():
-    """Also where the register of the target is that of the link, and where the lowest bit of the target is set: it is cleared."""
+    """Also where the register of the target is that of the link, and where the lowest bit of the target is set: it is
+    cleared."""
     table = Table()
     for offset in (-2048, -1024, -4, -1, 0, 1, 4, 5, 1024, 2047):
         table.plant(PLANTED, [encode("jalr", A2, offset, A2), encode("addi", ZERO, ZERO, 0)])

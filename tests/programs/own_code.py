@@ -1,4 +1,5 @@
-"""Programs that change the code they run. What a store, a text, a trap, a restart or another image leaves in memory is what runs."""
+"""Programs that change the code they run. What a store, a text, a trap, a restart or another image leaves in memory is
+what runs."""
 
 import struct
 
@@ -52,8 +53,8 @@ def a_text_that_is_code(host):
 
 
 def growing():
-    """Puts out the letter in an instruction, `@` at first. A text that begins with `p` or `x` adds one to that before it is run, and
-    one with `x` traps then."""
+    """Puts out the letter in an instruction, `@` at first. A text that begins with `p` or `x` adds one to that before
+    it is run, and one with `x` traps then."""
     code = (
         Code()
         .la(S0, "here")

@@ -1,4 +1,5 @@
-"""The first pages of docs/PROGRAMS.md: what they have one type is typed in an empty folder, and says what they say it does."""
+"""The first pages of docs/PROGRAMS.md: what they have one type is typed in an empty folder, and says what they say it
+does."""
 
 import os
 import re

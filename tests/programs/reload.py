@@ -9,7 +9,8 @@ COUNT_AT = 0x20000
 
 
 def counting(first):
-    """A program that counts its texts at an address behind its image, and puts out one letter: this one's successor by the count."""
+    """A program that counts its texts at an address behind its image, and puts out one letter: this one's successor by
+    the count."""
     code = Code().li(T0, COUNT_AT).put("lw", T1, 0, T0).put("addi", T1, T1, 1).put("sw", T1, 0, T0)
     code.put("addi", T1, T1, ord(first)).put("sb", T1, 4, T0).put("addi", A0, T0, 4).put("addi", A1, 0, 1)
     return code.call(1).ret().image()

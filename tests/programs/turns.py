@@ -84,7 +84,8 @@ no_program = upon_loading(
 
 OTHER = Code().output("text", 5).ret().label("text").data(b"other").image()
 
-# Where there is a program each text is a turn, whatever it looks like, but for one that begins an image with its header.
+# Where there is a program each text is a turn, whatever it looks like, but for one that begins an image with its
+# header.
 a_program_stays = upon_loading(
     (
         [
@@ -199,7 +200,8 @@ def registers_at_the_start(host):
     )
     code.put("sb", T1, 0, T3).put("addi", T3, T3, 1).put("addi", T0, T0, -4).put("bge", T0, ZERO, "digit").ret()
     texts = loading_texts(code.image())
-    # Unit 0 is an echo's neighbour: unit 1 gets texts from outside and from the relay, which is unit 0 and sends to unit 1.
+    # Unit 0 is an echo's neighbour: unit 1 gets texts from outside and from the relay, which is unit 0 and sends to
+    # unit 1.
     asked = [step("open", "a", units=["relay", KIND]), step("join", "a", kind=KIND)]
     for unit in (1, 2):
         asked += [
@@ -226,7 +228,8 @@ def registers_at_the_start(host):
 
 
 def memory_stays(host):
-    """What a turn leaves in memory is there in the next one, also where the text was, on the stack and beyond the image."""
+    """What a turn leaves in memory is there in the next one, also where the text was, on the stack and beyond the
+    image."""
     places = (0x8000, 0x20004, 0x3EFFC, 0x3FFFC, TEXT_AT + 64)
     code = Code().put("addi", S1, RA, 0).li(S0, 0x30000)
     for place in places:
@@ -506,7 +509,8 @@ def traps():
 
 
 def the_budget(host):
-    """A turn of somewhat less than a million instructions returns, and one of somewhat more doesn't: in each turn anew."""
+    """A turn of somewhat less than a million instructions returns, and one of somewhat more doesn't: in each turn
+    anew."""
     told = host.upon(loop(BUDGET - 10), "a", "b", "c")
     if told != [[], [], []]:
         return f"{BUDGET - 10} instructions: {told}"

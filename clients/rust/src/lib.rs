@@ -403,7 +403,8 @@ impl Host {
         if !self.missed.is_empty() {
             return Err(Error::Missed(self.missed.len() as u64));
         }
-        let lines: Vec<Vec<u8>> = steps.iter().map(|step| format!("{}\n", step.replace('\n', " ")).into_bytes()).collect();
+        let lines: Vec<Vec<u8>> =
+            steps.iter().map(|step| format!("{}\n", step.replace('\n', " ")).into_bytes()).collect();
         self.answers(&lines)
     }
 

@@ -62,7 +62,8 @@ fn outputs_come_once_whoever_is_killed() {
                 drop(own);
                 own = host(&room);
                 let missed = own.missed().unwrap();
-                let again: Vec<String> = missed.iter().flat_map(|each| each.reply.outputs().map(String::from)).collect();
+                let again: Vec<String> =
+                    missed.iter().flat_map(|each| each.reply.outputs().map(String::from)).collect();
                 assert_eq!(again, lost);
                 got.extend(again);
                 own.commit().unwrap();
@@ -115,7 +116,10 @@ fn refusals_and_faults_are_told() {
         fs::write(room.join("other"), count).unwrap();
         assert!(matches!(Host::start(program(), room.join("journal"), room.join("other")), Err(Error::Io(_))));
     }
-    assert!(matches!(Host::start("no program", room.join("j"), room.join("s")).unwrap().open("a", &["echo"]), Err(Error::Io(_))));
+    assert!(matches!(
+        Host::start("no program", room.join("j"), room.join("s")).unwrap().open("a", &["echo"]),
+        Err(Error::Io(_))
+    ));
     match Host::start(program(), room.join("none").join("j"), room.join("s")).unwrap().open("a", &["echo"]) {
         Err(Error::Ended { status: Some(1), complaint }) => assert!(complaint.contains("none"), "{complaint}"),
         other => panic!("{other:?}"),
@@ -125,11 +129,14 @@ fn refusals_and_faults_are_told() {
 
 #[test]
 fn lines_are_read() {
-    let value = Value::parse(r#"{"at":[0,18446744073709551615],"a\u00e9\ud83d\ude00\n\"":null, "up" : true }"#).unwrap();
+    let value =
+        Value::parse(r#"{"at":[0,18446744073709551615],"a\u00e9\ud83d\ude00\n\"":null, "up" : true }"#).unwrap();
     assert_eq!(value.get("at"), Some(&Value::List(vec![Value::Number(0), Value::Number(u64::MAX)])));
     assert_eq!(value.get("a\u{e9}\u{1f600}\n\""), Some(&Value::Null));
     let deep = "[".repeat(100_000);
-    for bad in ["", "{", "[1,]", "{\"a\"}", "\"\\x\"", "\"\\ud800\"", "1x", "[1 2]", "18446744073709551616", "{}{}", &deep] {
+    for bad in
+        ["", "{", "[1,]", "{\"a\"}", "\"\\x\"", "\"\\ud800\"", "1x", "[1 2]", "18446744073709551616", "{}{}", &deep]
+    {
         assert_eq!(Value::parse(bad), None, "{bad:.20}");
     }
 }
