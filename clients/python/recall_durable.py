@@ -387,10 +387,10 @@ class DurableHost(Host):
             self._pass_over(number, line, next(lines, None))
         while self._unseen or (group := list(itertools.islice(lines, ahead))):
             if self._unseen:
-                group = self._unseen[:ahead]
+                # (the program, once it is started, writes all of these replies)
+                group, self._unseen = self._unseen, []
                 for number, line in enumerate(group, self._seen):
                     self._pass_over(number, line, next(lines, None))
-                self._unseen = self._unseen[ahead:]
             with self.transaction():
                 for line, reply in zip(group, self._answers(group)):
                     yield json.loads(line), reply
