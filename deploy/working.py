@@ -2,6 +2,7 @@
 has each reply recorded that isn't. What an engine adds: how steps are read, how replies are appended, and what a lease
 is there."""
 
+import argparse
 import collections
 import queue
 import signal
@@ -16,6 +17,17 @@ MOST, WORD = 8 << 20, 32 << 20  # (bytes: appended at once; of a message that a 
 
 # A step: where it stands among the steps, its line, the name of who put it, and the number that it has there.
 Step = collections.namedtuple("Step", "at line sender number")
+
+
+def words_of(page, server, address):
+    """The words of a script that works on one partition of a server of this kind."""
+    reader = argparse.ArgumentParser(description=page, formatter_class=argparse.RawDescriptionHelpFormatter)
+    reader.add_argument("program")
+    reader.add_argument("partition", type=int)
+    reader.add_argument(f"--{server}", dest="server", default=address)
+    reader.add_argument("--name", default="recall")
+    reader.add_argument("--lease", type=int, default=5000)
+    return reader.parse_args()
 
 
 class Keeping(threading.Thread):

@@ -91,7 +91,14 @@ def _line_of(step):
 
 class Host:
     """One run of the program, from `program` with the words `run` and `words` (as `["--log", "file"]`). `--from` is
-    none of them (`ValueError`): it has replies written that no call asked for."""
+    none of them (`ValueError`): it has replies written that no call asked for.
+
+    With `journal`, and `outputs`, a SQLite file, it is a host that survives: a `recall_durable.DurableHost`."""
+
+    def __new__(cls, program="recall", words=(), journal=None, outputs=None):
+        if cls is Host and journal is not None:
+            from recall_durable import DurableHost as cls
+        return super().__new__(cls)
 
     def __init__(self, program="recall", words=()):
         words = list(words)

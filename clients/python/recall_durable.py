@@ -22,7 +22,7 @@ the loop.
 
 Who gives each step by hand takes a `DurableHost`, a `recall.Host` that survives in the same way:
 
-    with DurableHost("path/to/recall", journal="flow.journal", seen="seen.db") as host:
+    with recall.Host("path/to/recall", journal="flow.journal", outputs="seen.db") as host:
         for step, reply in host.run(steps):
             act(host.db, reply)
 
@@ -83,15 +83,15 @@ def open_seen(path, table, *columns):
 
 @contextlib.contextmanager
 def transaction_of(db):
-    """One transaction, which is undone where what is within it is left by an exception."""
+    """One transaction, which is undone where what is within it is left by an exception, or where it can't be kept."""
     db.execute("BEGIN IMMEDIATE")
     try:
         yield
+        db.execute("COMMIT")
     except BaseException:
-        with contextlib.suppress(sqlite3.ProgrammingError):  # (a file that was closed meanwhile has nothing of it)
+        with contextlib.suppress(sqlite3.Error):  # (one that a fault has undone, or whose file was closed meanwhile)
             db.execute("ROLLBACK")
         raise
-    db.execute("COMMIT")
 
 
 class DurableFlow:
@@ -275,20 +275,20 @@ class DurableFlow:
 class DurableHost(Host):
     """A `recall.Host` over this journal, with its calls: each step by hand, of `program` with `run` and `words`.
 
-    Each reply is counted in the SQLite file `seen`. Those of the calls within `with host.transaction()` are counted at
+    Each reply is counted in the SQLite file `outputs`. Those of the calls within `with host.transaction()` are counted at
     its end, together with what was done by `host.db`; of any other call at its return. Where the program ends, it is
     started again, and what the journal hasn't is given again: the call doesn't notice. Where this process ends, or a
     transaction is left by an exception, the replies that weren't counted are given by `missed`, before any other
     call."""
 
-    def __init__(self, program, journal, seen, words=()):
+    def __init__(self, program="recall", words=(), journal=None, outputs=None):
         words = list(words)
         if any(str(word).split("=")[0] in ("--from", "--audit") for word in words):
             raise ValueError("a durable host counts the replies itself, and takes neither --from nor --audit")
         self._words = [program, "run", "-q", f"--journal={journal}", *words]
         self._journal, self._process, self._numbers = journal, None, {}
         self._told, self._why = (0, []), "the program wrote what no call asked for"
-        self.db = open_seen(seen, "recall_replies", "count")
+        self.db = open_seen(outputs, "recall_replies", "count")
         self._is_within = False  # (whether a transaction is under way)
         self._return()
 
@@ -438,9 +438,9 @@ class AsyncDurableHost:
     in host.missed()`. All is done in one thread of its own, in the order of the calls; what is done by the database
     goes through `execute`. A call that is cancelled may have been done."""
 
-    def __init__(self, program, journal, seen, words=()):
+    def __init__(self, program="recall", words=(), journal=None, outputs=None):
         self._thread = concurrent.futures.ThreadPoolExecutor(1)
-        self._host = self._thread.submit(DurableHost, program, journal, seen, words).result()
+        self._host = self._thread.submit(DurableHost, program, words, journal, outputs).result()
 
     async def __aenter__(self):
         return self

@@ -10,6 +10,7 @@ import contextlib
 import json
 import os
 import random
+import resource
 import signal
 import sqlite3
 import subprocess
@@ -92,7 +93,7 @@ def host_steps(seed):
 def act_steps(program, room, seed):
     """The client that has all steps: it notes each output, in the transaction of its group."""
     chance = random.Random()
-    with DurableHost(program, os.path.join(room, "journal"), os.path.join(room, "seen.db")) as host:
+    with own_host(program, room) as host:
         host.db.execute(DONE)
         for step, reply in host.run(slowly(host_steps(seed), chance), chance.choice([1, 7, 100])):
             for text in reply.get("outputs", ()):
@@ -101,7 +102,7 @@ def act_steps(program, room, seed):
 
 def act_asking(program, room, seed):
     """The client that asks step by step: it finds out from its own tables where it was."""
-    with DurableHost(program, os.path.join(room, "journal"), os.path.join(room, "seen.db")) as host:
+    with own_host(program, room) as host:
         host.db.execute(DONE)
         host.db.execute("CREATE TABLE IF NOT EXISTS posted (number INTEGER)")
         for step, reply in host.missed():
@@ -365,7 +366,7 @@ def pip_installs_it(_, room):
 
 
 def own_host(program, room):
-    return DurableHost(program, os.path.join(room, "journal"), os.path.join(room, "seen.db"))
+    return recall.Host(program, journal=os.path.join(room, "journal"), outputs=os.path.join(room, "seen.db"))
 
 
 def a_transaction_that_is_left_did_nothing(program, room):
@@ -412,7 +413,7 @@ def steps_of_another_run_are_told(program, room):
 
 
 def a_program_that_fails_is_an_error(program, room):
-    with DurableHost(program, os.path.join(room, "none", "j"), os.path.join(room, "seen.db")) as host:
+    with DurableHost(program, journal=os.path.join(room, "none", "j"), outputs=os.path.join(room, "seen.db")) as host:
         try:
             host.open("a", ["echo"])
             return "a journal that can't be is no error"
@@ -422,7 +423,9 @@ def a_program_that_fails_is_an_error(program, room):
 
 def an_event_loop_has_hosts_too(program, room):
     async def go():
-        async with AsyncDurableHost(program, os.path.join(room, "journal"), os.path.join(room, "seen.db")) as host:
+        async with AsyncDurableHost(
+            program, journal=os.path.join(room, "journal"), outputs=os.path.join(room, "seen.db")
+        ) as host:
             tenant = await host.open("a", ["echo"])
             try:
                 async with host.transaction():
@@ -440,7 +443,49 @@ def an_event_loop_has_hosts_too(program, room):
     return None if found == (["x"], ["x"], [(4,)]) else str(found)
 
 
+def fill(host, _):
+    """The database has no page left."""
+    host.db.execute("PRAGMA max_page_count = %d" % host.db.execute("PRAGMA page_count").fetchone()[0])
+    host.db.execute("INSERT INTO done VALUES (?)", ["x" * 100_000])
+
+
+def limit(host, _):
+    """The file may not grow once all is to be kept."""
+    host.db.execute("INSERT INTO done VALUES (?)", ["x" * 100_000])
+    resource.setrlimit(resource.RLIMIT_FSIZE, (4096, resource.RLIM_INFINITY))
+
+
+def read_meanwhile(host, other):
+    """Somebody reads the database while all is to be kept: the commit fails, and SQLite leaves the transaction open."""
+    host.db.execute("INSERT INTO done VALUES ('x')")
+    host.db.execute("PRAGMA busy_timeout = 10")
+    other.execute("BEGIN")
+    other.execute("SELECT * FROM done").fetchall()
+
+
+def what_can_not_be_kept_was_not_done(program, room):
+    """Three faults of the file: the replies are missed, and come once it can be written again."""
+    with own_host(program, room) as host, contextlib.closing(sqlite3.connect(os.path.join(room, "seen.db"))) as other:
+        tenant = host.open("a", ["echo"])
+        host.db.execute("CREATE TABLE done (text TEXT)")
+        for number, fault in enumerate((fill, limit, read_meanwhile)):
+            try:
+                with host.transaction():
+                    tenant.post(0, "x", number)
+                    fault(host, other)
+                return f"{fault.__name__}: it was kept"
+            except sqlite3.OperationalError:
+                resource.setrlimit(resource.RLIMIT_FSIZE, (resource.RLIM_INFINITY, resource.RLIM_INFINITY))
+                host.db.execute("PRAGMA max_page_count = 1000000")
+                other.rollback()
+            missed = [(step.get("number"), reply["ok"]) for step, reply in host.missed()]
+            if missed != [(number, "accepted")] or host.db.execute("SELECT 1 FROM done").fetchall():
+                return f"{fault.__name__}: {missed} was missed, or something was done"
+        return None if tenant.status(0)["volatile"] == 3 else "a post was lost"
+
+
 CHECKS = (
+    what_can_not_be_kept_was_not_done,
     a_transaction_that_is_left_did_nothing,
     steps_of_another_run_are_told,
     a_program_that_fails_is_an_error,

@@ -10,7 +10,6 @@ Whatever goes wrong ends the worker: start it anew. The rest is as `deploy/redis
 URL is RECALL_NATS of the environment where it isn't said. The time of a lease is that of whoever has the first one.
 """
 
-import argparse
 import json
 import os
 import re
@@ -211,20 +210,10 @@ class Worker(working.Worker):
         self.lease.check()
 
 
-def words_of(page):
-    reader = argparse.ArgumentParser(description=page, formatter_class=argparse.RawDescriptionHelpFormatter)
-    reader.add_argument("program")
-    reader.add_argument("partition", type=int)
-    reader.add_argument("--nats", default=jet.URL)
-    reader.add_argument("--name", default="recall")
-    reader.add_argument("--lease", type=int, default=5000)
-    return reader.parse_args()
-
-
 @jet.told()
 def reach(words):
     """The partition that the words name. Where the server knows how many there are, it must be one of them."""
-    name, connection = jet.name(words.name), jet.Connection(words.nats)
+    name, connection = jet.name(words.name), jet.Connection(words.server)
     if connection.most < WORD:
         what = f"the server's max_payload is {connection.most}, and a reply may need {WORD}"
         raise Fault(1, f"{what}: start it by deploy/nats/start")
@@ -253,4 +242,4 @@ def serve(partition, program, length, stopping, say):
 
 
 if __name__ == "__main__":
-    working.main(words_of(__doc__), reach, serve)
+    working.main(working.words_of(__doc__, "nats", jet.URL), reach, serve)

@@ -12,7 +12,7 @@ begin; what is not quiet is told, and nothing has changed. 2: bad words. 4: the 
 import json
 import time
 
-from reaching import connect, told  # (this finds the modules of the folder above)
+from reaching import URL, connect, told  # (this finds the modules of the folder above)
 import running
 from running import Fault
 import worker
@@ -92,7 +92,7 @@ def begin(words, program, partition, lease):
 def work(words):
     """Takes the lease, begins the epoch, and gives the lease back."""
     program = running.program_file(words.program)
-    partition = worker.Partition(connect(words.redis), words.name, words.partition)
+    partition = worker.Partition(connect(words.server), words.name, words.partition)
     lease = worker.Lease(partition, words.lease)
     take(lease)
     try:
@@ -102,7 +102,7 @@ def work(words):
 
 
 def main():
-    words = worker.words_of(__doc__)
+    words = working.words_of(__doc__, "redis", URL)
     running.end("epoch", lambda: work(words))
 
 

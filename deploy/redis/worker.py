@@ -22,7 +22,6 @@ server can't be reached. 5: the program ended. A fault is noted in the server, i
 status` shows it.
 """
 
-import argparse
 import os
 import re
 import secrets
@@ -143,21 +142,10 @@ class Worker(working.Worker):
         self.lease.check()
 
 
-def words_of(page):
-    """The words of a script that works on one partition."""
-    reader = argparse.ArgumentParser(description=page, formatter_class=argparse.RawDescriptionHelpFormatter)
-    reader.add_argument("program")
-    reader.add_argument("partition", type=int)
-    reader.add_argument("--redis", default=reaching.URL)
-    reader.add_argument("--name", default="recall")
-    reader.add_argument("--lease", type=int, default=5000)
-    return reader.parse_args()
-
-
 @reaching.told()
 def reach(words):
     """The partition that the words name. Where the server knows how many there are, it must be one of them."""
-    server = reaching.connect(words.redis)
+    server = reaching.connect(words.server)
     running.check_partition(words.name, words.partition, int(server.get(f"{words.name}:partitions") or 0))
     return Partition(server, words.name, words.partition)
 
@@ -181,4 +169,4 @@ def serve(partition, program, length, stopping, say):
 
 
 if __name__ == "__main__":
-    working.main(words_of(__doc__), reach, serve)
+    working.main(working.words_of(__doc__, "redis", reaching.URL), reach, serve)

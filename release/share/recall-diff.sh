@@ -5,8 +5,13 @@ set -eu
 recall=$RECALL_PROGRAM
 journal='' with='' command=run programs=''
 
+# What a terminal may be given of these bytes: no control character.
+shown() {
+    printf '%s' "$1" | LC_ALL=C tr '\000-\037\177' '?' | cut -c 1-1000
+}
+
 fail() {
-    echo "recall: diff: $1" >&2
+    echo "recall: diff: $(shown "$1")" >&2
     exit 2
 }
 
@@ -53,8 +58,11 @@ while [ $# -gt 0 ]; do
     shift
 done
 [ -n "$journal" ] && [ -n "$with" ] || fail "name the journal by --journal FILE, and the other program by --with PROGRAM"
+case $journal in
+-*) journal=./$journal ;;
+esac
 told=$("$recall" journal --json "$journal") || exit 2
-lines=${told#*\"lines\":}
+lines=${told##*\"lines\":}
 lines=${lines%%[!0-9]*}
 room=$(mktemp -d)
 trap 'rm -rf "$room"' EXIT
@@ -94,7 +102,7 @@ case $old in
     *) step=$((step + 1)) ;;
     esac ;;
 esac
-echo "line $step of $lines is answered otherwise: $(sed -n "${step}p" "$journal" | cut -c 1-1000)"
-echo "  $("$recall" --version | head -n 1): ${old:-nothing}"
-echo "  $with: ${new:-nothing}"
+echo "line $step of $lines is answered otherwise: $(shown "$(sed -n "${step}p" "$journal")")"
+echo "  $("$recall" --version | head -n 1): $(shown "${old:-nothing}")"
+echo "  $(shown "$with"): $(shown "${new:-nothing}")"
 exit 1
