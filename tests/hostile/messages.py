@@ -189,6 +189,7 @@ def streams(runs):
     runs.run(LINES, "draw", "--tenant", "nobody")
     runs.run(LINES, b"run", b"\xff")
     runs.run(LINES, "feeds", "given", threads=1)
+    runs.run(LINES, "run", "--report", "1", threads=1)
 
 
 def driven(runs):

@@ -1,5 +1,6 @@
 -- The audit of a book's tenant finds no flaw.
-use Rattle.std.proofs.Common.{◌≡◌, refl, sym, ◌∙◌, ap, subst, ℕ, zero, suc, ◌+◌, ◌<◌, ◌≤◌, List, [], ◌∷◌, ◌++◌, length, map, take, arith}
+use Rattle.std.proofs.Common.{◌≡◌, refl, sym, ◌∙◌, ap, subst, ℕ, zero, suc, ◌+◌, ◌<◌, ◌≤◌, List, [], ◌∷◌, ◌++◌, length}
+use Rattle.std.proofs.Common.{map, take, arith}
 use Rattle.std.proofs.lemmas.List.{length-map, take_all}
 use Rattle.std.specs.Prelude.{Option, Some, None, Result, Ok, Err, slice_get, option_map}
 use mathlib.Core.List.{IsPrefix}
@@ -47,16 +48,20 @@ first_lists w = refl
 
 pub list_found : (w : Option World) (u : ℕ) (texts : List (List ℕ)) (lists : List (List (List ℕ)))
     → released_at w u ≡ Some texts → lists ≡ take u (lists_at w) → lists ++ texts ∷ [] ≡ take (u + 1) (lists_at w)
-list_found w u texts lists found so_far = let e : u + 1 ≡ suc u = omega arith in rw (so_far, e) (sym (take_more (lists_at w) u texts (sym (released_is w u) ∙ found)))
+list_found w u texts lists found so_far = let e : u + 1 ≡ suc u = omega arith in
+    rw (so_far, e) (sym (take_more (lists_at w) u texts (sym (released_is w u) ∙ found)))
 
 pub list_missing : (w : Option World) (u : ℕ) (lists : List (List (List ℕ)))
     → released_at w u ≡ None → lists ≡ take u (lists_at w) → lists ≡ take (u + 1) (lists_at w)
-list_missing w u lists found so_far = let e : u + 1 ≡ suc u = omega arith in rw e (so_far ∙ take_none (lists_at w) u (sym (released_is w u) ∙ found))
+list_missing w u lists found so_far = let e : u + 1 ≡ suc u = omega arith in
+    rw e (so_far ∙ take_none (lists_at w) u (sym (released_is w u) ∙ found))
 
 -- ---- seats in order, and no more units than there may be
 
-numbered_seats : (members : List Member) (o k : ℕ) → ((u : ℕ) (m : Member) → slice_get members u ≡ Some m → m.seat.unit ≡ k + u)
-    → map (λ s. s.unit) (take o (map (λ m. m.seat) members)) ≡ numbers_from k (length (take o (map (λ m. m.seat) members)))
+numbered_seats : (members : List Member) (o k : ℕ)
+    → ((u : ℕ) (m : Member) → slice_get members u ≡ Some m → m.seat.unit ≡ k + u)
+    → map (λ s. s.unit) (take o (map (λ m. m.seat) members))
+    ≡ numbers_from k (length (take o (map (λ m. m.seat) members)))
 numbered_seats members zero k h = refl
 numbered_seats [] (suc o) k h = refl
 numbered_seats (m ∷ members) (suc o) k h =
@@ -69,7 +74,8 @@ module _ {S : Type 0} (M : Meaning S) where
   world_numbered events None e = refl
   world_numbered events (Some w) e =
       let g = reachable_invariant M (courses_reach M events w e) in
-      numbered_seats w.members (opening_units w.members) 0 (λ u m f. let e = (g.chain.sound.units u m f).seated in omega (arith, e))
+      numbered_seats w.members (opening_units w.members) 0 (λ u m f. let e =
+      (g.chain.sound.units u m f).seated in omega (arith, e))
 
   world_few : (events : List Event) (w : Option World) → (alone M events).world ≡ w → length (lists_at w) ≤ 16
   world_few events None e = omega arith
@@ -79,10 +85,12 @@ module _ {S : Type 0} (M : Meaning S) where
       let len = length-map w.members (λ m. m.released) in
       omega (arith, few, len)
 
-  pub all_lists : (tenant : List ℕ) (history : List Entry) → take 16 (lists_at (world_of M tenant history)) ≡ lists_at (world_of M tenant history)
+  pub all_lists : (tenant : List ℕ) (history : List Entry)
+      → take 16 (lists_at (world_of M tenant history)) ≡ lists_at (world_of M tenant history)
   all_lists tenant history = take_all 16 _ (world_few (own tenant (pairs history)) (world_of M tenant history) refl)
 
-  pub seats_numbered : (tenant : List ℕ) (history : List Entry) (seats : List Seat) → seats ≡ seats_at (world_of M tenant history) → AreNumbered seats
+  pub seats_numbered : (tenant : List ℕ) (history : List Entry) (seats : List Seat)
+      → seats ≡ seats_at (world_of M tenant history) → AreNumbered seats
   seats_numbered tenant history seats e =
       subst AreNumbered (sym e) (world_numbered (own tenant (pairs history)) (world_of M tenant history) refl)
 
@@ -92,38 +100,45 @@ module _ {S : Type 0} (M : Meaning S) where
   abbrev Holds : List Seat → List Move → List (List (List ℕ)) → Type 0
   Holds seats moves lists = (net : Network S) × (failure_free M seats moves ≡ Ok net) × BeginWith net.workers lists
 
-  certified_holds : (w : Option World) (moves : List Move) → CertifiesAt M w moves → Holds (seats_at w) moves (lists_at w)
+  certified_holds : (w : Option World) (moves : List Move)
+      → CertifiesAt M w moves → Holds (seats_at w) moves (lists_at w)
   certified_holds None moves e = rw e (record { workers = []; packets = [] }, refl, tt)
   certified_holds (Some w) moves c = rw c.0 (c.1.0, c.1.1, c.1.3)
 
-  begin_length : (workers : List (Worker S)) (lists : List (List (List ℕ))) → BeginWith workers lists → length lists ≡ length workers
+  begin_length : (workers : List (Worker S)) (lists : List (List (List ℕ)))
+      → BeginWith workers lists → length lists ≡ length workers
   begin_length [] [] h = refl
   begin_length (a ∷ workers) [] h = absurd h
   begin_length [] (r ∷ lists) h = absurd h
   begin_length (a ∷ workers) (r ∷ lists) h = ap suc (begin_length workers lists h.1)
 
-  begin_or_differ : (workers : List (Worker S)) (lists : List (List (List ℕ))) (u : ℕ) → BeginWith workers lists → DiffersFirst workers lists u → ⊥
+  begin_or_differ : (workers : List (Worker S)) (lists : List (List (List ℕ))) (u : ℕ)
+      → BeginWith workers lists → DiffersFirst workers lists u → ⊥
   begin_or_differ [] lists u h d = d
   begin_or_differ (a ∷ workers) [] u h d = d
   begin_or_differ (a ∷ workers) (r ∷ lists) zero h d = d h.0
   begin_or_differ (a ∷ workers) (r ∷ lists) (suc u) h d = begin_or_differ workers lists u h.1 d.1
 
-  module _ (tenant : List ℕ) (history : List Entry) (seats : List Seat) (moves : List Move) (lists : List (List (List ℕ)))
-      (is_seats : seats ≡ seats_at (world_of M tenant history)) (certifies : CertifiesAt M (world_of M tenant history) moves)
+  module _ (tenant : List ℕ) (history : List Entry)
+      (seats : List Seat) (moves : List Move) (lists : List (List (List ℕ)))
+      (is_seats : seats ≡ seats_at (world_of M tenant history))
+      (certifies : CertifiesAt M (world_of M tenant history) moves)
       (is_lists : lists ≡ lists_at (world_of M tenant history)) where
     held : Holds seats moves lists
     held = rw (is_seats, is_lists) (certified_holds (world_of M tenant history) moves certifies)
 
     pub a_list_each : length lists ≡ length seats + joins moves
     a_list_each =
-        let kept = run_kept M seats moves (map (new_worker M) seats) [] held.0 (seats_numbered tenant history seats is_seats) refl held.1 in
+        let kept = run_kept M seats
+        moves (map (new_worker M) seats) [] held.0 (seats_numbered tenant history seats is_seats) refl held.1 in
         begin_length held.0.workers lists held.2 ∙ kept.1
 
     is_certificate : (w : Option World) → CertifiesAt M w moves → moves ≡ certificate_at w
     is_certificate None e = e
     is_certificate (Some w) c = c.0
 
-    pub clear : (result : Result Verdict Flaw) → Audits M seats moves lists result → IsClear (world_of M tenant history) result
+    pub clear : (result : Result Verdict Flaw)
+        → Audits M seats moves lists result → IsClear (world_of M tenant history) result
     clear (Ok v) h = h.3 ∙ ap length (is_certificate (world_of M tenant history) certifies)
     clear (Err (OutputsDiffer u)) h =
         let same : held.0 ≡ h.0 = let e = sym held.1 ∙ h.1 in cc in

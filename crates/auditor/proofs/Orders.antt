@@ -4,8 +4,10 @@ use Rattle.std.proofs.Math.Seq.{drop-cons}
 use Rattle.model.specs.Lists.{numbers_from}
 
 -- one more element in front of those that are numbered
-pub numbered_down : {X : Type 0} (f : X → ℕ) (xs : List X) (left : ℕ) (d : X) → 0 < left → left ≤ length xs → f (get_or xs (left - 1) d) ≡ left - 1
-    → map f (drop left xs) ≡ numbers_from left (length xs - left) → map f (drop (left - 1) xs) ≡ numbers_from (left - 1) (length xs - (left - 1))
+pub numbered_down : {X : Type 0} (f : X → ℕ) (xs : List X) (left : ℕ) (d : X)
+    → 0 < left → left ≤ length xs → f (get_or xs (left - 1) d) ≡ left - 1
+    → map f (drop left xs) ≡ numbers_from left (length xs - left)
+    → map f (drop (left - 1) xs) ≡ numbers_from (left - 1) (length xs - (left - 1))
 numbered_down f xs zero d pos within is h = absurd (omega arith)
 numbered_down f xs (suc i) d pos within is h =
     let at : suc i - 1 ≡ i = omega arith in

@@ -55,7 +55,8 @@ refunded name (request ∷ others) =
 pub record AddsUp (texts : List (List ℕ)) : Type 0 where
   -- its letters are the requests that it carried out, each once, in order
   pub letters : letters_of [] texts ≡ map (λ request. (card_unit, line_of request)) (requests_of [] texts)
-  -- and the balance of each account is what they charged less what they refunded, so that no more was refunded than charged
+  -- and the balance of each account is what they charged less what they refunded, so that no more was refunded than
+  -- charged
   pub balances : (name : List ℕ)
       → balance (accounts_after [] texts) name + refunded name (requests_of [] texts)
       ≡ charged name (requests_of [] texts)

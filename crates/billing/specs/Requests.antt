@@ -1,5 +1,6 @@
 -- A text as a charge or a refund.
-use Rattle.std.specs.Prelude.{ℕ, ◌+◌, ◌-◌, ◌++◌, Bool, if◌then◌else◌, ◌&&◌, ◌==◌, nat_le, nat_lt, List, length, Option, Some, None, codes, decimal, bytes_eq}
+use Rattle.std.specs.Prelude.{ℕ, ◌+◌, ◌-◌, ◌++◌, Bool, if◌then◌else◌, ◌&&◌, ◌==◌, nat_le, nat_lt, List, length, Option}
+use Rattle.std.specs.Prelude.{Some, None, codes, decimal, bytes_eq}
 use Rattle.std.specs.List.{position_or_len, before_first, after_first}
 use Rattle.std.specs.Str.{all_ascii_digits}
 use Rattle.std.specs.Str.Parse.{digits_value, without_leading_plus}
@@ -19,7 +20,8 @@ name_of Refund = codes "refund"
 abbrev pub greatest : ℕ
 greatest = 18446744073709551615
 
--- the balance after a movement of some cents, if it may be made: a charge has to fit, and no more is refunded than was charged
+-- the balance after a movement of some cents, if it may be made: a charge has to fit, and no more is refunded than was
+-- charged
 abbrev pub balance_after : Movement → ℕ → ℕ → Option ℕ
 balance_after Charge balance cents = if nat_le (balance + cents) greatest then Some (balance + cents) else None
 balance_after Refund balance cents = if nat_le cents balance then Some (balance - cents) else None

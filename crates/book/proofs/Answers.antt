@@ -1,6 +1,7 @@
 -- What the calls of a tenant say of a tenant that may be unopened.
-use Rattle.std.proofs.Common.{◌≡◌, ◌≤◌, ℕ, List, [], ◌∷◌, Bool, true, false, if◌then◌else◌, refl, sym, ap, subst}
-use Rattle.std.specs.Prelude.{Option, None, Some, Result, Ok, Err, IfOk, IfSome, bytes_eq}
+use Rattle.std.proofs.Common.{◌≡◌, ◌≤◌, ◌⊎◌, ◌+◌, inl, inr, ℕ, List, [], ◌∷◌, Bool, true, false, if◌then◌else◌, refl}
+use Rattle.std.proofs.Common.{sym, ap, subst}
+use Rattle.std.specs.Prelude.{Option, None, Some, Result, Ok, Err, IfOk, IfSome, IsOkAnd, IsSomeAnd, OnErr, bytes_eq}
 use Rattle.model.specs.Addresses.{addressed}
 use Rattle.model.specs.Alone.{step_open}
 use Rattle.model.specs.Handler.{Meaning}
@@ -9,6 +10,7 @@ use Rattle.model.specs.World.{World}
 use Rattle.model.specs.declared.names.Quota.{Quota}
 use Rattle.model.specs.declared.records.Record.{Record}
 use Rattle.model.specs.declared.refusals.Refusal.TheVariants.{BadOpen}
+use Rattle.model.specs.declared.replies.End.TheVariants.{Device}
 use Rattle.model.specs.declared.replies.Reply.{Reply}
 use Rattle.model.specs.declared.replies.Reply.TheVariants.{Opened, Refused}
 use Rattle.model.specs.declared.replies.Said.{Said}
@@ -17,6 +19,7 @@ use Rattle.model.specs.declared.steps.TenantStep.{TenantStep}
 use Rattle.model.specs.declared.steps.TenantStep.TheVariants.{Open}
 use Rattle.shared_log.specs.Logged.{Logged}
 use Rattle.tenant.specs.Outcomes.{done}
+use Rattle.tenant.specs.declared.answer.Answer.{Answer}
 use Rattle.tenant.specs.Stands.{TenantState, Stands, StandsAt, Did, IsOpened}
 use Rattle.book.specs.History.{DidAt, Holding, IsAnswered, KeepsOthers, LogsAt, StepsAt, named_if_opened, opened_by}
 
@@ -40,57 +43,98 @@ pub both_some : {A : Type 0} (P Q : A → Type 0) (o : Option A) → IfSome o P 
 both_some P Q None p q = tt
 both_some P Q (Some a) p q = (p, q)
 
+-- the answer says that the device failed
+abbrev pub SaysDevice : Answer → Type 0
+SaysDevice a = a.said.end ≡ Device
+
+-- so it does, if it is there
+abbrev pub SaysDeviceIf : Option Answer → Type 0
+SaysDeviceIf o = IsSomeAnd o SaysDevice
+
+-- what stays unless the answer says so stays where it says otherwise
+pub steady_ok : {A E P : Type 0} (Says : A → Type 0) (r : Result A E)
+    → P ⊎ IsOkAnd r Says → IfOk r (λ a. (Says a → ⊥) → P)
+steady_ok Says (Ok a) (inl stays) = λ not. stays
+steady_ok Says (Ok a) (inr says) = λ not. absurd (not says)
+steady_ok Says (Err e) h = tt
+
+-- and where there is no answer
+pub steady_err : {A E P : Type 0} (Says : A → Type 0) (r : Result A E) → P ⊎ IsOkAnd r Says → OnErr r P
+steady_err Says (Ok a) h = tt
+steady_err Says (Err e) (inl stays) = stays
+steady_err Says (Err e) (inr says) = absurd says
+
+-- an answer that may be there says so only where it is
+pub says_some : {A P : Type 0} (Says : A → Type 0) (o : Option A)
+    → ((IsSomeAnd o Says → ⊥) → P) → IfSome o (λ a. (Says a → ⊥) → P)
+says_some Says None h = tt
+says_some Says (Some a) h = h
+
 module _ {S : Type 0} (M : Meaning S) where
   -- what an opening gives, where it is accepted or not
   abbrev opening : Bool → ℕ → World → Outcome
-  opening b units v = if b then record { reply = Opened units; world = Some v } else record { reply = Refused BadOpen; world = None }
+  opening b units v =
+      if b then record { reply = Opened units; world = Some v } else record { reply = Refused BadOpen; world = None }
 
   abbrev outcome : Reply → Option World → Outcome
   outcome answer z = record { reply = answer; world = z }
 
   none_from : (b : Bool) (units : ℕ) (v : World) (name : List ℕ) (answer : Reply) (z : Option World)
       → opening b units v ≡ outcome answer z → StandsAt M name None z [] → named_if_opened name answer ≡ []
-  none_from true units v name answer z e stands = absurd (subst (λ w. StandsAt M name None w []) (sym (ap (λ (o : Outcome). o.world) e)) stands)
+  none_from true units v name answer z e stands =
+      absurd (subst (λ w. StandsAt M name None w []) (sym (ap (λ (o : Outcome). o.world) e)) stands)
   none_from false units v name answer z e stands = sym (ap (λ (o : Outcome). named_if_opened name o.reply) e)
 
   some_from : (b : Bool) (units : ℕ) (v : World) (name : List ℕ) (answer : Reply) (z : Option World) (k : TenantState S)
       → opening b units v ≡ outcome answer z → StandsAt M name (Some k) z [] → named_if_opened name answer ≡ name ∷ []
   some_from true units v name answer z k e stands = sym (ap (λ (o : Outcome). named_if_opened name o.reply) e)
-  some_from false units v name answer z k e stands = absurd (subst (λ w. StandsAt M name (Some k) w []) (sym (ap (λ (o : Outcome). o.world) e)) stands)
+  some_from false units v name answer z k e stands =
+      absurd (subst (λ w. StandsAt M name (Some k) w []) (sym (ap (λ (o : Outcome). o.world) e)) stands)
 
   -- where no tenant was opened, the reply does not say so
   pub opened-none : (kinds : List (List ℕ)) (quota : Quota) (optimism : ℕ) (name : List ℕ) (answer : Reply)
       → IsOpened M kinds quota optimism answer None → named_if_opened name answer ≡ []
-  opened-none kinds quota optimism name answer h = none_from (can_open M kinds quota optimism) _ _ name answer h.0 h.1 (h.2 name [])
+  opened-none kinds quota optimism name answer h =
+      none_from (can_open M kinds quota optimism) _ _ name answer h.0 h.1 (h.2 name [])
 
   -- where one was, it does
-  pub opened-some : (kinds : List (List ℕ)) (quota : Quota) (optimism : ℕ) (name : List ℕ) (answer : Reply) (k : TenantState S)
+  pub opened-some : (kinds : List (List ℕ))
+      (quota : Quota) (optimism : ℕ) (name : List ℕ) (answer : Reply) (k : TenantState S)
       → IsOpened M kinds quota optimism answer (Some k) → named_if_opened name answer ≡ name ∷ []
-  opened-some kinds quota optimism name answer k h = some_from (can_open M kinds quota optimism) _ _ name answer h.0 k h.1 (h.2 name [])
+  opened-some kinds quota optimism name answer k h =
+      some_from (can_open M kinds quota optimism) _ _ name answer h.0 k h.1 (h.2 name [])
 
   -- the reply to an open tenant, and what is kept
-  pub steps_open : (name : List ℕ) (old new : TenantState S) (step : TenantStep) (said : Said) (answer : Reply) (before after : Logged)
+  pub steps_open : (name : List ℕ)
+      (old new : TenantState S) (step : TenantStep) (said : Said) (answer : Reply) (before after : Logged)
       → ((w : World) → Stands M name old w before.records → Did M name w new step said answer before after)
-      → (w : Option World) → StandsAt M name (Some old) w before.records → StepsAt M name w (Some new) step said answer after.records
+      → (w : Option World) → StandsAt M name (Some old) w before.records
+      → StepsAt M name w (Some new) step said answer after.records
   steps_open name old new step said answer before after did None stands = absurd stands
   steps_open name old new step said answer before after did (Some w) stands =
       let d = did w stands in (Some d.steps.0, d.steps.1, d.steps.2)
 
   -- what an open tenant logged
-  pub logs_open : (name : List ℕ) (old new : TenantState S) (step : TenantStep) (said : Said) (answer : Reply) (before after : Logged)
-      → ((w : World) → Stands M name old w before.records → Did M name w new step said answer before after) → before.failures ≤ after.failures
+  pub logs_open : (name : List ℕ)
+      (old new : TenantState S) (step : TenantStep) (said : Said) (answer : Reply) (before after : Logged)
+      → ((w : World) → Stands M name old w before.records → Did M name w new step said answer before after)
+      → before.failures ≤ after.failures
+      → ((said.end ≡ Device → ⊥) → after.failures ≡ before.failures) → after.failures ≤ before.failures + 1
       → (w : Option World) → StandsAt M name (Some old) w before.records → LogsAt M name w step said before after
-  logs_open name old new step said answer before after did up None stands = absurd stands
-  logs_open name old new step said answer before after did up (Some w) stands =
-      let d = did w stands in record { honest = d.logs.honest; device = d.logs.device; up = up }
+  logs_open name old new step said answer before after did up steady once None stands = absurd stands
+  logs_open name old new step said answer before after did up steady once (Some w) stands =
+      let d = did w stands in
+      record { honest = d.logs.honest; device = d.logs.device; up = up; steady = steady; once = once }
 
   unopened_from : (name : List ℕ) (w : World) (step : TenantStep) (said : Said) (answer : Reply) (z : World)
       → step_open M w step said ≡ done answer z → opened_by name step answer ≡ []
-  unopened_from name w (Open kinds quota optimism) said answer z e = sym (ap (λ (o : Outcome). named_if_opened name o.reply) e)
+  unopened_from name w (Open kinds quota optimism) said answer z e =
+      sym (ap (λ (o : Outcome). named_if_opened name o.reply) e)
   unopened_from name w _ said answer z e = refl
 
   -- a tenant that is open is not opened
-  pub unopened : (name : List ℕ) (old new : TenantState S) (step : TenantStep) (said : Said) (answer : Reply) (before after : Logged)
+  pub unopened : (name : List ℕ)
+      (old new : TenantState S) (step : TenantStep) (said : Said) (answer : Reply) (before after : Logged)
       → ((w : World) → Stands M name old w before.records → Did M name w new step said answer before after)
       → (w : Option World) → StandsAt M name (Some old) w before.records → opened_by name step answer ≡ []
   unopened name old new step said answer before after did None stands = absurd stands
@@ -99,7 +143,8 @@ module _ {S : Type 0} (M : Meaning S) where
 
   -- what other tenants stand for stays, also where they are not open
   pub keeps_others : (name : List ℕ) (before after : List (Option Record))
-      → ((k : TenantState S) (w : World) (other : List ℕ) → bytes_eq other name ≡ false → Stands M other k w before → Stands M other k w after)
+      → ((k : TenantState S) (w : World) (other : List ℕ)
+      → bytes_eq other name ≡ false → Stands M other k w before → Stands M other k w after)
       → KeepsOthers M name before after
   keeps_others name before after keeps None None other apart stands = tt
   keeps_others name before after keeps None (Some w) other apart stands = absurd stands
@@ -107,7 +152,8 @@ module _ {S : Type 0} (M : Meaning S) where
   keeps_others name before after keeps (Some k) (Some w) other apart stands = keeps k w other apart stands
 
   -- a step of a tenant that is not open was done, and the log stayed
-  pub answered_unopened : (step : Step) (said : Said) (answer : Reply) (at after : List ℕ → Option (TenantState S)) (names names_after : List (List ℕ)) (log : Logged)
+  pub answered_unopened : (step : Step) (said : Said)
+      (answer : Reply) (at after : List ℕ → Option (TenantState S)) (names names_after : List (List ℕ)) (log : Logged)
       → let before : Holding (TenantState S) = record { at = at; names = names; log = log } in
       let later : Holding (TenantState S) = record { at = after; names = names_after; log = log } in
       None ≡ at (addressed step).0
@@ -121,19 +167,25 @@ module _ {S : Type 0} (M : Meaning S) where
   }
     where
       only_world : (w : Option World) → StandsAt M (addressed step).0 (at (addressed step).0) w log.records
-          → DidAt M (addressed step).0 w (addressed step).1 said answer (record { at = at; names = names; log = log }) (record { at = after; names = names_after; log = log })
+          → DidAt M (addressed step).0 w (addressed step).1 said answer
+          (record { at = at; names = names; log = log }) (record { at = after; names = names_after; log = log })
       only_world None stands = did
-      only_world (Some w) stands = absurd (subst (λ t. StandsAt M (addressed step).0 t (Some w) log.records) (sym none) stands)
+      only_world (Some w) stands =
+          absurd (subst (λ t. StandsAt M (addressed step).0 t (Some w) log.records) (sym none) stands)
 
   -- what holds of each world that an open tenant stands for holds of the one that it has
-  pub of_open : (name : List ℕ) (k : TenantState S) (at : Option (TenantState S)) (records : List (Option Record)) (F : Option World → Type 0)
+  pub of_open : (name : List ℕ)
+      (k : TenantState S) (at : Option (TenantState S)) (records : List (Option Record)) (F : Option World → Type 0)
       → Some k ≡ at → ((w : World) → Stands M name k w records → F (Some w))
       → (w : Option World) → StandsAt M name at w records → F w
-  of_open name k at records F here f None stands = absurd (subst (λ t. StandsAt M name t None records) (sym here) stands)
-  of_open name k at records F here f (Some w) stands = f w (subst (λ t. StandsAt M name t (Some w) records) (sym here) stands)
+  of_open name k at records F here f None stands =
+      absurd (subst (λ t. StandsAt M name t None records) (sym here) stands)
+  of_open name k at records F here f (Some w) stands =
+      f w (subst (λ t. StandsAt M name t (Some w) records) (sym here) stands)
 
 -- where the tenant isn't open there is no world
-pub of_closed : {S : Type 0} (M : Meaning S) (name : List ℕ) (at : Option (TenantState S)) (records : List (Option Record)) (w : Option World) (F : Option World → Type 0)
+pub of_closed : {S : Type 0} (M : Meaning S) (name : List ℕ)
+    (at : Option (TenantState S)) (records : List (Option Record)) (w : Option World) (F : Option World → Type 0)
     → F None → None ≡ at → StandsAt M name at w records → F w
 of_closed {S} M name at records w F f here stands = go w (subst (λ t. StandsAt M name t w records) (sym here) stands)
   where
@@ -142,7 +194,9 @@ of_closed {S} M name at records w F f here stands = go w (subst (λ t. StandsAt 
     go (Some z) s = absurd s
 
 -- so it is where more is known of that world
-pub of_open_known : {S : Type 0} (M : Meaning S) (name : List ℕ) (k : TenantState S) (at : Option (TenantState S)) (records : List (Option Record)) (w : Option World) (F : Option World → Type 0)
+pub of_open_known : {S : Type 0} (M : Meaning S) (name : List ℕ) (k : TenantState S)
+    (at : Option (TenantState S)) (records : List (Option Record)) (w : Option World) (F : Option World → Type 0)
     → Some k ≡ at → ((z : World) → Stands M name k z records → w ≡ Some z → F (Some z))
     → StandsAt M name at w records → F w
-of_open_known M name k at records w F here f stands = of_open M name k at records (λ z. w ≡ z → F z) here f w stands refl
+of_open_known M name k at records w F here f stands =
+    of_open M name k at records (λ z. w ≡ z → F z) here f w stands refl

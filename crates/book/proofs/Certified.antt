@@ -15,7 +15,8 @@ use Rattle.book.proofs.Lasting.{stays_released}
 use Rattle.book.proofs.Replays.{isolated}
 
 -- the certificate of the world after any events of one tenant
-certified_after : {S : Type 0} (M : Meaning S) (events : List Event) (w : Option World) → (alone M events).world ≡ w → CertifiesAt M w (certificate_at w)
+certified_after : {S : Type 0} (M : Meaning S) (events : List Event) (w : Option World)
+    → (alone M events).world ≡ w → CertifiesAt M w (certificate_at w)
 certified_after M events None e = refl
 certified_after M events (Some w) e = (refl, certificate_law M w (courses_reach M events w e))
 
@@ -23,7 +24,8 @@ certified_after M events (Some w) e = (refl, certificate_law M w (courses_reach 
 pub certified : {S : Type 0} (M : Meaning S) (tenant : List ℕ) (history : List Entry) (moves : List Move)
     → moves ≡ certificate_at (world_of M tenant history) → CertifiesAt M (world_of M tenant history) moves
 certified M tenant history moves e =
-    subst (CertifiesAt M (world_of M tenant history)) (sym e) (certified_after M (own tenant (pairs history)) (world_of M tenant history) refl)
+    subst (CertifiesAt M (world_of M tenant history))
+    (sym e) (certified_after M (own tenant (pairs history)) (world_of M tenant history) refl)
 
 pub headline : {S : Type 0} (M : Meaning S) → IsHeadline M
 headline M tenant one other h k same = record {

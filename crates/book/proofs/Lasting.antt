@@ -26,25 +26,29 @@ same_Ok : (S : Type 0) (x y : Network S) → made_of S x ≡ made_of S y → x �
 same_Ok S x y e = cc e
 
 -- a unit's list, found among those of the members
-member_of : (members : List Member) (u : ℕ) (texts : List (List ℕ)) → option_map (λ (m : Member). m.released) (slice_get members u) ≡ Some texts
+member_of : (members : List Member) (u : ℕ) (texts : List (List ℕ))
+    → option_map (λ (m : Member). m.released) (slice_get members u) ≡ Some texts
     → (m : Member) × (slice_get members u ≡ Some m) × (m.released ≡ texts)
 member_of [] u texts e = absurd (cc e)
 member_of (m ∷ members) zero texts e = (m, refl, same_Some m.released texts e)
 member_of (m ∷ members) (suc u) texts e = member_of members u texts e
 
-released_of : (members : List Member) (u : ℕ) (m : Member) → slice_get members u ≡ Some m → slice_get (map (λ (x : Member). x.released) members) u ≡ Some m.released
+released_of : (members : List Member) (u : ℕ) (m : Member)
+    → slice_get members u ≡ Some m → slice_get (map (λ (x : Member). x.released) members) u ≡ Some m.released
 released_of [] u m e = absurd (cc e)
 released_of (x ∷ members) zero m e = ap (λ (y : Member). Some y.released) (same_Some x m e)
 released_of (x ∷ members) (suc u) m e = released_of members u m e
 
 module _ {S : Type 0} (M : Meaning S) where
   -- the outputs of a unit begin with its list
-  begins_at : (workers : List (Worker S)) (lists : List (List (List ℕ))) (u : ℕ) (texts : List (List ℕ)) → BeginWith workers lists → slice_get lists u ≡ Some texts
+  begins_at : (workers : List (Worker S)) (lists : List (List (List ℕ))) (u : ℕ) (texts : List (List ℕ))
+      → BeginWith workers lists → slice_get lists u ≡ Some texts
       → (a : Worker S) × (slice_get workers u ≡ Some a) × IsPrefix texts a.outputs
   begins_at [] [] u texts b e = absurd (cc e)
   begins_at (a ∷ workers) [] u texts b e = absurd b
   begins_at [] (x ∷ lists) u texts b e = absurd b
-  begins_at (a ∷ workers) (x ∷ lists) zero texts b e = (a, refl, subst (λ (y : List (List ℕ)). IsPrefix y a.outputs) (same_Some x texts e) b.0)
+  begins_at (a ∷ workers) (x ∷ lists) zero texts b e =
+      (a, refl, subst (λ (y : List (List ℕ)). IsPrefix y a.outputs) (same_Some x texts e) b.0)
   begins_at (a ∷ workers) (x ∷ lists) (suc u) texts b e = begins_at workers lists u texts b.1 e
 
   -- ---- a tenant that is open is open at the end
@@ -62,14 +66,18 @@ module _ {S : Type 0} (M : Meaning S) where
       × ((later : List (List ℕ)) × (released_at (Some w) u ≡ Some later) × IsPrefix texts later)
       × BeginsRun M w u texts
 
-  begins_run : (w : World) (u : ℕ) (m : Member) (texts : List (List ℕ)) → CertificateHolds M w → slice_get w.members u ≡ Some m → IsPrefix texts m.released → BeginsRun M w u texts
+  begins_run : (w : World) (u : ℕ) (m : Member) (texts : List (List ℕ))
+      → CertificateHolds M w → slice_get w.members u ≡ Some m → IsPrefix texts m.released → BeginsRun M w u texts
   begins_run w u m texts holds found p net made =
       let same : holds.0 ≡ net = same_Ok S holds.0 net (sym holds.1 ∙ made) in
-      let begin = subst (λ (n : Network S). BeginWith n.workers (map (λ (x : Member). x.released) w.members)) same holds.3 in
-      let a = begins_at net.workers (map (λ (x : Member). x.released) w.members) u m.released begin (released_of w.members u m found) in
+      let begin =
+      subst (λ (n : Network S). BeginWith n.workers (map (λ (x : Member). x.released) w.members)) same holds.3 in
+      let a = begins_at net.workers
+      (map (λ (x : Member). x.released) w.members) u m.released begin (released_of w.members u m found) in
       (a.0, a.1, prefix_trans texts m.released a.0.outputs p a.2)
 
-  lasts : (before after : List Event) (o : Option World) → (alone M before).world ≡ o → (u : ℕ) (texts : List (List ℕ)) → released_at o u ≡ Some texts
+  lasts : (before after : List Event) (o : Option World)
+      → (alone M before).world ≡ o → (u : ℕ) (texts : List (List ℕ)) → released_at o u ≡ Some texts
       → Lasts (alone M (before ++ after)).world u texts
   unfolding Lasts
   lasts before after None e u texts r = absurd (cc r)
@@ -89,6 +97,8 @@ module _ {S : Type 0} (M : Meaning S) where
   unfolding Lasts
   stays_released tenant history n u texts r =
       let all : own tenant (pairs (take n history)) ++ own tenant (pairs (drop n history)) ≡ own tenant (pairs history)
-      = sym (own-append tenant (take n history) (drop n history)) ∙ ap (λ (h : List Entry). own tenant (pairs h)) (take-append-drop n history) in
+      = sym (own-append tenant (take n history) (drop n history))
+      ∙ ap (λ (h : List Entry). own tenant (pairs h)) (take-append-drop n history) in
       subst (λ (events : List Event). Lasts (alone M events).world u texts) all
-      (lasts (own tenant (pairs (take n history))) (own tenant (pairs (drop n history))) (world_of M tenant (take n history)) refl u texts r)
+      (lasts (own tenant (pairs (take n history)))
+      (own tenant (pairs (drop n history))) (world_of M tenant (take n history)) refl u texts r)

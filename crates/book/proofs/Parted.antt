@@ -22,7 +22,8 @@ filtered_twice {X} p (x ∷ xs) = go (p x) refl (filtered_twice p xs)
     go true e rest = rw e (ap (λ (ys : List X). x ∷ ys) rest)
     go false e rest = rest
 
-filtered_apart : {X : Type 0} (p q : X → Bool) (xs : List X) → ((x : X) → p x ≡ true → q x ≡ false) → filter q (filter p xs) ≡ []
+filtered_apart : {X : Type 0} (p q : X → Bool) (xs : List X)
+    → ((x : X) → p x ≡ true → q x ≡ false) → filter q (filter p xs) ≡ []
 filtered_apart p q [] apart = refl
 filtered_apart {X} p q (x ∷ xs) apart = go (p x) refl (filtered_apart p q xs apart)
   where
@@ -40,7 +41,8 @@ own_by_entries t (e ∷ h) = go (names t e.step) (own_by_entries t h)
     others = filter (λ (p : Step × Said). names t p.0) (pairs h)
 
     go : (b : Bool) → map event_of_pair others ≡ map event_of (entries_of t h)
-        → map event_of_pair (cond b (pair_of e ∷ others) others) ≡ map event_of (cond b (e ∷ entries_of t h) (entries_of t h))
+        → map event_of_pair (cond b (pair_of e ∷ others) others)
+        ≡ map event_of (cond b (e ∷ entries_of t h) (entries_of t h))
     go true rest = ap (λ (events : List Event). event_of e ∷ events) rest
     go false rest = rest
 

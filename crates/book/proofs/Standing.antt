@@ -1,5 +1,6 @@
 -- A host goes on from each book that it stands for.
-use Rattle.std.proofs.Common.{◌≡◌, ◌≤◌, ◌∙◌, ap, inl, inr, refl, sym, subst, true, false, bytes_eq, ℕ, List, [], ◌∷◌, ◌++◌}
+use Rattle.std.proofs.Common.{◌≡◌, ◌≤◌, ◌∙◌, ap, inl, inr, refl, sym, subst, true, false, bytes_eq, ℕ, List, [], ◌∷◌}
+use Rattle.std.proofs.Common.{◌++◌}
 use Rattle.std.proofs.lemmas.Option.{same_Some}
 use Rattle.std.specs.Prelude.{IfSome, Option, Some, None}
 use Rattle.model.specs.Handler.{Meaning}
@@ -16,7 +17,8 @@ use Rattle.book.specs.History.{HoldsAsBefore, Holding, IsAnswered, IsRecordedIn,
 use Rattle.book.specs.Keeping.{KeepsAt, KeepsIn, keeping_after}
 use Rattle.model.specs.Keeping.{Keeping, Shelf}
 use Rattle.tenant.specs.Keeping.{KeepsPast}
-use Rattle.book.specs.Standing.{Carries, CommitsHonestly, EntersHonestly, Hosted, IsHostOf, KeepTexts, ReplaysAsWell, held_by}
+use Rattle.book.specs.Standing.{Carries, CommitsHonestly, EntersHonestly, Hosted, IsHostOf, KeepTexts, ReplaysAsWell}
+use Rattle.book.specs.Standing.{held_by}
 use Rattle.handler.specs.Inputs.{Input}
 use Rattle.model.specs.Addresses.{addressed}
 use Rattle.model.specs.World.{World}
@@ -37,7 +39,8 @@ module _ {S : Type 0} (M : Meaning S) where
     -- ---- nothing was changed
 
     -- it is the replay of the same history
-    pub replays_still : (history : List Entry) → HoldsAsBefore before after → IsReplay M before history → IsReplay M after history
+    pub replays_still : (history : List Entry)
+        → HoldsAsBefore before after → IsReplay M before history → IsReplay M after history
     replays_still history same replay = record {
       stands = λ t.
           subst (λ k. StandsAt M t k (world_of M t history) after.log.records) (sym (same.tenants t))
@@ -62,6 +65,7 @@ module _ {S : Type 0} (M : Meaning S) where
               refl,
               subst (λ (l : Logged). after.log.records ≡ l.records) (sym stands.log) same.records,
               subst (λ (l : Logged). l.failures ≤ after.log.failures) (sym stands.log) same.up,
+              subst (λ (l : Logged). after.log.failures ≡ l.failures) (sym stands.log) same.failures,
             ),
             none_added M book next refl,
           ),
@@ -69,9 +73,23 @@ module _ {S : Type 0} (M : Meaning S) where
 
     -- ---- the step was done
 
-    module _ (who : Who) (step : Step) (said : Said) (reply : Reply) (answered : IsAnswered M step said reply before after) where
+    module _ (who : Who) (step : Step)
+        (said : Said) (reply : Reply) (answered : IsAnswered M step said reply before after) where
       abbrev later : List Entry → Ledger
-      later history = record { history = history ++ record { who = who; step = step; said = said; reply = reply } ∷ []; log = after.log }
+      later history = record {
+        history =
+            history ++ record { who = who; step = step; said = said; reply = reply } ∷ [];
+        log = after.log;
+      }
+
+      -- it was entered
+      pub adds : Carries (IsHostOf M) (λ was is. IsAdded was who step reply is) old new
+      adds book stands = (
+        later book.history,
+        record { replay = entered M before after book.history _ stands.replay answered; log = refl },
+        subst (λ (l : Logged). IsAdded (record { history = book.history; log = l }) who step reply (later book.history))
+            (sym stands.log) (is_added M before after book.history _ stands.replay answered),
+      )
 
       pub enters : Carries (IsHostOf M) (EntersHonestly M who step reply) old new
       enters book stands = (
@@ -79,7 +97,8 @@ module _ {S : Type 0} (M : Meaning S) where
         record { replay = entered M before after book.history _ stands.replay answered; log = refl },
         (
           inl
-              (subst (λ (l : Logged). IsAdded (record { history = book.history; log = l }) who step reply (later book.history))
+              (subst (λ (l : Logged).
+              IsAdded (record { history = book.history; log = l }) who step reply (later book.history))
               (sym stands.log) (is_added M before after book.history _ stands.replay answered)),
           subst (λ (l : Logged). IsSaidHonestly M (record { history = book.history; log = l }) (later book.history))
               (sym stands.log) (said_honestly M before after book.history _ stands.replay answered),
@@ -102,11 +121,13 @@ module _ {S : Type 0} (M : Meaning S) where
       record { replay = entered M before after book.history _ stands.replay answered; log = refl },
       (
         inl (
-          subst (λ (l : Logged). IsAdded (record { history = book.history; log = l }) who step reply (later who step said reply answered book.history))
+          subst (λ (l : Logged). IsAdded (record { history = book.history; log = l })
+              who step reply (later who step said reply answered book.history))
               (sym stands.log) (is_added M before after book.history _ stands.replay answered),
           fits (world_of M (addressed step).0 book.history) (stands.replay.stands (addressed step).0),
         ),
-        subst (λ (l : Logged). IsSaidHonestly M (record { history = book.history; log = l }) (later who step said reply answered book.history))
+        subst (λ (l : Logged). IsSaidHonestly
+            M (record { history = book.history; log = l }) (later who step said reply answered book.history))
             (sym stands.log) (said_honestly M before after book.history _ stands.replay answered),
       ),
     )
@@ -123,13 +144,15 @@ module _ {S : Type 0} (M : Meaning S) where
               refl,
               subst (λ (l : Logged). after.log.records ≡ l.records) (sym stands.log) same.records,
               subst (λ (l : Logged). l.failures ≤ after.log.failures) (sym stands.log) same.up,
+              subst (λ (l : Logged). after.log.failures ≡ l.failures) (sym stands.log) same.failures,
             ),
             none_added M book next refl,
           ),
         )
 
     pub gives_back : (who : Who) (step : Step) (input : Input S) → HoldsAsBefore before after → after.log ≡ before.log
-        → ((w : Option World) → StandsAt M (addressed step).0 (before.at (addressed step).0) w before.log.records → ¬ IsFresh (needs_at M w (addressed step).1) input)
+        → ((w : Option World) → StandsAt M (addressed step).0 (before.at (addressed step).0) w before.log.records
+        → ¬ IsFresh (needs_at M w (addressed step).1) input)
         → Carries (IsHostOf M) (CommitsHonestly M who step input (Stale step)) old new
     gives_back who step input same log stale book stands =
         let next : Ledger = record { history = book.history; log = after.log } in (
@@ -147,7 +170,8 @@ module _ {S : Type 0} (M : Meaning S) where
 
 -- ---- behind a step the host changes, and stands for the same
 
-pub carries_on : {S : Type 0} (M : Meaning S) {Becomes : Ledger → Ledger → Type 0} (old mid new : Hosted (TenantState S)) → new.log ≡ mid.log
+pub carries_on : {S : Type 0} (M : Meaning S) {Becomes : Ledger → Ledger → Type 0}
+    (old mid new : Hosted (TenantState S)) → new.log ≡ mid.log
     → ReplaysAsWell M mid new → Carries (IsHostOf M) Becomes old mid → Carries (IsHostOf M) Becomes old new
 carries_on M old mid new log as_well carried book stands =
     let then = carried book stands in (
@@ -157,13 +181,15 @@ carries_on M old mid new log as_well carried book stands =
     )
 
 module _ {S : Type 0} (M : Meaning S) (old new : Hosted (TenantState S)) (log : new.log ≡ old.log)
-    (stands : (t : List ℕ) (w : Option World) → StandsAt M t ((held_by old).at t) w old.log.records → StandsAt M t ((held_by new).at t) w old.log.records)
+    (stands : (t : List ℕ) (w : Option World)
+    → StandsAt M t ((held_by old).at t) w old.log.records → StandsAt M t ((held_by new).at t) w old.log.records)
     (keeps : (t : List ℕ) (k : Keeping) → KeepsAt ((held_by old).at t) k → KeepsAt ((held_by new).at t) k)
     (order : (held_by new).names ≡ (held_by old).names) where
   -- whoever stands for the same world under each name, and keeps the same of its past, is the same replay
   pub as_well : ReplaysAsWell M old new
   as_well history replay = record {
-    stands = λ t. subst (λ (l : Logged). StandsAt M t ((held_by new).at t) (world_of M t history) l.records) (sym log) (stands t (world_of M t history) (replay.stands t));
+    stands = λ t. subst (λ (l : Logged). StandsAt M t ((held_by new).at t) (world_of M t history) l.records)
+        (sym log) (stands t (world_of M t history) (replay.stands t));
     keeps = λ t. keeps t (keeping_after M t history) (replay.keeps t);
     order = order ∙ replay.order;
     legal = replay.legal;
@@ -174,16 +200,20 @@ module _ {S : Type 0} (M : Meaning S) (old new : Hosted (TenantState S)) (log : 
 -- ---- texts that are kept
 
 -- where a tenant goes on so, and each other is as it was
-pub texts_on : {S : Type 0} (old new : List ℕ → Option (TenantState S)) (name : List ℕ) (t v : TenantState S) → old name ≡ Some t → new name ≡ Some v
-    → ((other : List ℕ) → bytes_eq other name ≡ false → new other ≡ old other) → (KeepsTexts t → KeepsTexts v) → KeepTexts old → KeepTexts new
+pub texts_on : {S : Type 0} (old new : List ℕ → Option (TenantState S)) (name : List ℕ) (t v : TenantState S)
+    → old name ≡ Some t → new name ≡ Some v
+    → ((other : List ℕ) → bytes_eq other name ≡ false → new other ≡ old other)
+    → (KeepsTexts t → KeepsTexts v) → KeepTexts old → KeepTexts new
 texts_on old new name t v was is others on kept =
     λ other k there. elim (bytes_eq other name) as (λ b. bytes_eq other name ≡ b → KeepsTexts k) [
-      | true ↦ λ e. subst KeepsTexts (same_Some v k (sym is ∙ ap new (sym (same_name other name e)) ∙ there)) (on (kept name t was))
+      | true ↦ λ e. subst KeepsTexts
+          (same_Some v k (sym is ∙ ap new (sym (same_name other name e)) ∙ there)) (on (kept name t was))
       | false ↦ λ e. kept other k (sym (others other e) ∙ there)
     ] refl
 
 -- where one more is there, which has all of its texts
-pub texts_more : {S : Type 0} (old new : List ℕ → Option (TenantState S)) (name : List ℕ) (v : Option (TenantState S)) → new name ≡ v → IfSome v KeepsTexts
+pub texts_more : {S : Type 0} (old new : List ℕ → Option (TenantState S)) (name : List ℕ) (v : Option (TenantState S))
+    → new name ≡ v → IfSome v KeepsTexts
     → ((other : List ℕ) → bytes_eq other name ≡ false → new other ≡ old other) → KeepTexts old → KeepTexts new
 texts_more old new name v is whole others kept =
     λ other k there. elim (bytes_eq other name) as (λ b. bytes_eq other name ≡ b → KeepsTexts k) [
@@ -194,8 +224,10 @@ texts_more old new name v is whole others kept =
 -- ---- texts that are given up
 
 module _ {S : Type 0} (M : Meaning S) (t v : TenantState S) where
-  module _ (stands : (name : List ℕ) (w : World) (records : List (Option Record)) → Stands M name t w records → Stands M name v w records) where
-    stands_at : (name : List ℕ) (w : Option World) (records : List (Option Record)) → StandsAt M name (Some t) w records → StandsAt M name (Some v) w records
+  module _ (stands : (name : List ℕ) (w : World) (records : List (Option Record))
+      → Stands M name t w records → Stands M name v w records) where
+    stands_at : (name : List ℕ) (w : Option World) (records : List (Option Record))
+        → StandsAt M name (Some t) w records → StandsAt M name (Some v) w records
     stands_at name None records s = s
     stands_at name (Some w) records s = stands name w records s
 
@@ -204,10 +236,12 @@ module _ {S : Type 0} (M : Meaning S) (t v : TenantState S) where
     keeps_in None shelves k = k
     keeps_in (Some w) shelves k = past w shelves k
 
-  module _ (old new : List ℕ → Option (TenantState S)) (name : List ℕ) (was : old name ≡ Some t) (is : new name ≡ Some v)
+  module _ (old new : List ℕ → Option (TenantState S))
+      (name : List ℕ) (was : old name ≡ Some t) (is : new name ≡ Some v)
       (others : (other : List ℕ) → bytes_eq other name ≡ false → new other ≡ old other) where
     -- what holds of each tenant goes on to hold
-    each_goes_on : (P : List ℕ → Option (TenantState S) → Type 0) → ((n : List ℕ) → P n (Some t) → P n (Some v)) → (other : List ℕ) → P other (old other) → P other (new other)
+    each_goes_on : (P : List ℕ → Option (TenantState S) → Type 0)
+        → ((n : List ℕ) → P n (Some t) → P n (Some v)) → (other : List ℕ) → P other (old other) → P other (new other)
     each_goes_on P on other p =
         elim (bytes_eq other name) as (λ b. bytes_eq other name ≡ b → P other (new other)) [
           | true ↦ λ e.
@@ -216,9 +250,12 @@ module _ {S : Type 0} (M : Meaning S) (t v : TenantState S) where
           | false ↦ λ e. subst (P other) (sym (others other e)) p
         ] refl
 
-    pub given_up_stands : ((n : List ℕ) (w : World) (records : List (Option Record)) → Stands M n t w records → Stands M n v w records)
-        → (other : List ℕ) (w : Option World) (records : List (Option Record)) → StandsAt M other (old other) w records → StandsAt M other (new other) w records
-    given_up_stands stands other w records = each_goes_on (λ n k. StandsAt M n k w records) (λ n. stands_at stands n w records) other
+    pub given_up_stands : ((n : List ℕ) (w : World) (records : List (Option Record))
+        → Stands M n t w records → Stands M n v w records)
+        → (other : List ℕ) (w : Option World) (records : List (Option Record))
+        → StandsAt M other (old other) w records → StandsAt M other (new other) w records
+    given_up_stands stands other w records =
+        each_goes_on (λ n k. StandsAt M n k w records) (λ n. stands_at stands n w records) other
 
     pub given_up_keeps : ((w : World) (shelves : List Shelf) → KeepsPast t w shelves → KeepsPast v w shelves)
         → (other : List ℕ) (k : Keeping) → KeepsAt (old other) k → KeepsAt (new other) k

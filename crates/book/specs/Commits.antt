@@ -28,7 +28,8 @@ pub record IsUntouched (before after : Ledger) : Type 0 where
   pub history : after.history ≡ before.history
   pub log : after.log ≡ before.log
 
--- The step is given back, with nothing changed, only where it now needs a turn of another input. It is entered only where it does not, or there was no memory for it.
+-- The step is given back, with nothing changed, only where it now needs a turn of another input. It is entered only
+-- where it does not, or there was no memory for it.
 abbrev pub Commits : {S : Type 0} → Meaning S → Ledger → Who → Step → Input S → Committed → Ledger → Type 0
 Commits M before who step input (Stale s) after =
     (s ≡ step) × IsUntouched before after × ¬ IsFresh (needed M before.history step) input

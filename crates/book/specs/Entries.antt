@@ -1,5 +1,5 @@
 -- How a step is entered in the history of a book.
-use Rattle.std.specs.Prelude.{◌≡◌, ◌≢◌, ◌⊎◌, ◌≤◌, ◌-◌, ◌^◌, ℕ, List, [], ◌∷◌, ◌++◌, length}
+use Rattle.std.specs.Prelude.{◌≡◌, ◌≢◌, ◌⊎◌, ◌≤◌, ◌+◌, ◌-◌, ◌^◌, ℕ, List, [], ◌∷◌, ◌++◌, length}
 use Rattle.std.specs.List.{filter}
 use Rattle.model.specs.declared.refusals.Refusal.TheVariants.{Memory}
 use Rattle.model.specs.declared.replies.Entry.{Entry}
@@ -9,7 +9,8 @@ use Rattle.model.specs.declared.replies.Reply.TheVariants.{Stopped, Refused}
 use Rattle.model.specs.declared.replies.Said.{Said}
 use Rattle.model.specs.declared.replies.Who.{Who}
 use Rattle.model.specs.declared.steps.Step.{Step}
-use Rattle.model.specs.declared.steps.Step.TheVariants.{Open, Join, Post, Deliver, Flush, Checkpoint, Kill, Restart, Notice, Release, Status}
+use Rattle.model.specs.declared.steps.Step.TheVariants.{Open, Join, Post, Deliver, Flush, Checkpoint, Kill, Restart}
+use Rattle.model.specs.declared.steps.Step.TheVariants.{Notice, Release, Status}
 use Rattle.model.specs.Failures.{HasRisen}
 use Rattle.model.specs.Steps.{is_device}
 use Rattle.shared_log.specs.Logged.{Logged}
@@ -33,7 +34,10 @@ memory_reply (Notice tenant unit) = Refused Memory
 memory_reply (Release tenant unit) = Refused Memory
 memory_reply (Status tenant unit) = Refused Memory
 
--- The step was entered at the end with this reply, which doesn't say that there was no memory for it. The device is said to have failed only where it did, and the count of its failures never falls.
+-- The step was entered at the end with this reply, which doesn't say that there was no memory for it. The device is
+-- said to have failed only where it did, and the count of its failures never falls.
+-- Where it isn't said to have failed the count is what it was, and else it rose by one at most: a call that failed
+-- isn't made again.
 abbrev pub IsAdded : Ledger → Who → Step → Reply → Ledger → Type 0
 IsAdded before who step answer after =
     (said : Said)
@@ -41,12 +45,14 @@ IsAdded before who step answer after =
     × (said.end ≡ Device → HasRisen before.log.failures after.log.failures)
     × (before.log.failures ≤ after.log.failures)
     × (answer ≢ memory_reply step)
+    × (said.end ≢ Device → after.log.failures ≡ before.log.failures)
+    × (after.log.failures ≤ before.log.failures + 1)
 
--- there was no memory for the step, and nothing changed but that calls of the device may have failed
+-- there was no memory for the step, and nothing changed: no call of the device failed
 abbrev pub IsForgone : Ledger → Step → Reply → Ledger → Type 0
 IsForgone before step answer after =
     (answer ≡ memory_reply step) × (after.history ≡ before.history) × (after.log.records ≡ before.log.records)
-    × (before.log.failures ≤ after.log.failures)
+    × (before.log.failures ≤ after.log.failures) × (after.log.failures ≡ before.log.failures)
 
 -- one of the two
 abbrev pub IsEntered : Ledger → Who → Step → Reply → Ledger → Type 0

@@ -1,5 +1,5 @@
 -- What a history makes of the tenants and of the log.
-use Rattle.std.specs.Prelude.{◌≡◌, ◌≤◌, ℕ, false, List, [], ◌∷◌, ◌++◌, Option, Some, None, option_map, bytes_eq}
+use Rattle.std.specs.Prelude.{◌≡◌, ◌≤◌, ◌+◌, ℕ, false, List, [], ◌∷◌, ◌++◌, Option, Some, None, option_map, bytes_eq}
 use Rattle.std.specs.List.{filter, flat_map}
 use Rattle.indexmap.specs.IndexMap.{IndexMap, get, keys}
 use Rattle.model.specs.Addresses.{addressed}
@@ -65,7 +65,8 @@ opened history = flat_map (λ e. opened_by (addressed e.step).0 (addressed e.ste
 
 -- ---- the log
 
--- what the store said during a step of the tenant is honest, where it took these records then: a tenant that is not open asks nothing of it
+-- what the store said during a step of the tenant is honest, where it took these records then: a tenant that is not
+-- open asks nothing of it
 abbrev pub IsHonestAt : {S : Type 0} → Meaning S → List ℕ → Option World → TenantStep → Said → List Record → Type 0
 IsHonestAt M tenant None step said grown = IsQuiet said grown
 IsHonestAt M tenant (Some w) step said grown = IsHonest M tenant w step said grown
@@ -75,7 +76,8 @@ abbrev pub IsHonestAfter : {S : Type 0} → Meaning S → List Entry → Entry �
 IsHonestAfter M before e grown =
     IsHonestAt M (addressed e.step).0 (world_of M (addressed e.step).0 before) (addressed e.step).1 e.said grown
 
--- where other entries came before, the store took these records during these entries, those of each in turn, and what it said during each is honest
+-- where other entries came before, the store took these records during these entries, those of each in turn, and what
+-- it said during each is honest
 abbrev pub RecordedAfter : {S : Type 0} → Meaning S → List Entry → List Entry → List Record → Type 0
 RecordedAfter M before [] records = records ≡ []
 RecordedAfter M before (e ∷ entries) records =
@@ -86,7 +88,8 @@ RecordedAfter M before (e ∷ entries) records =
 abbrev pub IsRecorded : {S : Type 0} → Meaning S → List Entry → List Record → Type 0
 IsRecorded M history records = RecordedAfter M [] history records
 
--- the log has what is left of the records that the store took during this history, honestly: in each place its record, or none where it was forgotten
+-- the log has what is left of the records that the store took during this history, honestly: in each place its record,
+-- or none where it was forgotten
 abbrev pub IsRecordedIn : {S : Type 0} → Meaning S → List Entry → List (Option Record) → Type 0
 IsRecordedIn M history records = (whole : List Record) × IsRecorded M history whole × IsLeftOf records whole
 
@@ -102,7 +105,8 @@ pub record Holding (K : Type 0) : Type 0 where
 abbrev pub holding : {K X : Type 0} → IndexMap (List ℕ) K X → Logged → Holding K
 holding tenants log = record { at = get bytes_eq tenants; names = keys tenants; log = log }
 
--- the step of a tenant that may be unopened has this reply by the definitions, and what is kept stands for the world after it
+-- the step of a tenant that may be unopened has this reply by the definitions, and what is kept stands for the world
+-- after it
 abbrev pub StepsAt : {S : Type 0} → Meaning S → List ℕ → Option World → Option (TenantState S) → TenantStep → Said
     → Reply → List (Option Record) → Type 0
 StepsAt M tenant w k step said answer records =
@@ -110,12 +114,17 @@ StepsAt M tenant w k step said answer records =
     × (step_alone M w (record { step = step; said = said }) ≡ record { reply = answer; world = z })
     × StandsAt M tenant k z records
 
--- the log grew by what the store took during a step of the tenant, honestly (it may have forgotten others), the device is said to have failed only where it did, and the count of its failures never falls
+-- The log grew by what the store took during a step of the tenant, honestly (it may have forgotten others). The device
+-- is said to have failed only where it did, and the count of its failures never falls.
+-- Where it isn't said to have failed the count is what it was, and else it rose by one at most: a call that failed
+-- isn't made again.
 pub record LogsAt {S : Type 0} (M : Meaning S) (tenant : List ℕ) (w : Option World) (step : TenantStep) (said : Said)
     (before after : Logged) : Type 0 where
   pub honest : (grown : List Record) × Grows before.records grown after.records × IsHonestAt M tenant w step said grown
   pub device : said.end ≡ Device → HasRisen before.failures after.failures
   pub up : before.failures ≤ after.failures
+  pub steady : (said.end ≡ Device → ⊥) → after.failures ≡ before.failures
+  pub once : after.failures ≤ before.failures + 1
 
 -- the step of a tenant that may be unopened was done
 pub record DidAt {S : Type 0} (M : Meaning S) (tenant : List ℕ) (w : Option World) (step : TenantStep) (said : Said)
@@ -131,7 +140,8 @@ KeepsOthers {S = S} M tenant before after =
     (k : Option (TenantState S)) (w : Option World) (other : List ℕ)
     → bytes_eq other tenant ≡ false → StandsAt M other k w before → StandsAt M other k w after
 
--- the step was done: whichever world its tenant stood for, this is the reply and what is left, and every other tenant is as it was and stands for what it did
+-- the step was done: whichever world its tenant stood for, this is the reply and what is left, and every other tenant
+-- is as it was and stands for what it did
 pub record IsAnswered {S : Type 0} (M : Meaning S) (step : Step) (said : Said) (answer : Reply)
     (before after : Holding (TenantState S)) : Type 0 where
   pub did : (w : Option World)
@@ -140,16 +150,18 @@ pub record IsAnswered {S : Type 0} (M : Meaning S) (step : Step) (said : Said) (
   pub others : (other : List ℕ) → bytes_eq other (addressed step).0 ≡ false → after.at other ≡ before.at other
   pub others_stand : KeepsOthers M (addressed step).0 before.log.records after.log.records
 
--- the tenants and the log's records are as they were, and the count of the device's failures never falls
+-- the tenants and the log's records are as they were, and so is the count of the device's failures
 pub record HoldsAsBefore {K : Type 0} (before after : Holding K) : Type 0 where
   pub tenants : (tenant : List ℕ) → after.at tenant ≡ before.at tenant
   pub order : after.names ≡ before.names
   pub records : after.log.records ≡ before.log.records
   pub up : before.log.failures ≤ after.log.failures
+  pub failures : after.log.failures ≡ before.log.failures
 
 -- ---- the whole book
 
--- the tenants and the log's records are what the history makes of them, and of their past the tenants keep what the rules leave
+-- the tenants and the log's records are what the history makes of them, and of their past the tenants keep what the
+-- rules leave
 pub record IsReplay {S : Type 0} (M : Meaning S) (book : Holding (TenantState S)) (history : List Entry) : Type 0 where
   pub stands : (tenant : List ℕ) → StandsAt M tenant (book.at tenant) (world_of M tenant history) book.log.records
   pub keeps : (tenant : List ℕ) → KeepsAt (book.at tenant) (keeping_after M tenant history)
@@ -158,7 +170,8 @@ pub record IsReplay {S : Type 0} (M : Meaning S) (book : Holding (TenantState S)
   pub recorded : IsRecordedIn M history book.log.records
   pub device : CountsDevice history book.log.failures
 
--- Where an entry was added, what the store said during its step is honest, where the log grew by these records (it may have forgotten others).
+-- Where an entry was added, what the store said during its step is honest, where the log grew by these records (it may
+-- have forgotten others).
 abbrev pub IsSaidHonestly : {S : Type 0} → Meaning S → Ledger → Ledger → Type 0
 IsSaidHonestly M before after =
     (e : Entry) → after.history ≡ before.history ++ e ∷ []

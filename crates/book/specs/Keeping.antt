@@ -1,12 +1,14 @@
 -- What a book keeps of the past of each tenant.
-use Rattle.std.specs.Prelude.{ℕ, List, Option, Some, None}
+use Rattle.std.specs.Prelude.{◌≡◌, ℕ, List, MatchOption, Option, Some, None, slice_get}
 use Rattle.model.specs.Alone.{Event}
 use Rattle.model.specs.Handler.{Meaning}
 use Rattle.model.specs.History.{own, pairs}
 use Rattle.model.specs.Keeping.{Keeping, Shelf, kept_at, keeping, keeping_on}
-use Rattle.model.specs.World.{World}
+use Rattle.model.specs.World.{Member, World}
 use Rattle.model.specs.declared.kept.Kept.{Kept as Amount}
 use Rattle.model.specs.declared.replies.Entry.{Entry}
+use Rattle.tenant.specs.declared.footprint.Footprint.{Footprint}
+use Rattle.tenant.specs.Footprint.{IsFootprint}
 use Rattle.tenant.specs.Keeping.{KeepsPast}
 use Rattle.tenant.specs.Kept.{TenantState}
 
@@ -17,6 +19,17 @@ keeping_after M tenant history = keeping M (own tenant (pairs history))
 -- how much they leave of this unit's past, if tenant and unit are there
 abbrev pub kept_after : {S : Type 0} → Meaning S → List ℕ → List Entry → ℕ → Option Amount
 kept_after M tenant history unit = kept_at M (keeping_after M tenant history) unit
+
+-- A unit of this world is there just where a footprint is told, which is that of the unit with these checkpoints.
+abbrev pub FootprintIn : {S : Type 0} → Meaning S → Option World → List Shelf → ℕ → Option Footprint → Type 0
+FootprintIn M None shelves u found = found ≡ None
+FootprintIn M (Some w) shelves u found = MatchOption found (slice_get w.members u ≡ None) (λ f. (m : Member) (s : Shelf)
+    → slice_get w.members u ≡ Some m → slice_get shelves u ≡ Some s → IsFootprint M w u m s f)
+
+-- So it is of the tenant's world after these entries, with the checkpoints that they leave.
+abbrev pub FootprintAfter : {S : Type 0} → Meaning S → List ℕ → List Entry → ℕ → Option Footprint → Type 0
+FootprintAfter M tenant history u found =
+    let k = keeping_after M tenant history in FootprintIn M k.world k.shelves u found
 
 -- the tenant, if there is one, keeps of its past what leaves it these checkpoints
 abbrev pub KeepsIn : {S : Type 0} → Option (TenantState S) → Option World → List Shelf → Type 0

@@ -1,6 +1,6 @@
 //! The work of one step, whichever the tenant.
 
-ghost use Rattle.std.specs.Prelude.{◌≡◌, ◌≤◌, [], ◌∷◌, ◌++◌, ℕ, List, IfOk, IfNone, IfSome, OnOk, OnErr, Option, None, Some, false, bytes_eq};
+ghost use Rattle.std.specs.Prelude.{◌≡◌, ◌≤◌, [], ◌∷◌, ◌++◌, ℕ, List, IfOk, IfNone, IfSome, IsOk, OnOk, OnErr, Option, None, Some, false, bytes_eq};
 ghost use Rattle.indexmap.specs.IndexMap.{IsUnchanged, get, keys};
 ghost use Rattle.model.specs.Addresses.{addressed};
 ghost use Rattle.model.specs.World.{World};
@@ -146,8 +146,10 @@ fn answer_open<H: Handler, S: Store>(
         → StandsAt H.meaning name.now (Some tenant.old) w log.old.records → opened_by name.now step a.reply ≡ []) }
     ensures others_stand { KeepsOthers H.meaning name.now log.old.records log.new.records }
     ensures up { log.old.failures ≤ log.new.failures }
+    ensures kill { (unit : ℕ) → step ≡ TenantStep.Kill unit → IsOk result }
     ensures err { OnErr result (tenant.new ≡ tenant.old) }
     ensures err_log { OnErr result (log.new.records ≡ log.old.records) }
+    ensures err_failures { OnErr result (log.new.failures ≡ log.old.failures) }
     ensures texts { KeepsTexts tenant.old → KeepsTexts tenant.new }
 {
     tenant.step(alloc, handler, name, step, log)
@@ -168,6 +170,7 @@ fn answer_unopened<H: Handler>(
         → DidAt H.meaning name.now None step a.said a.reply (holding tenants.old log) (holding tenants.new log)) }
     ensures others { (t : List ℕ) → bytes_eq t name.now ≡ false
         → get bytes_eq tenants.new t ≡ get bytes_eq tenants.old t }
+    ensures kill { (unit : ℕ) → step ≡ TenantStep.Kill unit → IsOk result }
     ensures err { OnErr result (IsUnchanged tenants.old tenants.new) }
     ensures texts { KeepTexts (get bytes_eq tenants.old) → KeepTexts (get bytes_eq tenants.new) }
 {
@@ -181,7 +184,18 @@ fn answer_unopened<H: Handler>(
     }
 }
 
-/// Does a step of any tenant. Where no memory was found nothing is changed.
+/// The step without the name of its tenant. `NoMemory` comes where its texts can't be copied, which a kill has none of.
+fn step_within(step: &Step) -> Result<TenantStep, NoMemory>
+    ensures same { IfOk result (λ s. s ≡ (addressed step.now).1) }
+    ensures kill { (tenant : List ℕ) (unit : ℕ) → step.now ≡ Step.Kill tenant unit → IsOk result }
+{
+    match step {
+        Step::Kill { unit, .. } => Ok(TenantStep::Kill { unit: *unit }),
+        _ => step.tenant_step(),
+    }
+}
+
+/// Does a step of any tenant. Where no memory was found nothing is changed; a kill takes none.
 pub(crate) fn answer<H: Handler, S: Store>(
     alloc: Global,
     handler: &H,
@@ -192,10 +206,11 @@ pub(crate) fn answer<H: Handler, S: Store>(
     ensures kept { IfOk result (λ a. a.kept ≡ a.reply) }
     ensures answered { IfOk result (λ a.
         IsAnswered H.meaning step.now a.said a.reply (holding tenants.old log.old) (holding tenants.new log.new)) }
+    ensures kill { (tenant : List ℕ) (unit : ℕ) → step.now ≡ Step.Kill tenant unit → IsOk result }
     ensures err { OnErr result (HoldsAsBefore (holding tenants.old log.old) (holding tenants.new log.new)) }
     ensures texts { KeepTexts (get bytes_eq tenants.old) → KeepTexts (get bytes_eq tenants.new) }
 {
-    let own_step = step.tenant_step()?;
+    let own_step = step_within(step)?;
     let name = step.tenant();
     if let Some(tenant) = tenants.get_mut(name) {
         return answer_open(alloc, handler, tenant, name, own_step, log);
@@ -266,6 +281,7 @@ fn answer_open_with<H: Handler, S: Store>(
     ensures stale_log { IfOk result (λ o. IfNone o (log.new ≡ log.old)) }
     ensures err { OnErr result (tenant.new ≡ tenant.old) }
     ensures err_log { OnErr result (log.new.records ≡ log.old.records) }
+    ensures err_failures { OnErr result (log.new.failures ≡ log.old.failures) }
     ensures texts { KeepsTexts tenant.old → KeepsTexts tenant.new }
 {
     tenant.step_with(alloc, handler, name, step, worked, log)

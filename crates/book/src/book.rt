@@ -7,7 +7,7 @@ ghost use Rattle.model.specs.declared.replies.Who.TheVariants.{Caller};
 ghost use Rattle.book.specs.Certificates.{CertifiesAt, IsHeadline, certificate_at, seats_at};
 ghost use Rattle.book.specs.Commits.{Commits, needed};
 ghost use Rattle.book.specs.Entries.{CountsDevice, IsEntered};
-ghost use Rattle.book.specs.Keeping.{kept_after};
+ghost use Rattle.book.specs.Keeping.{FootprintAfter, kept_after};
 ghost use Rattle.book.specs.Standing.{IsHostOf};
 ghost use Rattle.book.specs.History.{IsIsolated, IsRecordedIn, IsSaidHonestly, Ran, entries_of, opened, released_at, table_at, world_of};
 
@@ -19,7 +19,7 @@ use model::{Entry, Kept, Move, NoMemory, Reply, Row, Seat, Step, TenantName, Tex
 use shared_log::Store;
 use std::alloc::Global;
 use std::marker::Model;
-use tenant::Answer;
+use tenant::{Answer, Footprint};
 
 /// A host of all tenants with the log of all of them, and the history of their steps. Contracts see a book as its
 /// history and its log. It is always the replay of its history.
@@ -208,6 +208,14 @@ impl<H: Handler, S: Store> Book<H, S> {
         ensures { result ≡ kept_after H.meaning tenant.now self.now.history unit }
     {
         self.host.kept(tenant, unit)
+    }
+
+    /// How long the lists are that the book keeps of a unit of the tenant beside its history, if the tenant is open and
+    /// has the unit. Takes no memory, and time by the number of its letters.
+    pub fn footprint(&self, tenant: &TenantName, unit: Unit) -> Option<Footprint>
+        ensures { FootprintAfter H.meaning tenant.now self.now.history unit result }
+    {
+        self.host.footprint(tenant, unit)
     }
 }
 

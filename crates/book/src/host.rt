@@ -1,6 +1,6 @@
 //! All tenants, without a history.
 
-ghost use Rattle.std.specs.Prelude.{◌≡◌, ◌≤◌, [], IfNone, IfOk, IfSome, MatchOption, OnErr, List, None, Some};
+ghost use Rattle.std.specs.Prelude.{◌≡◌, ◌≤◌, [], IfNone, IfOk, IfSome, IsOk, MatchOption, OnErr, List, None, Some, ℕ};
 ghost use Rattle.model.specs.Addresses.{addressed};
 ghost use Rattle.model.specs.declared.replies.Entry.{Entry};
 ghost use Rattle.model.specs.declared.replies.Who.{Who};
@@ -9,8 +9,9 @@ ghost use Rattle.tenant.specs.Stands.{StandsAt};
 ghost use Rattle.model.specs.World.{World};
 ghost use Rattle.std.specs.Prelude.{Option};
 ghost use Rattle.book.specs.Commits.{needed, needs_at};
+ghost use Rattle.book.specs.Entries.{IsAdded};
 ghost use Rattle.book.specs.History.{HoldsAsBefore, IsAnswered, opened, receiver_at, world_of};
-ghost use Rattle.book.specs.Keeping.{kept_after};
+ghost use Rattle.book.specs.Keeping.{FootprintAfter, kept_after};
 ghost use Rattle.book.specs.Standing.{Carries, KeepTexts, ReplaysAsWell, CommitsHonestly, EntersHonestly, HostReplays, IsHostOf, held_by};
 
 use crate::answer::{Tenants, answer, answer_with, ask, give_up, memory_reply};
@@ -21,7 +22,7 @@ use model::{Kept, Letter, NoMemory, Reply, Step, TenantName, Unit};
 use shared_log::{SharedLog, Store};
 use std::alloc::Global;
 use std::marker::Model;
-use tenant::{Answer, Tenant};
+use tenant::{Answer, Footprint, Tenant};
 
 /// All tenants, and the log of all of them. It stores no history of their steps. Contracts see a host as its tenants
 /// and its log, and say what is true of each history that it is the replay of: a new host is that of the empty one,
@@ -75,6 +76,7 @@ impl<H: Handler, S: Store> Host<H, S> {
     pub(crate) fn answer(&mut self, step: &Step) -> Result<Answer, NoMemory>
         ensures kept { IfOk result (λ a. a.kept ≡ a.reply) }
         ensures answered { IfOk result (λ a. IsAnswered H.meaning step.now a.said a.reply (held_by self.old) (held_by self.new)) }
+        ensures kill { (tenant : List ℕ) (unit : ℕ) → step.now ≡ Step.Kill tenant unit → IsOk result }
         ensures err { OnErr result (HoldsAsBefore (held_by self.old) (held_by self.new)) }
         ensures texts { KeepTexts (held_by self.old).at → KeepTexts (held_by self.new).at }
     {
@@ -116,9 +118,13 @@ impl<H: Handler, S: Store> Host<H, S> {
     }
 
     /// Does a step. Whichever book the host stood for, and whoever gave the step: it is entered there with its reply,
-    /// and the host stands for that book then; or there was no memory for it, and tenants and records are as they were.
+    /// and the host stands for that book then; or there was no memory for it, and tenants and records are as they were. A
+    /// kill takes no memory, and is always entered.
     pub fn step(&mut self, step: Step) -> Reply
-        ensures { (who : Who) → Carries (IsHostOf H.meaning) (EntersHonestly H.meaning who step result) self.old self.new }
+        ensures entered { (who : Who)
+            → Carries (IsHostOf H.meaning) (EntersHonestly H.meaning who step result) self.old self.new }
+        ensures kill { (who : Who) (tenant : List ℕ) (unit : ℕ) → step ≡ Step.Kill tenant unit
+            → Carries (IsHostOf H.meaning) (λ before after. IsAdded before who step result after) self.old self.new }
     {
         match self.answer(&step) {
             Err(_) => memory_reply(&step),
@@ -197,6 +203,19 @@ impl<H: Handler, S: Store> Host<H, S> {
     {
         match self.tenants.get(tenant) {
             Some(open) => open.kept(unit),
+            None => None,
+        }
+    }
+
+    /// How long the lists are that the host keeps of a unit of the tenant, if the tenant is open and has the unit. None
+    /// of them grows with the steps done, but by what the tenant's quotas and limits allow, the intervals behind the
+    /// unit's base, and what it counts (`released`). Takes no memory, and time by the number of its letters.
+    pub fn footprint(&self, tenant: &TenantName, unit: Unit) -> Option<Footprint>
+        ensures { (history : List Entry) → HostReplays H.meaning self.now history
+            → FootprintAfter H.meaning tenant.now history unit result }
+    {
+        match self.tenants.get(tenant) {
+            Some(open) => open.footprint(unit),
             None => None,
         }
     }

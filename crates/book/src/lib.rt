@@ -55,3 +55,4 @@ pub use book::{Book, headline, isolated};
 pub use committed::Committed;
 pub use host::Host;
 pub use model::{End, Entry, Kept, Move, Reply, Said, Step, Who};
+pub use tenant::Footprint;

@@ -1,5 +1,6 @@
 -- A shelf rises after each call.
-use Rattle.std.proofs.Common.{◌≡◌, ◌≢◌, inl, inr, refl, ◌∙◌, ap, ℕ, suc, ◌+◌, ◌<◌, Bool, true, false, cond, ◌||◌, List, [], ◌∷◌, ◌++◌, length, take, drop, arith, length-append}
+use Rattle.std.proofs.Common.{◌≡◌, ◌≢◌, inl, inr, refl, ◌∙◌, ap, ℕ, suc, ◌+◌, ◌<◌, Bool, true, false, cond, ◌||◌, List}
+use Rattle.std.proofs.Common.{[], ◌∷◌, ◌++◌, length, take, drop, arith, length-append}
 use Rattle.std.specs.Prelude.{Option, Some, None, slice_get, nat_lt}
 use Rattle.std.specs.List.{list_any, remove}
 use Rattle.std.specs.Option.{option_map_or}
@@ -13,43 +14,55 @@ pub rises_none : {S : Type 0} → Rises {S = S} None []
 rises_none = record { above = λ b i x e f. cc; rising = λ i j x y h e f. cc }
 
 -- a front of it
-pub rises_take : {S : Type 0} (base : Option (Snapshot S)) (others : List (Snapshot S)) (n : ℕ) → Rises base others → Rises base (take n others)
+pub rises_take : {S : Type 0} (base : Option (Snapshot S)) (others : List (Snapshot S)) (n : ℕ)
+    → Rises base others → Rises base (take n others)
 rises_take base others n r = record {
   above = λ b i x e f. r.above b i x e (get_take others n i x f).0;
   rising = λ i j x y h e f. r.rising i j x y h (get_take others n i x e).0 (get_take others n j y f).0;
 }
 
 -- what is behind one of the others, with that one as the base
-pub rises_based : {S : Type 0} (base : Option (Snapshot S)) (others : List (Snapshot S)) (at : ℕ) (b : Snapshot S) → slice_get others at ≡ Some b → Rises base others → Rises (Some b) (drop (at + 1) others)
+pub rises_based : {S : Type 0} (base : Option (Snapshot S)) (others : List (Snapshot S)) (at : ℕ) (b : Snapshot S)
+    → slice_get others at ≡ Some b → Rises base others → Rises (Some b) (drop (at + 1) others)
 rises_based base others at b found r = record {
-  above = λ c i x e f. let is : b ≡ c = same_Some b c e in r.rising at ((at + 1) + i) c x (omega arith) (found ∙ ap Some is) (get_drop others (at + 1) i x f);
-  rising = λ i j x y h e f. r.rising ((at + 1) + i) ((at + 1) + j) x y (omega arith) (get_drop others (at + 1) i x e) (get_drop others (at + 1) j y f);
+  above = λ c i x e f. let is : b ≡ c = same_Some b c e in
+      r.rising at ((at + 1) + i) c x (omega arith) (found ∙ ap Some is) (get_drop others (at + 1) i x f);
+  rising = λ i j x y h e f. r.rising
+      ((at + 1) + i) ((at + 1) + j) x y (omega arith) (get_drop others (at + 1) i x e) (get_drop others (at + 1) j y f);
 }
 
-pub remove_first : {X : Type 0} (xs : List X) (i : ℕ) (x : X) → slice_get (remove xs 0) i ≡ Some x → slice_get xs (suc i) ≡ Some x
+pub remove_first : {X : Type 0} (xs : List X) (i : ℕ) (x : X)
+    → slice_get (remove xs 0) i ≡ Some x → slice_get xs (suc i) ≡ Some x
 remove_first [] i x e = cc
 remove_first (y ∷ xs) i x e = e
 
 -- the others once there is room
-making_room_at : {S : Type 0} (others : List (Snapshot S)) (i : ℕ) (x : Snapshot S) → slice_get (making_room others) i ≡ Some x → slice_get others (i + (cond (nat_lt (length others) 64) 0 1)) ≡ Some x
+making_room_at : {S : Type 0} (others : List (Snapshot S)) (i : ℕ) (x : Snapshot S)
+    → slice_get (making_room others) i ≡ Some x → slice_get others (i + (cond (nat_lt (length others) 64) 0 1)) ≡ Some x
 making_room_at others i x e = go (nat_lt (length others) 64) e
   where
-    go : (b : Bool) → slice_get (cond b others (remove others 0)) i ≡ Some x → slice_get others (i + cond b 0 1) ≡ Some x
+    go : (b : Bool) → slice_get (cond b others (remove others 0)) i ≡ Some x
+        → slice_get others (i + cond b 0 1) ≡ Some x
     go true f = let k : i + 0 ≡ i = omega arith in rw k f
     go false f = let k : i + 1 ≡ suc i = omega arith in rw k (remove_first others i x f)
 
 -- a snapshot that is not at the index of another
-not_at : {S : Type 0} (s : Shelved S) (index : ℕ) (x : Snapshot S) → has_index s index ≡ false → IsShelved s x → x.index ≢ index
-not_at s index x none (inl e) is = absurd (let t : option_map_or (is_at index) s.base false ≡ true = rw e (true_eq x.index index is) in let k : has_index s index ≡ true = rw t refl in cc (k, none))
-not_at s index x none (inr t) is = absurd (go (option_map_or (is_at index) s.base false) (at_any (is_at index) s.others t.0 x t.1 (true_eq x.index index is)) none)
+not_at : {S : Type 0} (s : Shelved S) (index : ℕ) (x : Snapshot S)
+    → has_index s index ≡ false → IsShelved s x → x.index ≢ index
+not_at s index x none (inl e) is = absurd (let t : option_map_or (is_at index) s.base false ≡ true =
+    rw e (true_eq x.index index is) in let k : has_index s index ≡ true = rw t refl in cc (k, none))
+not_at s index x none (inr t) is = absurd (go (option_map_or (is_at index) s.base false)
+    (at_any (is_at index) s.others t.0 x t.1 (true_eq x.index index is)) none)
   where
     go : (b : Bool) → list_any (is_at index) s.others ≡ true → (b || list_any (is_at index) s.others) ≡ false → ⊥
     go true p q = cc
     go false p q = cc (p, q)
 
 -- one more snapshot above all
-pub rises_put : {S : Type 0} (base : Option (Snapshot S)) (others now : List (Snapshot S)) (z : Snapshot S) → now ≡ making_room others ++ z ∷ []
-    → has_index (record { base = base; others = others }) z.index ≡ false → IsTop (record { base = base; others = others }) z.index → Rises base others → Rises base now
+pub rises_put : {S : Type 0} (base : Option (Snapshot S)) (others now : List (Snapshot S)) (z : Snapshot S)
+    → now ≡ making_room others ++ z ∷ []
+    → has_index (record { base = base; others = others }) z.index ≡ false
+    → IsTop (record { base = base; others = others }) z.index → Rises base others → Rises base now
 rises_put {S} base others now z is none top r = rw is (record { above = above; rising = rising })
   where
     s : Shelved S
@@ -58,17 +71,21 @@ rises_put {S} base others now z is none top r = rw is (record { above = above; r
     below : (x : Snapshot S) → IsShelved s x → x.index < z.index
     below x there = let n = not_at s z.index x none there in let t = top x there in omega (arith, n, t)
 
-    above : (b : Snapshot S) (i : ℕ) (x : Snapshot S) → base ≡ Some b → slice_get (making_room others ++ z ∷ []) i ≡ Some x → b.index < x.index
+    above : (b : Snapshot S) (i : ℕ) (x : Snapshot S)
+        → base ≡ Some b → slice_get (making_room others ++ z ∷ []) i ≡ Some x → b.index < x.index
     above b i x e f = elim (get_append (making_room others) z x i f) [
       | inl h ↦ r.above b (i + cond (nat_lt (length others) 64) 0 1) x e (making_room_at others i x h)
       | inr h ↦ rw h.1 (below b (inl e))
     ]
 
-    rising : (i j : ℕ) (x y : Snapshot S) → i < j → slice_get (making_room others ++ z ∷ []) i ≡ Some x → slice_get (making_room others ++ z ∷ []) j ≡ Some y → x.index < y.index
+    rising : (i j : ℕ) (x y : Snapshot S) → i < j → slice_get (making_room others ++ z ∷ []) i ≡ Some x
+        → slice_get (making_room others ++ z ∷ []) j ≡ Some y → x.index < y.index
     rising i j x y h e f = elim (get_append (making_room others) z x i e) [
-      | inr p ↦ absurd (let k = slice_get_within (making_room others ++ z ∷ []) j y f in let l = length-append (making_room others) (z ∷ []) in omega (arith, p.0, k, h, l))
+      | inr p ↦ absurd (let k = slice_get_within (making_room others ++ z ∷ []) j y f in
+          let l = length-append (making_room others) (z ∷ []) in omega (arith, p.0, k, h, l))
       | inl p ↦ elim (get_append (making_room others) z y j f) [
-        | inl q ↦ r.rising (i + cond (nat_lt (length others) 64) 0 1) (j + cond (nat_lt (length others) 64) 0 1) x y (omega arith) (making_room_at others i x p) (making_room_at others j y q)
+        | inl q ↦ r.rising (i + cond (nat_lt (length others) 64) 0 1) (j + cond (nat_lt (length others) 64) 0 1)
+            x y (omega arith) (making_room_at others i x p) (making_room_at others j y q)
         | inr q ↦ rw q.1 (below x (inr (i + cond (nat_lt (length others) 64) 0 1, making_room_at others i x p)))
       ]
     ]

@@ -1,5 +1,6 @@
 -- What the calls on a shelf give.
-use Rattle.std.specs.Prelude.{◌≡◌, ◌⊎◌, ℕ, ◌+◌, ◌<◌, ◌≤◌, Bool, true, false, cond, ◌&&◌, ◌||◌, ◌==◌, nat_lt, nat_le, List, [], ◌∷◌, ◌++◌, length, drop, Option, Some, None, option_and_then, slice_get}
+use Rattle.std.specs.Prelude.{◌≡◌, ◌⊎◌, ℕ, ◌+◌, ◌<◌, ◌≤◌, Bool, true, false, cond, ◌&&◌, ◌||◌, ◌==◌, nat_lt, nat_le}
+use Rattle.std.specs.Prelude.{List, [], ◌∷◌, ◌++◌, length, drop, Option, Some, None, option_and_then, slice_get}
 use Rattle.std.specs.List.{fold, list_all, list_any, position_or_len, remove, take_while}
 use Rattle.std.specs.Option.{option_map_or}
 use Rattle.model.specs.declared.limits.TheConstants.{MAX_CHECKPOINTS}

@@ -39,6 +39,16 @@ impl<S: Drop> Shelf<S> {
         }
     }
 
+    /// A shelf with this snapshot as its base, and no other. Takes no memory.
+    pub fn with_base(alloc: Global, base: Snapshot<S>) -> Shelf<S>
+        ensures { result ≡ record { base = Some base; others = [] } }
+    {
+        Shelf {
+            base: Some(base),
+            others: Vec::new(alloc),
+        }
+    }
+
     /// How many snapshots there are beside the base.
     pub fn len(&self) -> usize
         ensures { result ≡ length self.now.others }

@@ -26,18 +26,26 @@ seven_pieces o a b d e f g h x1 x2 x3 x4 x5 x6 x7 p1 p2 p3 p4 p5 p6 p7 =
     (two_pieces x5 g h x6 x7 p6 p7)))))
 
 pub output_line_parts : (tenant : List ℕ) (unit : ℕ) (text : List ℕ) → output_line tenant unit text
-    ≡ codes "{\"output\":" ++ (quoted text ++ (codes ",\"tenant\":" ++ (quoted tenant ++ (codes ",\"unit\":" ++ (decimal unit ++ codes "}\n")))))
+    ≡ codes "{\"output\":" ++ (quoted text
+    ++ (codes ",\"tenant\":" ++ (quoted tenant ++ (codes ",\"unit\":" ++ (decimal unit ++ codes "}\n")))))
 unfolding output_line data_text escape_byte
 output_line_parts tenant unit text =
-    ap (λ (xs : List ℕ). codes "{\"output\":" ++ xs) (append_assoc (quoted text) (codes ",\"tenant\":" ++ (quoted tenant ++ (codes ",\"unit\":" ++ (decimal unit ++ codes "}")))) (10 ∷ [])
-    ∙ ap (λ (xs : List ℕ). quoted text ++ (codes ",\"tenant\":" ++ xs)) (append_assoc (quoted tenant) (codes ",\"unit\":" ++ (decimal unit ++ codes "}")) (10 ∷ [])
-    ∙ ap (λ (xs : List ℕ). quoted tenant ++ (codes ",\"unit\":" ++ xs)) (append_assoc (decimal unit) (codes "}") (10 ∷ []))))
+    ap (λ (xs : List ℕ). codes "{\"output\":" ++ xs) (append_assoc (quoted text)
+    (codes ",\"tenant\":" ++ (quoted tenant ++ (codes ",\"unit\":" ++ (decimal unit ++ codes "}")))) (10 ∷ [])
+    ∙ ap (λ (xs : List ℕ). quoted text ++ (codes ",\"tenant\":" ++ xs))
+    (append_assoc (quoted tenant) (codes ",\"unit\":" ++ (decimal unit ++ codes "}")) (10 ∷ [])
+    ∙ ap (λ (xs : List ℕ). quoted tenant ++ (codes ",\"unit\":" ++ xs))
+    (append_assoc (decimal unit) (codes "}") (10 ∷ []))))
 
 -- a line that was written piece by piece, in an empty buffer
 pub line_written : (tenant : List ℕ) (unit : ℕ) (text room x1 x2 x3 x4 x5 x6 x7 : List ℕ) → room ≡ []
-    → x1 ≡ room ++ codes "{\"output\":" → x2 ≡ x1 ++ quoted text → x3 ≡ x2 ++ codes ",\"tenant\":" → x4 ≡ x3 ++ quoted tenant
-    → x5 ≡ x4 ++ codes ",\"unit\":" → x6 ≡ x5 ++ decimal unit → x7 ≡ x6 ++ codes "}\n" → x7 ≡ output_line tenant unit text
+    → x1 ≡ room ++ codes "{\"output\":"
+    → x2 ≡ x1 ++ quoted text → x3 ≡ x2 ++ codes ",\"tenant\":" → x4 ≡ x3 ++ quoted tenant
+    → x5 ≡ x4 ++ codes ",\"unit\":" → x6 ≡ x5 ++ decimal unit → x7 ≡ x6 ++ codes "}\n"
+    → x7 ≡ output_line tenant unit text
 line_written tenant unit text room x1 x2 x3 x4 x5 x6 x7 empty p1 p2 p3 p4 p5 p6 p7 =
-    seven_pieces room (codes "{\"output\":") (quoted text) (codes ",\"tenant\":") (quoted tenant) (codes ",\"unit\":") (decimal unit) (codes "}\n") x1 x2 x3 x4 x5 x6 x7 p1 p2 p3 p4 p5 p6 p7
-    ∙ ap (λ t. t ++ (codes "{\"output\":" ++ (quoted text ++ (codes ",\"tenant\":" ++ (quoted tenant ++ (codes ",\"unit\":" ++ (decimal unit ++ codes "}\n"))))))) empty
+    seven_pieces room (codes "{\"output\":") (quoted text) (codes ",\"tenant\":")
+    (quoted tenant) (codes ",\"unit\":") (decimal unit) (codes "}\n") x1 x2 x3 x4 x5 x6 x7 p1 p2 p3 p4 p5 p6 p7
+    ∙ ap (λ t. t ++ (codes "{\"output\":" ++ (quoted text ++ (codes ",\"tenant\":"
+    ++ (quoted tenant ++ (codes ",\"unit\":" ++ (decimal unit ++ codes "}\n"))))))) empty
     ∙ sym (output_line_parts tenant unit text)

@@ -1,5 +1,6 @@
 -- What driving an input writes, and what whoever does the steps is then: a book, or a host.
-use Rattle.std.specs.Prelude.{◌≡◌, ◌⊎◌, Bool, true, false, ℕ, List, [], ◌∷◌, ◌++◌, length, codes, Option, Some, None, Result, Ok, Err, IfSome, flat_map}
+use Rattle.std.specs.Prelude.{◌≡◌, ◌⊎◌, Bool, true, false, ℕ, List, [], ◌∷◌, ◌++◌, length, codes, Option, Some, None}
+use Rattle.std.specs.Prelude.{Result, Ok, Err, IfSome, flat_map}
 use Rattle.std.specs.Io.KnownBytes.{Appends, Keeps, IsAtEnd}
 use Rattle.serde_json.specs.Data.{Data, string, object, no_members, member}
 use Rattle.model.specs.Addresses.{addressed}
@@ -21,7 +22,8 @@ use Rattle.lines.specs.Serving.{AnsweredLineBy, EntersStep, line_step, reply_lin
 use Rattle.lines.specs.declared.fault.ServeFault.{ServeFault}
 use Rattle.lines.specs.declared.fault.ServeFault.TheVariants.{Read, Write, NoMemory}
 use Rattle.driver.specs.declared.chore.Chore.{Chore}
-use Rattle.driver.specs.declared.chore.Chore.TheVariants.{Deliver as DeliverOne, Flush as FlushOne, Notice as NoticeOne, Release as ReleaseOne}
+use Rattle.driver.specs.declared.chore.Chore.TheVariants.{Deliver as DeliverOne, Flush as FlushOne, Notice as NoticeOne}
+use Rattle.driver.specs.declared.chore.Chore.TheVariants.{Release as ReleaseOne}
 
 -- ---- the line of a text that left
 
@@ -122,7 +124,8 @@ abbrev pub round_text : Round → List ℕ
 round_text round = reply_line round.reply ++ flat_map lines_told round.steps
 
 -- the driver carries on for the tenant of the line's step, and not behind a line that is none
-abbrev pub CarriesOn : {B : Type 0} → (B → Step → Reply → B → Type 0) → Option Step → B → List (Step × Reply) → B → Type 0
+abbrev pub CarriesOn : {B : Type 0}
+    → (B → Step → Reply → B → Type 0) → Option Step → B → List (Step × Reply) → B → Type 0
 CarriesOn Does None old steps new = (steps ≡ []) × (new ≡ old)
 CarriesOn Does (Some step) old steps new = Drives Does (addressed step).0 old steps new
 
@@ -147,8 +150,10 @@ DroveAllBy Driving input out out' old new count =
     (lines : List (List ℕ)) × (rounds : List Round) × IfSome input (λ all. lines_of all ≡ lines)
     × Driving lines old rounds new × Appends out out' (flat_map round_text rounds) × (length lines ≡ count)
 
--- Driving ended early: the lines read so far have their rounds, of which the last may not be done; what was taken of the input behind them is a part of one line, and what is written is a beginning of the rounds.
-abbrev pub DroveSomeBy : {B : Type 0} → (List (List ℕ) → B → List Round → B → Type 0) → Option (List ℕ) → Option (List ℕ)
+-- Driving ended early: the lines read so far have their rounds, of which the last may not be done; what was taken of
+-- the input behind them is a part of one line, and what is written is a beginning of the rounds.
+abbrev pub DroveSomeBy : {B : Type 0}
+    → (List (List ℕ) → B → List Round → B → Type 0) → Option (List ℕ) → Option (List ℕ)
     → Option (List ℕ) → Option (List ℕ) → B → B → Type 0
 DroveSomeBy Driving input input' out out' old new =
     (lines : List (List ℕ)) × (rounds : List Round) × (rest : Option (List ℕ)) × LinesRead input rest lines

@@ -60,4 +60,5 @@ abbrev pub BookReleasedIsTold : {S : Type 0} → Meaning S → Type 0
 BookReleasedIsTold M =
     (lines : List (List ℕ)) (rounds : List Round) (old new : Ledger)
     → old.history ≡ [] → BookDrives lines old rounds new → IsLegal M new.history
-    → (tenant : List ℕ) (unit : ℕ) → texts_in (released_at (world_of M tenant new.history) unit) ≡ told tenant unit lines rounds
+    → (tenant : List ℕ) (unit : ℕ)
+    → texts_in (released_at (world_of M tenant new.history) unit) ≡ told tenant unit lines rounds

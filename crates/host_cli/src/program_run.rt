@@ -1,24 +1,22 @@
 //! What the words ask for, done.
 
 use crate::journals::journal_as_asked;
+use crate::run_asked::{run_as_asked, shows_bar};
 use drawings::draw_on;
 use feed_runs::feeds_on;
-use files::{LogFile, Owner, Takeover, fill_descriptors, make_log, open_journal};
+use files::fill_descriptors;
 use handler::Handler;
 use images::load_on;
-use log::{LevelFilter, Log, Logged, error, info, warn};
-use runs::{Hosted, run_journaled, run_on};
-use shared_log::MemoryStore;
-use stable_log::WriterStore;
+use log::{LevelFilter, Log, Logged, error};
 use std::env::Env;
 use std::fs::{File, Files};
 use std::io::{self, ErrorKind, Input};
 use std::sync::Wait;
 use std::thread::Threads;
 use std::time::Clock;
-use terminal::{Bar, Diagnostics, Patient, Plural, Progress, Watched, input_size};
+use terminal::Diagnostics;
 use views::{status_on, why_on};
-use words::{Asked, FeedsWords, Pages, Program, RunWords, Verbosity, read_words};
+use words::{Asked, FeedsWords, Pages, Program, read_words};
 
 /// Which standard streams are terminals.
 #[derive(Clone, Copy, Debug)]
@@ -136,109 +134,6 @@ fn bad_words<L: Log>(told: &L, program: &Program<'_>, error: &io::Error) -> u8 {
     } else {
         error!(told; "there is no memory for the words: free some, and run again");
         1
-    }
-}
-
-/// Whether a bar may be drawn.
-fn shows_bar(terminals: Terminals, verbosity: Verbosity) -> bool {
-    verbosity != Verbosity::Quiet && terminals.errors
-}
-
-/// `run` or `drive`: with a log that is written, where a file is named for it, or with one in memory. Reasons are told to a
-/// terminal unasked.
-fn run_as_asked<
-    R: Files<File = File> + Clock + Print + Eprint + Input + AllocGlobal,
-    H: Handler + Copy,
->(rt: &R, handler: H, program: &Program<'_>, terminals: Terminals, asked: &RunWords<'_>) -> u8 {
-    let shows = shows_bar(terminals, asked.verbosity);
-    let run = RunWords {
-        explain: asked.explain || shows,
-        ..*asked
-    };
-    let work = if shows { input_size(rt) } else { None };
-    let bar = Bar::telling(
-        rt,
-        Progress {
-            work,
-            report: run.report,
-            counts: run.verbosity == Verbosity::Verbose,
-        },
-    );
-    let diagnostics = Diagnostics {
-        rt,
-        name: program.name,
-        bar: Some(&bar),
-    };
-    let told = Logged::new(rt, run.verbosity.level(), diagnostics);
-    if terminals.input {
-        let name = program.name;
-        let command = if run.drives { "drive" } else { "run" };
-        warn!(&told; "waiting for step lines from the terminal, up to Ctrl-D: `{name} {command} --help` lists them");
-    }
-    let host = Hosted {
-        handler,
-        kinds: program.kinds,
-    };
-    let status = run_watched(rt, &told, host, program, &run, &bar);
-    bar.clear();
-    let pace = bar.pace_so_far();
-    let (lines, rate) = (Plural(pace.lines, "line"), Plural(pace.rate(), "line"));
-    info!(&told; "read {lines} in {} ms, {rate} a second", pace.millis);
-    status
-}
-
-/// `run`, beside a bar.
-fn run_watched<
-    R: Files<File = File> + Clock + Print + Eprint + Input + AllocGlobal,
-    L: Log,
-    H: Handler + Copy,
->(
-    rt: &R,
-    told: &L,
-    host: Hosted<'_, H>,
-    program: &Program<'_>,
-    run: &RunWords<'_>,
-    bar: &Bar<'_, R>,
-) -> u8 {
-    let alloc = rt.alloc();
-    let input = Watched::new(bar, Patient::new(rt, rt.reader()));
-    let output = Patient::new(rt, io::writer(rt));
-    if let Some(path) = run.journal {
-        let owner = owner_of(program);
-        // What a driver writes is counted by its own lines, so that all of the journal's are answered.
-        let from = if run.drives {
-            run.from.map(|_| 0)
-        } else {
-            run.from
-        };
-        let takeover = Takeover {
-            adopt: run.adopt,
-            accept_upgrade: run.accept_upgrade,
-        };
-        return match open_journal(rt, told, alloc, path, &owner, from, takeover) {
-            Ok(journal) => run_journaled(told, alloc, host, input, output, journal, run),
-            Err(status) => status,
-        };
-    }
-    let Some(path) = run.log else {
-        let store = MemoryStore::new(alloc);
-        return run_on(told, alloc, host, input, output, store, run);
-    };
-    match make_log(rt, told, path) {
-        Some(file) => {
-            let store = WriterStore::new(alloc, LogFile::new(told, file));
-            run_on(told, alloc, host, input, output, store, run)
-        }
-        None => 1,
-    }
-}
-
-/// Whose a journal of the program is.
-fn owner_of<'a>(program: &Program<'a>) -> Owner<'a> {
-    Owner {
-        version: program.version,
-        handler: program.handler,
-        handler_version: program.handler_version,
     }
 }
 

@@ -1,5 +1,6 @@
 -- How a table files its rows by unit.
-use Rattle.std.specs.Prelude.{◌≡◌, ℕ, ◌+◌, ◌-◌, ◌<◌, ◌≤◌, Bool, false, cond, ◌||◌, ◌==◌, nat_lt, List, [], ◌∷◌, ◌++◌, length, Option, Some, None, slice_get, slice_index_or, map}
+use Rattle.std.specs.Prelude.{◌≡◌, ℕ, ◌+◌, ◌-◌, ◌<◌, ◌≤◌, Bool, false, cond, ◌||◌, ◌==◌, nat_lt, List, [], ◌∷◌, ◌++◌}
+use Rattle.std.specs.Prelude.{length, Option, Some, None, slice_get, slice_index_or, map}
 use Rattle.model.specs.declared.names.Mark.{Mark}
 use Rattle.model.specs.declared.names.Row.{Row}
 use Rattle.model.specs.World.{incarnation_of}

@@ -33,24 +33,29 @@ is_own_name : (t : List ℕ) → bytes_eq t t ≡ true
 is_own_name t = (bytes_eq-Decides t t).1 refl
 
 module _ {S : Type 0} (M : Meaning S) where
-  world_of-apart : (t : List ℕ) (h : List Entry) (e : Entry) → names t e.step ≡ false → world_of M t (h ++ e ∷ []) ≡ world_of M t h
+  world_of-apart : (t : List ℕ) (h : List Entry) (e : Entry)
+      → names t e.step ≡ false → world_of M t (h ++ e ∷ []) ≡ world_of M t h
   world_of-apart t h e is =
       ap (λ (events : List Event). (alone M events).world)
-      (own-push t h e ∙ ap (λ b. own t (pairs h) ++ map event_of_pair (cond b (pair_of e ∷ []) [])) is ∙ append-nil (own t (pairs h)))
+      (own-push t h e ∙ ap (λ b. own t (pairs h) ++ map event_of_pair (cond b (pair_of e ∷ []) [])) is
+      ∙ append-nil (own t (pairs h)))
 
   -- ---- replies, from some entries on
 
   -- to each tenant the replies are those that it gets alone from its world after the entries before
   abbrev LegalAfter : List Entry → List Entry → Type 0
-  LegalAfter before rest = (t : List ℕ) → replies_to t rest ≡ (course_from M (world_of M t before) (own t (pairs rest))).replies
+  LegalAfter before rest = (t : List ℕ)
+      → replies_to t rest ≡ (course_from M (world_of M t before) (own t (pairs rest))).replies
 
   heads : (x y : Reply) (xs ys : List Reply) → x ∷ xs ≡ y ∷ ys → (x ≡ y) × (xs ≡ ys)
   heads x y xs ys p = (cc, cc)
 
   -- the replies to a tenant that is named
-  legal-head : (t : List ℕ) (before rest : List Entry) (e : Entry) → names t e.step ≡ true → LegalAfter before (e ∷ rest)
+  legal-head : (t : List ℕ) (before rest : List Entry) (e : Entry)
+      → names t e.step ≡ true → LegalAfter before (e ∷ rest)
       → (e.reply ≡ (step M (world_of M t before) (event_of e)).reply)
-      × (replies_to t rest ≡ (course_from M (step M (world_of M t before) (event_of e)).world (own t (pairs rest))).replies)
+      × (replies_to
+      t rest ≡ (course_from M (step M (world_of M t before) (event_of e)).world (own t (pairs rest))).replies)
   legal-head t before rest e is legal =
       let others = filter (λ (x : Entry). names t x.step) rest in
       let others' = filter (λ (p : Step × Said). names t p.0) (pairs rest) in
@@ -60,7 +65,8 @@ module _ {S : Type 0} (M : Meaning S) where
       ∙ legal t
       ∙ ap (λ b. (course_from M w (map event_of_pair (cond b (pair_of e ∷ others') others'))).replies) is)
 
-  legal-apart : (t : List ℕ) (before rest : List Entry) (e : Entry) → names t e.step ≡ false → LegalAfter before (e ∷ rest)
+  legal-apart : (t : List ℕ) (before rest : List Entry) (e : Entry)
+      → names t e.step ≡ false → LegalAfter before (e ∷ rest)
       → replies_to t rest ≡ (course_from M (world_of M t before) (own t (pairs rest))).replies
   legal-apart t before rest e is legal =
       let others = filter (λ (x : Entry). names t x.step) rest in
@@ -70,7 +76,8 @@ module _ {S : Type 0} (M : Meaning S) where
       ∙ legal t
       ∙ ap (λ b. (course_from M w (map event_of_pair (cond b (pair_of e ∷ others') others'))).replies) is
 
-  legal_at : (t : List ℕ) (b : Bool) (before rest : List Entry) (e : Entry) → names t e.step ≡ b → LegalAfter before (e ∷ rest)
+  legal_at : (t : List ℕ) (b : Bool) (before rest : List Entry) (e : Entry)
+      → names t e.step ≡ b → LegalAfter before (e ∷ rest)
       → replies_to t rest ≡ (course_from M (world_of M t (before ++ e ∷ [])) (own t (pairs rest))).replies
   legal_at t true before rest e is legal =
       (legal-head t before rest e is legal).1
@@ -79,7 +86,8 @@ module _ {S : Type 0} (M : Meaning S) where
       legal-apart t before rest e is legal
       ∙ ap (λ w. (course_from M w (own t (pairs rest))).replies) (sym (world_of-apart t before e is))
 
-  legal-tail : (before rest : List Entry) (e : Entry) → LegalAfter before (e ∷ rest) → LegalAfter (before ++ e ∷ []) rest
+  legal-tail : (before rest : List Entry) (e : Entry)
+      → LegalAfter before (e ∷ rest) → LegalAfter (before ++ e ∷ []) rest
   legal-tail before rest e legal = λ t. legal_at t (names t e.step) before rest e refl legal
 
   -- ---- one entry of each
@@ -90,7 +98,8 @@ module _ {S : Type 0} (M : Meaning S) where
 
   abbrev Same : Step → Option World → Said → Said → List Record → List Record → Step → Option World → Type 0
   Same s w said other grown grown' s' w' =
-      IsHonestAt M (addressed s').0 w' (addressed s').1 other grown' → IsPromise (outcome w' s' other).reply → outcome w s said ≡ outcome w' s' other
+      IsHonestAt M (addressed s').0 w' (addressed s').1 other grown'
+      → IsPromise (outcome w' s' other).reply → outcome w s said ≡ outcome w' s' other
 
   same_step : (s s' : Step) (w w' : Option World) (said other : Said) (grown grown' : List Record) → s ≡ s' → w ≡ w'
       → IsHonestAt M (addressed s).0 w (addressed s).1 said grown → IsPromise (outcome w s said).reply
@@ -109,13 +118,16 @@ module _ {S : Type 0} (M : Meaning S) where
     worlds : world_of M (name_of e) before ≡ world_of M (name_of e') before'
     worlds = same (name_of e) ∙ ap (λ (s : Step). world_of M (addressed s).0 before') steps
 
-    outcomes : step M (world_of M (name_of e) before) (event_of e) ≡ step M (world_of M (name_of e') before') (event_of e')
-    outcomes = same_step e.step e'.step _ _ e.said e'.said grown grown' steps worlds honest (subst IsPromise reply p) honest' (subst IsPromise reply' q)
+    outcomes : step M (world_of M (name_of e) before)
+        (event_of e) ≡ step M (world_of M (name_of e') before') (event_of e')
+    outcomes = same_step e.step e'.step
+        _ _ e.said e'.said grown grown' steps worlds honest (subst IsPromise reply p) honest' (subst IsPromise reply' q)
 
     replies : e.reply ≡ e'.reply
     replies = reply ∙ ap (λ (o : Outcome). o.reply) outcomes ∙ sym reply'
 
-    world_at : (t : List ℕ) (b : Bool) → names t e.step ≡ b → world_of M t (before ++ e ∷ []) ≡ world_of M t (before' ++ e' ∷ [])
+    world_at : (t : List ℕ) (b : Bool)
+        → names t e.step ≡ b → world_of M t (before ++ e ∷ []) ≡ world_of M t (before' ++ e' ∷ [])
     world_at t true is =
         let is' = sym (ap (names t) steps) ∙ is in
         let here : t ≡ name_of e = same_name t (name_of e) is in
@@ -141,7 +153,8 @@ module _ {S : Type 0} (M : Meaning S) where
       → All IsPromise (map reply_of rest) → All IsPromise (map reply_of rest')
       → map reply_of rest ≡ map reply_of rest'
   same_replies before before' [] [] records records' same legal legal' recorded recorded' steps p q = refl
-  same_replies before before' [] (e' ∷ rest') records records' same legal legal' recorded recorded' steps p q = absurd cc
+  same_replies before before' [] (e' ∷ rest') records records' same legal legal' recorded recorded' steps p q =
+      absurd cc
   same_replies before before' (e ∷ rest) [] records records' same legal legal' recorded recorded' steps p q = absurd cc
   same_replies before before' (e ∷ rest) (e' ∷ rest') records records' same legal legal' recorded recorded' steps p q =
       let step_here : e.step ≡ e'.step = cc in
@@ -150,8 +163,10 @@ module _ {S : Type 0} (M : Meaning S) where
       let reply' = (legal-head (name_of e') before' rest' e' (is_own_name (name_of e')) legal').0 in
       let here = All-head IsPromise e.reply (map reply_of rest) p in
       let here' = All-head IsPromise e'.reply (map reply_of rest') q in
-      let now = replies before before' e e' recorded.0 recorded'.0 same step_here recorded.3 recorded'.3 reply reply' here here' in
-      let later = worlds_after before before' e e' recorded.0 recorded'.0 same step_here recorded.3 recorded'.3 reply reply' here here' in
+      let now = replies before
+      before' e e' recorded.0 recorded'.0 same step_here recorded.3 recorded'.3 reply reply' here here' in
+      let later = worlds_after
+      before before' e e' recorded.0 recorded'.0 same step_here recorded.3 recorded'.3 reply reply' here here' in
       let others = same_replies (before ++ e ∷ []) (before' ++ e' ∷ []) rest rest' recorded.1 recorded'.1 later
       (legal-tail before rest e legal) (legal-tail before' rest' e' legal') recorded.4 recorded'.4 steps_after
       (All-tail IsPromise e.reply (map reply_of rest) p) (All-tail IsPromise e'.reply (map reply_of rest') q) in

@@ -39,10 +39,12 @@ module _ {S : Type 0} (M : Meaning S) where
   hosts_repeat lines one other old new old' new' fresh served promises fresh' served' promises' =
       let ran = host_runs lines one old new fresh served in
       let ran' = host_runs lines other old' new' fresh' served' in
-      repeats M lines one other ran.0 ran'.0 (is_run lines one new ran.0 ran.1 promises) (is_run lines other new' ran'.0 ran'.1 promises')
+      repeats M lines one other
+      ran.0 ran'.0 (is_run lines one new ran.0 ran.1 promises) (is_run lines other new' ran'.0 ran'.1 promises')
 
   pub hosts_go_on : HostsGoOn M
-  hosts_go_on first second start mid new start' new' seen missed all fresh served served' promises fresh' whole promises' =
+  hosts_go_on first second start
+      mid new start' new' seen missed all fresh served served' promises fresh' whole promises' =
       let ran = host_runs first seen start mid fresh served in
       let went = served' ran.0 ran.1.stands in
       let ran' = host_runs (first ++ second) all start' new' fresh' whole in

@@ -1,5 +1,6 @@
 -- How the lines of replies for want of memory end.
-use Rattle.std.proofs.Common.{◌≡◌, ◌-◌, ℕ, List, [], ◌∷◌, ◌++◌, length, drop, true, refl, sym, ap, ◌∙◌, append_assoc, length-append, arith}
+use Rattle.std.proofs.Common.{◌≡◌, ◌-◌, ℕ, List, [], ◌∷◌, ◌++◌, length, drop, true, refl, sym, ap, ◌∙◌, append_assoc}
+use Rattle.std.proofs.Common.{length-append, arith}
 use Rattle.std.specs.Prelude.{decimal, ◌==◌}
 use Rattle.std.specs.Cmp.Lexicographic.{pointwise}
 use Rattle.std.proofs.Math.Seq.{drop-append_seam}
@@ -13,7 +14,8 @@ use Rattle.journal.specs.Promises.{tells_memory, memory_end, MemoryIsTold}
 -- a text that ends so
 ends_so : (front : List ℕ) → tells_memory (front ++ memory_end) ≡ true
 ends_so front =
-    let long : length (front ++ memory_end) - length memory_end ≡ length front = omega (arith, length-append front memory_end) in
+    let long : length (front ++ memory_end) - length memory_end ≡ length front =
+    omega (arith, length-append front memory_end) in
     ap (λ n. pointwise (λ x y. x == y) memory_end (drop n (front ++ memory_end))) long
     ∙ ap (pointwise (λ x y. x == y) memory_end) (drop-append_seam front memory_end)
 
@@ -29,10 +31,12 @@ told_refused : reply_line (Refused Memory) ≡ (123 ∷ []) ++ memory_end
 unfolding data_text escape_byte
 told_refused = refl
 
-told_stopped : (count : ℕ) → reply_line (Stopped count Memory) ≡ (count_begins ++ (decimal count ++ 44 ∷ [])) ++ memory_end
+told_stopped : (count : ℕ)
+    → reply_line (Stopped count Memory) ≡ (count_begins ++ (decimal count ++ 44 ∷ [])) ++ memory_end
 unfolding data_text escape_byte
 told_stopped count =
-    ap (λ l. count_begins ++ l) (append_assoc (decimal count) no_memory (10 ∷ []) ∙ sym (append_assoc (decimal count) (44 ∷ []) memory_end))
+    ap (λ l. count_begins ++ l) (append_assoc (decimal count) no_memory (10 ∷ [])
+    ∙ sym (append_assoc (decimal count) (44 ∷ []) memory_end))
 
 pub memory_is_told : MemoryIsTold
 memory_is_told count = (

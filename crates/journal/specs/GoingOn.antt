@@ -43,7 +43,8 @@ Repeats M =
     (lines : List (List ℕ)) (one other : List Reply) (new new' : Ledger)
     → IsRun M lines one new → IsRun M lines other new' → one ≡ other
 
--- Lines are cut in two. A new book that steps the first and then the second, and a new book that steps the whole: the replies of
+-- Lines are cut in two. A new book that steps the first and then the second, and a new book that steps the whole: the
+-- replies of
 -- the one to the second are those of the other to the whole without those to the first.
 abbrev pub GoesOn : {S : Type 0} → Meaning S → Type 0
 GoesOn M =
@@ -55,7 +56,8 @@ GoesOn M =
 
 -- ---- the same of hosts, which store no history
 
--- A run of a new host, as a whole: there is a book that began with an empty history and was served the lines with these replies; it is what each book shows of itself, and the host stands for it.
+-- A run of a new host, as a whole: there is a book that began with an empty history and was served the lines with these
+-- replies; it is what each book shows of itself, and the host stands for it.
 pub record RunsAs {S : Type 0} (M : Meaning S) (lines : List (List ℕ)) (replies : List Reply)
     (host : HostState S) (new : Ledger) : Type 0 where
   pub start : Ledger
@@ -79,7 +81,8 @@ HostsRepeat {S} M =
     → HostReplays M old' [] → HostServes M lines old' other new' → All IsPromise other
     → one ≡ other
 
--- lines are cut in two, for a new host that is served the first and then the second, and a new host that is served the whole
+-- lines are cut in two, for a new host that is served the first and then the second, and a new host that is served the
+-- whole
 abbrev pub HostsGoOn : {S : Type 0} → Meaning S → Type 0
 HostsGoOn {S} M =
     (first second : List (List ℕ)) (start mid new start' new' : HostState S) (seen missed all : List Reply)

@@ -1,8 +1,10 @@
 -- A node's vector is what the calls on vectors make of those of its parents.
-use Rattle.std.proofs.Common.{◌≡◌, inl, inr, refl, sym, ◌∙◌, ap, ℕ, suc, ◌+◌, ◌-◌, ◌<◌, ◌≤◌, true, cond, List, length, set, arith, length-set, length-append, ne_eqb}
+use Rattle.std.proofs.Common.{◌≡◌, inl, inr, refl, sym, ◌∙◌, ap, ℕ, suc, ◌+◌, ◌-◌, ◌<◌, ◌≤◌, true, cond, List, length}
+use Rattle.std.proofs.Common.{set, arith, length-set, length-append, ne_eqb}
 use Rattle.std.specs.Prelude.{Option, Some, None, ◌==◌, nat_le}
 use Rattle.std.proofs.lemmas.Bool.Decides.{nat_tests}
-use Rattle.std.proofs.lemmas.List.{ext_get_or, get_or_past, get_or-set_same, get_or-set_other, length-map, length-replicate}
+use Rattle.std.proofs.lemmas.List.{ext_get_or, get_or_past, get_or-set_same, get_or-set_other, length-map}
+use Rattle.std.proofs.lemmas.List.{length-replicate}
 use native.Mathlib.Decide.{dec_lt, ℕ_discrete}
 use Rattle.model.specs.declared.names.Mark.{Mark}
 use Rattle.model.specs.Handler.{Meaning}
@@ -26,14 +28,17 @@ use Rattle.layer_laws.proofs.Marks.{mark_for-joined}
 use Rattle.layer_laws.proofs.Numbers.{length-numbers, get_or-numbers}
 
 pub length-vector_of : (nodes : List Node) (x : ℕ) → length (vector_of nodes x) ≡ (node_at nodes x).units
-length-vector_of nodes x = length-map (numbers_from 0 (node_at nodes x).units) (greatest_mark (past_nodes nodes x)) ∙ length-numbers 0 (node_at nodes x).units
+length-vector_of nodes x = length-map (numbers_from 0 (node_at nodes x).units) (greatest_mark (past_nodes nodes x))
+    ∙ length-numbers 0 (node_at nodes x).units
 
 length-widened : (vector : List Mark) (n : ℕ) → length vector ≤ n → length (widened vector n) ≡ n
-length-widened vector n h = let a = length-append vector (begun_vector (n - length vector)) in let b = length-replicate (n - length vector) no_mark in omega (arith, a, b)
+length-widened vector n h = let a = length-append vector (begun_vector (n - length vector)) in
+    let b = length-replicate (n - length vector) no_mark in omega (arith, a, b)
 
 module _ {S : Type 0} (M : Meaning S) (w : World) (g : Invariant M w) where
   -- a unit that was not there has no mark in a past
-  none_past : (x u : ℕ) → x < length w.nodes → (node_at w.nodes x).units ≤ u → greatest_mark (past_nodes w.nodes x) u ≡ no_mark
+  none_past : (x u : ℕ) → x < length w.nodes
+      → (node_at w.nodes x).units ≤ u → greatest_mark (past_nodes w.nodes x) u ≡ no_mark
   none_past x u h past_end = elim (greatest_attained (past_nodes w.nodes x) no_mark u) [
     | inl is ↦ is
     | inr t ↦ absurd (
@@ -45,23 +50,29 @@ module _ {S : Type 0} (M : Meaning S) (w : World) (g : Invariant M w) where
   ]
 
   -- the vector has the greatest mark of every unit
-  pub vector_marks : (x u : ℕ) → x < length w.nodes → mark_for (vector_of w.nodes x) u ≡ greatest_mark (past_nodes w.nodes x) u
+  pub vector_marks : (x u : ℕ)
+      → x < length w.nodes → mark_for (vector_of w.nodes x) u ≡ greatest_mark (past_nodes w.nodes x) u
   vector_marks x u h = elim (dec_lt u (node_at w.nodes x).units) [
-    | yes q ↦ get_or-numbers (greatest_mark (past_nodes w.nodes x)) no_mark 0 (node_at w.nodes x).units u q ∙ ap (greatest_mark (past_nodes w.nodes x)) (let t : 0 + u ≡ u = omega arith in t)
-    | no q ↦ get_or_past (vector_of w.nodes x) u no_mark (let long = length-vector_of w.nodes x in omega (arith, long, q)) ∙ sym (none_past x u h (omega arith))
+    | yes q ↦ get_or-numbers (greatest_mark (past_nodes w.nodes x)) no_mark 0 (node_at w.nodes x).units u q
+        ∙ ap (greatest_mark (past_nodes w.nodes x)) (let t : 0 + u ≡ u = omega arith in t)
+    | no q ↦ get_or_past (vector_of w.nodes x) u no_mark (let long = length-vector_of w.nodes x in
+        omega (arith, long, q)) ∙ sym (none_past x u h (omega arith))
   ]
 
-  marks_before : (o : Option ℕ) (u : ℕ) → ((b : ℕ) → o ≡ Some b → b < length w.nodes) → mark_for (vector_before w.nodes o) u ≡ entry_before w.nodes u o
+  marks_before : (o : Option ℕ) (u : ℕ)
+      → ((b : ℕ) → o ≡ Some b → b < length w.nodes) → mark_for (vector_before w.nodes o) u ≡ entry_before w.nodes u o
   marks_before None u h = refl
   marks_before (Some b) u h = vector_marks b u (h b refl)
 
-  marks_received : (c : Cause) (u : ℕ) → ((l s : ℕ) → c ≡ letter l s → s < length w.nodes) → mark_for (vector_received w.nodes c) u ≡ entry_of_cause w.nodes u c
+  marks_received : (c : Cause) (u : ℕ) → ((l s : ℕ) → c ≡ letter l s → s < length w.nodes)
+      → mark_for (vector_received w.nodes c) u ≡ entry_of_cause w.nodes u c
   marks_received began u h = refl
   marks_received (outside number text) u h = refl
   marks_received (letter l s) u h = vector_marks s u (h l s refl)
 
   -- a parent had no more units
-  parent_units : (x p : ℕ) → x < length w.nodes → has (parents (node_at w.nodes x)) p ≡ true → (node_at w.nodes p).units ≤ (node_at w.nodes x).units
+  parent_units : (x p : ℕ) → x < length w.nodes
+      → has (parents (node_at w.nodes x)) p ≡ true → (node_at w.nodes p).units ≤ (node_at w.nodes x).units
   parent_units x p h is =
       let k = g.counted in
       let o = g.opening in
@@ -71,7 +82,8 @@ module _ {S : Type 0} (M : Meaning S) (w : World) (g : Invariant M w) where
         | inr b ↦
             let own = k.others x h b in
             elim (bool_cases (is_began (node_at w.nodes p).cause)) [
-              | inr q ↦ let t = k.others p (omega arith) q in let le = units_step_le o w.nodes p x (omega arith) in omega (arith, own, t, le)
+              | inr q ↦ let t = k.others p (omega arith) q in
+                  let le = units_step_le o w.nodes p x (omega arith) in omega (arith, own, t, le)
               | inl q ↦ elim (dec_lt p o) [
                 | yes low ↦ let t = k.first_units p low in let le = units_above o w.nodes x in omega (arith, own, t, le)
                 | no high ↦
@@ -85,17 +97,27 @@ module _ {S : Type 0} (M : Meaning S) (w : World) (g : Invariant M w) where
             ]
       ]
 
-  length_before : (o : Option ℕ) (n : ℕ) → ((b : ℕ) → o ≡ Some b → (node_at w.nodes b).units ≤ n) → length (vector_before w.nodes o) ≤ n
+  length_before : (o : Option ℕ) (n : ℕ)
+      → ((b : ℕ) → o ≡ Some b → (node_at w.nodes b).units ≤ n) → length (vector_before w.nodes o) ≤ n
   length_before None n h = omega arith
   length_before (Some b) n h = let t = h b refl in let l = length-vector_of w.nodes b in omega (arith, t, l)
 
-  length_received : (c : Cause) (n : ℕ) → ((l s : ℕ) → c ≡ letter l s → (node_at w.nodes s).units ≤ n) → length (vector_received w.nodes c) ≤ n
+  length_received : (c : Cause) (n : ℕ)
+      → ((l s : ℕ) → c ≡ letter l s → (node_at w.nodes s).units ≤ n) → length (vector_received w.nodes c) ≤ n
   length_received began n h = omega arith
   length_received (outside number text) n h = omega arith
   length_received (letter l s) n h = let t = h l s refl in let k = length-vector_of w.nodes s in omega (arith, t, k)
 
-  made : (x : ℕ) → x < length w.nodes → ((u : ℕ) → greatest_mark (past_nodes w.nodes x) u ≡ cond ((node_at w.nodes x).unit == u) (mark_of (node_at w.nodes x)) (greater_mark (entry_before w.nodes u (node_at w.nodes x).before) (entry_of_cause w.nodes u (node_at w.nodes x).cause))) → IsMade w.nodes x
-  made x h law = record { vector = ext_get_or no_mark (vector_of w.nodes x) (set both n.unit (mark_of n)) lengths (λ u _. marks u); before = before; received = received; own = own }
+  made : (x : ℕ) → x < length w.nodes → ((u : ℕ) → greatest_mark (past_nodes w.nodes x)
+      u ≡ cond ((node_at w.nodes x).unit == u) (mark_of (node_at w.nodes x)) (greater_mark (entry_before w.nodes
+      u (node_at w.nodes x).before) (entry_of_cause w.nodes u (node_at w.nodes x).cause))) → IsMade w.nodes x
+  made x h law = record {
+    vector = ext_get_or no_mark (vector_of w.nodes x)
+        (set both n.unit (mark_of n)) lengths (λ u _. marks u);
+    before = before;
+    received = received;
+    own = own;
+  }
     where
       n : Node
       n = node_at w.nodes x
@@ -130,17 +152,24 @@ module _ {S : Type 0} (M : Meaning S) (w : World) (g : Invariant M w) where
       lengths : length (vector_of w.nodes x) ≡ length (set both n.unit (mark_of n))
       lengths = length-vector_of w.nodes x ∙ sym (length-set both n.unit (mark_of n) ∙ both_long)
 
-      entries : (u : ℕ) → mark_for both u ≡ greater_mark (entry_before w.nodes u n.before) (entry_of_cause w.nodes u n.cause)
+      entries : (u : ℕ)
+          → mark_for both u ≡ greater_mark (entry_before w.nodes u n.before) (entry_of_cause w.nodes u n.cause)
       entries u =
           mark_for-joined wide (vector_received w.nodes n.cause) u (omega (arith, received, long))
-          ∙ ap (λ a. greater_mark a (mark_for (vector_received w.nodes n.cause) u)) (get_or_padded (vector_before w.nodes n.before) no_mark (n.units - length (vector_before w.nodes n.before)) u
+          ∙ ap (λ a. greater_mark a (mark_for (vector_received w.nodes n.cause) u)) (get_or_padded
+          (vector_before w.nodes n.before) no_mark (n.units - length (vector_before w.nodes n.before)) u
           ∙ marks_before n.before u (λ b e. let t = g.chain.sound.placed x b (from_before b e) in omega (arith, t, h)))
-          ∙ ap (greater_mark (entry_before w.nodes u n.before)) (marks_received n.cause u (λ l s e. let t = g.chain.sound.placed x s (from_sender l s e) in omega (arith, t, h)))
+          ∙ ap (greater_mark (entry_before w.nodes u n.before)) (marks_received n.cause u (λ l s e. let t =
+          g.chain.sound.placed x s (from_sender l s e) in omega (arith, t, h)))
 
       marks : (u : ℕ) → mark_for (vector_of w.nodes x) u ≡ mark_for (set both n.unit (mark_of n)) u
       marks u = vector_marks x u h ∙ law u ∙ elim (ℕ_discrete u n.unit) [
-        | yes e ↦ rw (e, eq_same n.unit) (sym (get_or-set_same both n.unit (mark_of n) no_mark (omega (arith, own, both_long))))
-        | no q ↦ rw (ne_eqb n.unit u (λ e. q (sym e))) (sym (get_or-set_other both n.unit u (mark_of n) no_mark q ∙ entries u))
+        | yes e ↦ rw (
+          e,
+          eq_same n.unit,
+        ) (sym (get_or-set_same both n.unit (mark_of n) no_mark (omega (arith, own, both_long))))
+        | no q ↦ rw (ne_eqb n.unit u (λ e. q (sym e)))
+            (sym (get_or-set_other both n.unit u (mark_of n) no_mark q ∙ entries u))
       ]
 
 module _ {S : Type 0} (M : Meaning S) where

@@ -12,12 +12,14 @@ same_mark a b p q = λ i. record { incarnation = p i; index = q i }
 -- nothing is before a beginning
 greater_none : (m : Mark) → greater_mark m no_mark ≡ m
 greater_none m = elim (bool_cases (mark_le m no_mark)) [
-  | inl e ↦ let first : m.incarnation ≡ 0 = grind (arith, nat_tests) in let second : m.index ≡ 0 = grind (arith, nat_tests) in rw e (sym (same_mark m no_mark first second))
+  | inl e ↦ let first : m.incarnation ≡ 0 = grind (arith, nat_tests) in
+      let second : m.index ≡ 0 = grind (arith, nat_tests) in rw e (sym (same_mark m no_mark first second))
   | inr e ↦ rw e refl
 ]
 
 -- the marks of a joined vector are the later ones of both
-pub mark_for-joined : (own other : List Mark) (unit : ℕ) → length other ≤ length own → mark_for (joined own other) unit ≡ greater_mark (mark_for own unit) (mark_for other unit)
+pub mark_for-joined : (own other : List Mark) (unit : ℕ) → length other ≤ length own
+    → mark_for (joined own other) unit ≡ greater_mark (mark_for own unit) (mark_for other unit)
 mark_for-joined own [] unit h = sym (greater_none (mark_for own unit))
 mark_for-joined [] (y ∷ other) unit h = absurd (omega arith)
 mark_for-joined (x ∷ own) (y ∷ other) zero h = refl

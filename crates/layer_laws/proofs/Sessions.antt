@@ -1,5 +1,6 @@
 -- The sessions along a path answer as the definitions' counts do.
-use Rattle.std.proofs.Common.{◌≡◌, inl, inr, refl, sym, ◌∙◌, ap, ℕ, ◌+◌, ◌<◌, true, false, cond, List, [], ◌∷◌, length, arith}
+use Rattle.std.proofs.Common.{◌≡◌, inl, inr, refl, sym, ◌∙◌, ap, ℕ, ◌+◌, ◌<◌, true, false, cond, List, [], ◌∷◌, length}
+use Rattle.std.proofs.Common.{arith}
 use Rattle.std.specs.Prelude.{Some, None, ◌==◌, nat_lt}
 use Rattle.std.proofs.lemmas.List.{length-map}
 use Rattle.std.proofs.lemmas.Bool.Decides.{nat_tests}
@@ -20,7 +21,8 @@ use Rattle.layer_laws.specs.Laws.{SessionsTell, sessions_along, refusal_of}
 use Rattle.layer_laws.proofs.Numbers.{length-numbers, get_or-numbers}
 
 -- the tests of a number against a count
-tests_of : (count number : ℕ) → cond (nat_lt number count) (Some RepeatRefusal) (cond (nat_lt count number) (Some GapRefusal) None) ≡ refusal_of (arrival_of count number)
+tests_of : (count number : ℕ) → cond (nat_lt number count)
+    (Some RepeatRefusal) (cond (nat_lt count number) (Some GapRefusal) None) ≡ refusal_of (arrival_of count number)
 tests_of count number = elim (bool_cases (number == count)) [
   | inl e ↦
       let is : number ≡ count = eq_true number count e in
@@ -33,20 +35,28 @@ tests_of count number = elim (bool_cases (number == count)) [
   ]
 ]
 
-refused_by : (count number : ℕ) → first_refusal ((nat_lt number count, RepeatRefusal) ∷ (nat_lt count number, GapRefusal) ∷ []) ≡ refusal_of (arrival_of count number)
+refused_by : (count number : ℕ) → first_refusal ((
+  nat_lt number count,
+  RepeatRefusal,
+) ∷ (nat_lt count number, GapRefusal) ∷ []) ≡ refusal_of (arrival_of count number)
 unfolding first_refusal
 refused_by count number = tests_of count number
 
 module _ {S : Type 0} (M : Meaning S) where
   -- what was exchanged with one unit
   abbrev pub exchange_along : List Node → List ℕ → ℕ → Exchange
-  exchange_along nodes path v = record { taken = taken nodes path (FromUnit v); sent = count_along (execution M nodes).sends v path }
+  exchange_along nodes path v =
+      record { taken = taken nodes path (FromUnit v); sent = count_along (execution M nodes).sends v path }
 
   -- is its entry
-  pub entry_along : (nodes : List Node) (n : ℕ) (path : List ℕ) (v : ℕ) → v < n → exchanged (sessions_along M nodes n path) v ≡ exchange_along nodes path v
-  entry_along nodes n path v h = get_or-numbers (exchange_along nodes path) nothing 0 n v h ∙ ap (exchange_along nodes path) (let t : 0 + v ≡ v = omega arith in t)
+  pub entry_along : (nodes : List Node) (n : ℕ) (path : List ℕ) (v : ℕ)
+      → v < n → exchanged (sessions_along M nodes n path) v ≡ exchange_along nodes path v
+  entry_along nodes n path v h = get_or-numbers (exchange_along nodes path) nothing 0 n v h
+      ∙ ap (exchange_along nodes path) (let t : 0 + v ≡ v = omega arith in t)
 
-  taken_along : (nodes : List Node) (n : ℕ) (path : List ℕ) (source : Source) → IsCounted (sessions_along M nodes n path) source → taken_from (sessions_along M nodes n path) source ≡ taken nodes path source
+  taken_along : (nodes : List Node) (n : ℕ) (path : List ℕ) (source : Source)
+      → IsCounted (sessions_along M nodes n path) source
+      → taken_from (sessions_along M nodes n path) source ≡ taken nodes path source
   taken_along nodes n path Outside h = refl
   taken_along nodes n path (FromUnit v) h =
       let long = length-map (numbers_from 0 n) (exchange_along nodes path) in
@@ -56,7 +66,11 @@ module _ {S : Type 0} (M : Meaning S) where
   pub sessions_tell : SessionsTell M
   sessions_tell w r u m found = (
     (λ source counted.
-        let is = taken_along w.nodes (length w.members) m.path source counted in
-        (is, (λ number. (refused_by (taken w.nodes m.path source) number ∙ ap (λ c. refusal_of (arrival_of c number)) (sym is))))),
-    (λ v h. ap (λ (x : Exchange). x.sent) (entry_along w.nodes (length w.members) m.path v h) ∙ sym (numbers_along_paths M w r u m found v)),
+        let is = taken_along w.nodes (length w.members) m.path source counted in (
+          is,
+          (λ number. (refused_by (taken w.nodes m.path source) number
+              ∙ ap (λ c. refusal_of (arrival_of c number)) (sym is))),
+        )),
+    (λ v h. ap (λ (x : Exchange). x.sent) (entry_along w.nodes (length w.members) m.path v h)
+        ∙ sym (numbers_along_paths M w r u m found v)),
   )

@@ -1,5 +1,6 @@
 -- What the layers compute, on the graph of state intervals.
-use Rattle.std.specs.Prelude.{◌≡◌, ℕ, ◌-◌, ◌<◌, ◌≤◌, Bool, false, take, drop, List, [], ◌∷◌, ◌++◌, length, Option, Some, None, MatchOption, slice_get, slice_set, slice_index, map}
+use Rattle.std.specs.Prelude.{◌≡◌, ℕ, ◌-◌, ◌<◌, ◌≤◌, Bool, false, take, drop, List, [], ◌∷◌, ◌++◌, length, Option, Some}
+use Rattle.std.specs.Prelude.{None, MatchOption, slice_get, slice_set, slice_index, map}
 use Rattle.std.specs.List.{take_while, position}
 use Rattle.model.specs.declared.names.Mark.{Mark}
 use Rattle.model.specs.declared.names.Source.{Source}
@@ -9,7 +10,8 @@ use Rattle.model.specs.declared.refusals.Refusal.TheVariants.{Repeat as RepeatRe
 use Rattle.model.specs.Handler.{Meaning}
 use Rattle.model.specs.Lists.{from_end, numbers_from}
 use Rattle.model.specs.Nodes.{Node, Cause, began, outside, letter, node_at, line, execution, count_along}
-use Rattle.model.specs.World.{World, Member, executed, is_firm, mark_of, source_of, taken, held, releasable, unstable_units}
+use Rattle.model.specs.World.{World, Member, executed, is_firm, mark_of, source_of, taken, held, releasable}
+use Rattle.model.specs.World.{unstable_units}
 use Rattle.model.specs.Records.{vector_of, volatile_records}
 use Rattle.model.specs.Steps.{first_refusal, number_tests, path_kept, flushed, killed, back_at}
 use Rattle.model.specs.Alone.{Reachable}
@@ -70,7 +72,8 @@ refusal_of Next = None
 refusal_of Repeat = Some RepeatRefusal
 refusal_of Gap = Some GapRefusal
 
--- The sessions along a unit's path answer as the tests of a receipt's number do, and give the numbers of the unit's next letters.
+-- The sessions along a unit's path answer as the tests of a receipt's number do, and give the numbers of the unit's
+-- next letters.
 abbrev pub SessionsTell : {S : Type 0} → Meaning S → Type 0
 SessionsTell M = (w : World) → Reachable M w → (u : ℕ) (m : Member) → slice_get w.members u ≡ Some m
     → let c = sessions_along M w.nodes (length w.members) m.path in
@@ -116,7 +119,8 @@ SessionsGoOn M = (w : World) → Reachable M w
 
 -- ---- orphans and what is unstable
 
--- the first place of a path whose vector is an orphan's is where the path is cut; where there is none, all of it is kept
+-- the first place of a path whose vector is an orphan's is where the path is cut; where there is none, all of it is
+-- kept
 abbrev pub FirstOrphanCuts : {S : Type 0} → Meaning S → Type 0
 FirstOrphanCuts M = (w : World) → Reachable M w → (u : ℕ) (m : Member) → slice_get w.members u ≡ Some m
     → MatchOption (position (is_orphan_by (take (length w.table) w.table)) (map (vector_of w.nodes) m.path))
@@ -165,7 +169,8 @@ FrontiersTell M = (w : World) → Reachable M w → (u : ℕ) (m : Member) → s
 -- ---- volatile logs
 
 -- A unit's volatile log without its first records is that of the unit with so many more stable nodes, and without those
--- that are not below an index that of the unit that went back to there. A kill leaves none, and tells how many there were.
+-- that are not below an index that of the unit that went back to there. A kill leaves none, and tells how many there
+-- were.
 pub record LogsFollow {S : Type 0} (M : Meaning S) (w : World) (m : Member) (name : List ℕ) : Type 0 where
   pub logged : (k : ℕ) → drop k (volatile_records M name w m) ≡ volatile_records M name w (flushed m k)
   pub cut : (i known : ℕ)

@@ -1,5 +1,7 @@
 -- What parts of a line make together.
-use Rattle.std.proofs.Common.{◌≡◌, ◌≢◌, ◌<◌, ℕ, List, [], ◌∷◌, ◌++◌, length, cond, Bool, true, false, ◌≤◌, eqb, eqb-true, subst, Option, Some, None, refl, sym, ap, ◌∙◌, append_assoc, append-nil, ne_eqb, arith}
+use Rattle.std.proofs.Common.{◌≡◌, ◌≢◌, ◌<◌, ℕ, List, [], ◌∷◌, ◌++◌, length, cond, Bool, true, false, ◌≤◌, eqb}
+use Rattle.std.proofs.Common.{eqb-true, subst, Option, Some, None, refl, sym, ap, ◌∙◌, append_assoc, append-nil, ne_eqb}
+use Rattle.std.proofs.Common.{arith}
 use Rattle.std.proofs.lemmas.List.Elements.{All-nil, All-head, All-tail, All-append}
 use Rattle.std.proofs.lemmas.List.{nil_from_length}
 use Rattle.std.specs.Prelude.{IfSome}
@@ -9,7 +11,8 @@ use Rattle.lines.specs.Lines.{onto_first, lines_of, IsPart, Holds, LinesRead}
 use Rattle.lines.specs.Parts.{TakesPart, IsLineRead}
 use Rattle.lines.specs.declared.input.LineRead.TheVariants.{Line, Long, End}
 
-pub at_end : (a : Option (List ℕ)) (shown : List ℕ) → length shown ≡ 0 → IfSome a (λ xs. length shown ≡ 0 → xs ≡ []) → IsAtEnd a
+pub at_end : (a : Option (List ℕ)) (shown : List ℕ)
+    → length shown ≡ 0 → IfSome a (λ xs. length shown ≡ 0 → xs ≡ []) → IsAtEnd a
 at_end None shown none h = tt
 at_end (Some xs) shown none h = h none
 
@@ -19,15 +22,18 @@ at_end (Some xs) shown none h = h none
 pub lines_of-ended : (text rest : List ℕ) → IsPart text → lines_of (text ++ 10 ∷ rest) ≡ text ∷ lines_of rest
 lines_of-ended [] rest part = refl
 lines_of-ended (x ∷ xs) rest part =
-    ap (λ b. cond b ([] ∷ lines_of (xs ++ 10 ∷ rest)) (onto_first x (lines_of (xs ++ 10 ∷ rest)))) (ne_eqb x 10 (All-head (λ y. y ≢ 10) x xs part))
+    ap (λ b. cond b ([] ∷ lines_of (xs ++ 10 ∷ rest)) (onto_first x (lines_of (xs ++ 10 ∷ rest))))
+    (ne_eqb x 10 (All-head (λ y. y ≢ 10) x xs part))
     ∙ ap (onto_first x) (lines_of-ended xs rest (All-tail (λ y. y ≢ 10) x xs part))
 
 -- a part that isn't empty is one line
 pub lines_of-last : (text : List ℕ) → IsPart text → 0 < length text → lines_of text ≡ text ∷ []
 lines_of-last [] part some = absurd (omega arith)
-lines_of-last (x ∷ []) part some = ap (λ b. cond b ([] ∷ []) ((x ∷ []) ∷ [])) (ne_eqb x 10 (All-head (λ y. y ≢ 10) x [] part))
+lines_of-last (x ∷ []) part some =
+    ap (λ b. cond b ([] ∷ []) ((x ∷ []) ∷ [])) (ne_eqb x 10 (All-head (λ y. y ≢ 10) x [] part))
 lines_of-last (x ∷ y ∷ xs) part some =
-    ap (λ b. cond b ([] ∷ lines_of (y ∷ xs)) (onto_first x (lines_of (y ∷ xs)))) (ne_eqb x 10 (All-head (λ y. y ≢ 10) x (y ∷ xs) part))
+    ap (λ b. cond b ([] ∷ lines_of (y ∷ xs)) (onto_first x (lines_of (y ∷ xs))))
+    (ne_eqb x 10 (All-head (λ y. y ≢ 10) x (y ∷ xs) part))
     ∙ ap (onto_first x) (lines_of-last (y ∷ xs) (All-tail (λ y. y ≢ 10) x (y ∷ xs) part) (omega arith))
 
 pub IsPart-nil : IsPart []
@@ -37,20 +43,23 @@ pub IsPart-append : (a b : List ℕ) → IsPart a → IsPart b → IsPart (a ++ 
 IsPart-append a b p q = All-append (λ x. x ≢ 10) a b p q
 
 -- what was read up to a line feed is a line
-pub LinesRead-ended : (a c : Option (List ℕ)) (text : List ℕ) → IsPart text → Consumes a c (text ++ 10 ∷ []) → LinesRead a c (text ∷ [])
+pub LinesRead-ended : (a c : Option (List ℕ)) (text : List ℕ)
+    → IsPart text → Consumes a c (text ++ 10 ∷ []) → LinesRead a c (text ∷ [])
 LinesRead-ended None c text part h = tt
 LinesRead-ended (Some x) None text part h = absurd h
 LinesRead-ended (Some x) (Some y) text part h =
     (ap lines_of (h ∙ append_assoc text (10 ∷ []) y) ∙ lines_of-ended text y part, (text ++ 10 ∷ [], h))
 
 -- what was read up to the end is the last line
-pub LinesRead-last : (a b c : Option (List ℕ)) (text : List ℕ) → IsPart text → 0 < length text → Consumes a b text → IsAtEnd b → Keeps b c → LinesRead a c (text ∷ [])
+pub LinesRead-last : (a b c : Option (List ℕ)) (text : List ℕ)
+    → IsPart text → 0 < length text → Consumes a b text → IsAtEnd b → Keeps b c → LinesRead a c (text ∷ [])
 LinesRead-last None b c text part some h e k = tt
 LinesRead-last (Some x) None c text part some h e k = absurd h
 LinesRead-last (Some x) (Some y) None text part some h e k = absurd k
 LinesRead-last (Some x) (Some y) (Some z) text part some h e k =
     let none : z ≡ [] = k ∙ e in (
-      ap lines_of (h ∙ ap (λ l. text ++ l) e ∙ append-nil text) ∙ lines_of-last text part some ∙ sym (ap (λ l. text ∷ lines_of l) none),
+      ap lines_of (h ∙ ap (λ l. text ++ l) e ∙ append-nil text)
+          ∙ lines_of-last text part some ∙ sym (ap (λ l. text ∷ lines_of l) none),
       (text, h ∙ ap (λ l. text ++ l) (sym k)),
     )
 
@@ -80,27 +89,34 @@ TakesPart-kept (Some x) None c p k = absurd p.2
 TakesPart-kept (Some x) (Some y) None p k = absurd k
 TakesPart-kept (Some x) (Some y) (Some z) p k = (p.0, p.1, p.2 ∙ ap (λ l. p.0 ++ l) (sym k))
 
-pub heard_line : (is_long : Bool) (held text : List ℕ) (a c : Option (List ℕ)) → Holds held is_long text → LinesRead a c (text ∷ []) → IsLineRead (cond is_long Long Line) held a c
+pub heard_line : (is_long : Bool) (held text : List ℕ) (a c : Option (List ℕ))
+    → Holds held is_long text → LinesRead a c (text ∷ []) → IsLineRead (cond is_long Long Line) held a c
 heard_line true held text a c h read = (text, h, read)
 heard_line false held text a c h read =
     (subst (λ t. length t ≤ MAX_LINE_BYTES) (sym h.0) h.1, subst (λ t. LinesRead a c (t ∷ [])) (sym h.0) read)
 
-heard_none : (none : Bool) (held : List ℕ) (a b c : Option (List ℕ)) → eqb (length held) 0 ≡ none → length held ≤ MAX_LINE_BYTES → IsPart held → Consumes a b held → IsAtEnd b → Keeps b c → IsLineRead (cond none End Line) held a c
+heard_none : (none : Bool) (held : List ℕ) (a b c : Option (List ℕ))
+    → eqb (length held) 0 ≡ none → length held ≤ MAX_LINE_BYTES
+    → IsPart held → Consumes a b held → IsAtEnd b → Keeps b c → IsLineRead (cond none End Line) held a c
 heard_none true held a b c is fits part taken ended kept =
     let unread = subst (Consumes a b) (nil_from_length held (eqb-true _ _ is)) taken in
     (IsAtEnd-unread a b unread ended, Keeps-unread a b c unread kept)
-heard_none false held a b c is fits part taken ended kept = (fits, LinesRead-last a b c held part (some held is) taken ended kept)
+heard_none false held a b c is fits part taken ended kept =
+    (fits, LinesRead-last a b c held part (some held is) taken ended kept)
   where
     some : (xs : List ℕ) → eqb (length xs) 0 ≡ false → 0 < length xs
     some [] e = absurd cc
     some (x ∷ xs) e = omega arith
 
-pub heard_last : (is_long : Bool) (held text : List ℕ) (a b c : Option (List ℕ)) → Holds held is_long text → IsPart text → Consumes a b text → IsAtEnd b → Keeps b c
+pub heard_last : (is_long : Bool) (held text : List ℕ) (a b c : Option (List ℕ))
+    → Holds held is_long text → IsPart text → Consumes a b text → IsAtEnd b → Keeps b c
     → IsLineRead (cond is_long Long (cond (eqb (length held) 0) End Line)) held a c
-heard_last true held text a b c h part taken ended kept = (text, h, LinesRead-last a b c text part (omega arith) taken ended kept)
+heard_last true held text a b c h part taken ended kept =
+    (text, h, LinesRead-last a b c text part (omega arith) taken ended kept)
 heard_last false held text a b c h part taken ended kept =
     let is = sym h.0 in
-    heard_none _ held a b c refl (subst (λ t. length t ≤ MAX_LINE_BYTES) is h.1) (subst IsPart is part) (subst (Consumes a b) is taken) ended kept
+    heard_none _ held a b c refl (subst (λ t. length t ≤ MAX_LINE_BYTES) is h.1)
+    (subst IsPart is part) (subst (Consumes a b) is taken) ended kept
 
 -- ---- many lines
 
@@ -108,7 +124,8 @@ pub LinesRead-nil : (a : Option (List ℕ)) → LinesRead a a []
 LinesRead-nil None = tt
 LinesRead-nil (Some x) = (refl, ([], refl))
 
-pub LinesRead-more : (a b c : Option (List ℕ)) (ls : List (List ℕ)) (l : List ℕ) → LinesRead a b ls → LinesRead b c (l ∷ []) → LinesRead a c (ls ++ l ∷ [])
+pub LinesRead-more : (a b c : Option (List ℕ)) (ls : List (List ℕ)) (l : List ℕ)
+    → LinesRead a b ls → LinesRead b c (l ∷ []) → LinesRead a c (ls ++ l ∷ [])
 LinesRead-more None b c ls l p q = tt
 LinesRead-more (Some x) None c ls l p q = absurd p
 LinesRead-more (Some x) (Some y) None ls l p q = absurd q
@@ -117,7 +134,8 @@ LinesRead-more (Some x) (Some y) (Some z) ls l p q = (
   (p.1.0 ++ q.1.0, p.1.1 ∙ ap (λ r. p.1.0 ++ r) q.1.1 ∙ sym (append_assoc p.1.0 q.1.0 z)),
 )
 
-pub LinesRead-all : (a b : Option (List ℕ)) (ls : List (List ℕ)) → LinesRead a b ls → IsAtEnd b → IfSome a (λ all. lines_of all ≡ ls)
+pub LinesRead-all : (a b : Option (List ℕ)) (ls : List (List ℕ))
+    → LinesRead a b ls → IsAtEnd b → IfSome a (λ all. lines_of all ≡ ls)
 LinesRead-all None b ls p e = tt
 LinesRead-all (Some x) None ls p e = absurd p
 LinesRead-all (Some x) (Some y) ls p e = p.0 ∙ ap (λ r. ls ++ lines_of r) e ∙ append-nil ls

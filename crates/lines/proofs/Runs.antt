@@ -1,5 +1,7 @@
 -- Serving one line after the other.
-use Rattle.std.proofs.Common.{◌≡◌, ◌<◌, ◌≤◌, ◌+◌, ℕ, List, [], ◌∷◌, ◌++◌, length, map, All, cond, Option, Some, None, Result, refl, sym, ap, subst, ◌∙◌, append_assoc, append-nil, length-append, arith, inl, inr}
+use Rattle.std.proofs.Common.{◌≡◌, ◌<◌, ◌≤◌, ◌+◌, ℕ, List, [], ◌∷◌, ◌++◌, length, map, All, cond, Option, Some, None}
+use Rattle.std.proofs.Common.{Result, refl, sym, ap, subst, ◌∙◌, append_assoc, append-nil, length-append, arith, inl}
+use Rattle.std.proofs.Common.{inr}
 use Rattle.std.specs.Prelude.{IfOk, OnErr, Ok, Err, flat_map}
 use denote.Ref.{MutBor}
 use denote.Param.Members.{Shared}
@@ -17,14 +19,17 @@ use Rattle.model.specs.declared.replies.Reply.{Reply}
 use Rattle.model.specs.declared.replies.Reply.TheVariants.{Refused}
 use Rattle.model.specs.declared.replies.Who.TheVariants.{Caller}
 use Rattle.model.specs.declared.steps.Step.{Step}
-use Rattle.model.specs.declared.steps.Step.TheVariants.{Open, Join, Post, Deliver, Flush, Checkpoint, Kill, Restart, Notice, Release, Status}
+use Rattle.model.specs.declared.steps.Step.TheVariants.{Open, Join, Post, Deliver, Flush, Checkpoint, Kill, Restart}
+use Rattle.model.specs.declared.steps.Step.TheVariants.{Notice, Release, Status}
 use Rattle.book.specs.Entries.{Ledger, memory_reply}
 use Rattle.forms.specs.Reading.{step_of_line}
 use Rattle.lines.specs.Lines.{LinesRead}
 use Rattle.written.specs.Beginnings.{AppendsBeginning}
 use Rattle.model.specs.Handler.{Meaning}
 use Rattle.book.specs.Standing.{Carries, HostState, IsHostOf}
-use Rattle.lines.specs.Serving.{line_step, AnsweredLine, AnsweredLineBy, AnsweredStep, AnsweredStepBy, EntersStep, HostDoes, HostServes, Serves, ServedAllBy, ServedSomeBy, ServesBy, IsRemembered, told, entered_before, IsBadOr, EntersEach, reply_line, TookLine, Broken}
+use Rattle.lines.specs.Serving.{line_step, AnsweredLine, AnsweredLineBy, AnsweredStep, AnsweredStepBy, EntersStep}
+use Rattle.lines.specs.Serving.{HostDoes, HostServes, Serves, ServedAllBy, ServedSomeBy, ServesBy, IsRemembered, told}
+use Rattle.lines.specs.Serving.{entered_before, IsBadOr, EntersEach, reply_line, TookLine, Broken}
 use Rattle.lines.proofs.Parts.{LinesRead-more, TakesPart-none}
 
 -- a line that is too long is no step
@@ -38,8 +43,13 @@ unfolding line_step
 line_step-held line fits = ap (λ b. cond b (step_of_line line) None) (le-leb (length line) MAX_LINE_BYTES fits)
 
 -- a line that is too long, answered
-pub long_answered : {B : Type 0} (Does : B → Step → Reply → B → Type 0) (line : List ℕ) (old : B) → MAX_LINE_BYTES < length line → AnsweredLineBy Does line old (Refused BadLine) old
-long_answered Does line old long = (subst (λ s. AnsweredStepBy Does s old (Refused BadLine) old) (sym (line_step-long line long)) (inr (refl, refl)), λ _. refl)
+pub long_answered : {B : Type 0} (Does : B → Step → Reply → B → Type 0) (line : List ℕ) (old : B)
+    → MAX_LINE_BYTES < length line → AnsweredLineBy Does line old (Refused BadLine) old
+long_answered Does line old long = (
+  subst (λ s. AnsweredStepBy Does s old (Refused BadLine) old)
+      (sym (line_step-long line long)) (inr (refl, refl)),
+  λ _. refl,
+)
 
 -- what stays and then grows
 pub Keeps-then : (a b c : Option (List ℕ)) (bs : List ℕ) → Keeps a b → Appends b c bs → Appends a c bs
@@ -49,39 +59,68 @@ Keeps-then (Some x) (Some y) None bs p q = absurd q
 Keeps-then (Some x) (Some y) (Some z) bs p q = q ∙ ap (λ l. l ++ bs) p
 
 -- what stays and then grows by a beginning
-pub Keeps-then_beginning : (a b c : Option (List ℕ)) (all : List ℕ) → Keeps a b → AppendsBeginning b c all → AppendsBeginning a c all
+pub Keeps-then_beginning : (a b c : Option (List ℕ)) (all : List ℕ)
+    → Keeps a b → AppendsBeginning b c all → AppendsBeginning a c all
 Keeps-then_beginning a b c all p q = (q.0, Keeps-then a b c q.0 p q.1, q.2)
 
 -- one line more
-pub Serves-more : {B : Type 0} (Does : B → Step → Reply → B → Type 0) (lines : List (List ℕ)) (old mid new : B) (replies : List Reply) (line : List ℕ) (reply : Reply)
-    → ServesBy Does lines old replies mid → AnsweredLineBy Does line mid reply new → ServesBy Does (lines ++ line ∷ []) old (replies ++ reply ∷ []) new
-Serves-more Does [] old mid new replies line reply p q =
-    (reply, [], new, ap (λ rs. rs ++ reply ∷ []) p.0, subst (λ s. AnsweredLineBy Does line s reply new) p.1 q, (refl, refl))
-Serves-more Does (l ∷ ls) old mid new replies line reply p q =
-    (p.0, p.1 ++ reply ∷ [], p.2, ap (λ rs. rs ++ reply ∷ []) p.3, p.4, Serves-more Does ls p.2 mid new p.1 line reply p.5 q)
+pub Serves-more : {B : Type 0} (Does : B → Step → Reply → B → Type 0)
+    (lines : List (List ℕ)) (old mid new : B) (replies : List Reply) (line : List ℕ) (reply : Reply)
+    → ServesBy Does lines old replies mid
+    → AnsweredLineBy Does line mid reply new → ServesBy Does (lines ++ line ∷ []) old (replies ++ reply ∷ []) new
+Serves-more Does [] old mid new replies line reply p q = (
+  reply,
+  [],
+  new,
+  ap (λ rs. rs ++ reply ∷ []) p.0,
+  subst (λ s. AnsweredLineBy Does line s reply new) p.1 q,
+  (refl, refl),
+)
+Serves-more Does (l ∷ ls) old mid new replies line reply p q = (
+  p.0,
+  p.1 ++ reply ∷ [],
+  p.2,
+  ap (λ rs. rs ++ reply ∷ []) p.3,
+  p.4,
+  Serves-more Does ls p.2 mid new p.1 line reply p.5 q,
+)
 
 -- ---- a step that is done so, seen otherwise
 
-step_as : {B : Type 0} (One Other : B → Step → Reply → B → Type 0) → ((x : B) (s : Step) (r : Reply) (y : B) → One x s r y → Other x s r y)
-    → (read : Option Step) (old : B) (reply : Reply) (new : B) → AnsweredStepBy One read old reply new → AnsweredStepBy Other read old reply new
+step_as : {B : Type 0} (One Other : B → Step → Reply → B → Type 0)
+    → ((x : B) (s : Step) (r : Reply) (y : B) → One x s r y → Other x s r y)
+    → (read : Option Step) (old : B) (reply : Reply) (new : B)
+    → AnsweredStepBy One read old reply new → AnsweredStepBy Other read old reply new
 step_as One Other f None old reply new p = p
 step_as One Other f (Some step) old reply new (inl p) = inl p
 step_as One Other f (Some step) old reply new (inr p) = inr (f old step reply new p)
 
-pub serves_as : {B : Type 0} (One Other : B → Step → Reply → B → Type 0) → ((x : B) (s : Step) (r : Reply) (y : B) → One x s r y → Other x s r y)
-    → (lines : List (List ℕ)) (old : B) (replies : List Reply) (new : B) → ServesBy One lines old replies new → ServesBy Other lines old replies new
+pub serves_as : {B : Type 0} (One Other : B → Step → Reply → B → Type 0)
+    → ((x : B) (s : Step) (r : Reply) (y : B) → One x s r y → Other x s r y)
+    → (lines : List (List ℕ)) (old : B) (replies : List Reply) (new : B)
+    → ServesBy One lines old replies new → ServesBy Other lines old replies new
 serves_as One Other f [] old replies new p = p
-serves_as One Other f (l ∷ ls) old replies new p =
-    (p.0, p.1, p.2, p.3, (step_as One Other f (line_step l) old p.0 p.2 p.4.0, p.4.1), serves_as One Other f ls p.2 p.1 new p.5)
+serves_as One Other f (l ∷ ls) old replies new p = (
+  p.0,
+  p.1,
+  p.2,
+  p.3,
+  (step_as One Other f (line_step l) old p.0 p.2 p.4.0, p.4.1),
+  serves_as One Other f ls p.2 p.1 new p.5,
+)
 
 -- ---- by a host
 
 module _ {S : Type 0} (M : Meaning S) where
   step_each : (read : Option Step) (old : HostState S) (reply : Reply) (new : HostState S)
-      → AnsweredStepBy (HostDoes M) read old reply new → Carries (IsHostOf M) (λ before after. AnsweredStep read before reply after) old new
-  step_each None old reply new (inl p) before is = (before, subst (λ h. IsHostOf M h before) (sym p.1) is, inl (p.0, refl))
-  step_each None old reply new (inr p) before is = (before, subst (λ h. IsHostOf M h before) (sym p.1) is, inr (p.0, refl))
-  step_each (Some step) old reply new (inl p) before is = (before, subst (λ h. IsHostOf M h before) (sym p.1) is, inl (p.0, refl))
+      → AnsweredStepBy (HostDoes M) read old reply new
+      → Carries (IsHostOf M) (λ before after. AnsweredStep read before reply after) old new
+  step_each None old reply new (inl p) before is =
+      (before, subst (λ h. IsHostOf M h before) (sym p.1) is, inl (p.0, refl))
+  step_each None old reply new (inr p) before is =
+      (before, subst (λ h. IsHostOf M h before) (sym p.1) is, inr (p.0, refl))
+  step_each (Some step) old reply new (inl p) before is =
+      (before, subst (λ h. IsHostOf M h before) (sym p.1) is, inl (p.0, refl))
   step_each (Some step) old reply new (inr p) before is = let one = p Caller before is in (one.0, one.1, inr one.2.0)
 
   pub host_serves : (lines : List (List ℕ)) (old : HostState S) (replies : List Reply) (new : HostState S)
@@ -94,38 +133,52 @@ module _ {S : Type 0} (M : Meaning S) where
 
 -- ---- what was served, seen otherwise
 
-module _ {F B : Type 0} (g : Shared F (MutBor B × (Step × Unit {0})) (Reply × (MutBor B × Unit {0}))) (f : F) (Other : B → Step → Reply → B → Type 0) where
+module _ {F B : Type 0} (g : Shared F (MutBor B × (Step × Unit {0})) (Reply × (MutBor B × Unit {0})))
+    (f : F) (Other : B → Step → Reply → B → Type 0) where
   -- what a call of the function leaves is done so
   abbrev pub CallsDo : Type 0
-  CallsDo = (p q : MutBor B) (step : Step) (reply : Reply) → g.post f (p, (step, tt)) (reply, (q, tt)) → Other p.now step reply q.now
+  CallsDo = (p q : MutBor B) (step : Step) (reply : Reply)
+      → g.post f (p, (step, tt)) (reply, (q, tt)) → Other p.now step reply q.now
 
-  calls_do : CallsDo → (old : B) (step : Step) (reply : Reply) (new : B) → DoesBy g f old step reply new → Other old step reply new
+  calls_do : CallsDo → (old : B) (step : Step) (reply : Reply) (new : B)
+      → DoesBy g f old step reply new → Other old step reply new
   calls_do fact old step reply new d =
-      subst (λ z. Other z step reply new) d.argument_is (subst (Other d.argument.now step reply) d.left (fact d.argument d.after_call step reply d.call))
+      subst (λ z. Other z step reply new) d.argument_is
+      (subst (Other d.argument.now step reply) d.left (fact d.argument d.after_call step reply d.call))
 
   module _ (Serving : List (List ℕ) → B → List Reply → B → Type 0) (old new : B)
-      (serves : (lines : List (List ℕ)) (replies : List Reply) → ServesBy Other lines old replies new → Serving lines old replies new) (fact : CallsDo) where
-    as_calls : (lines : List (List ℕ)) (replies : List Reply) → ServesBy (DoesBy g f) lines old replies new → Serving lines old replies new
-    as_calls lines replies p = serves lines replies (serves_as (DoesBy g f) Other (calls_do fact) lines old replies new p)
+      (serves : (lines : List (List ℕ)) (replies : List Reply)
+      → ServesBy Other lines old replies new → Serving lines old replies new) (fact : CallsDo) where
+    as_calls : (lines : List (List ℕ)) (replies : List Reply)
+        → ServesBy (DoesBy g f) lines old replies new → Serving lines old replies new
+    as_calls lines replies p =
+        serves lines replies (serves_as (DoesBy g f) Other (calls_do fact) lines old replies new p)
 
-    pub served_all : {E : Type 0} (r : Result ℕ E) (input out out' : Option (List ℕ)) → IfOk r (λ count. ServedAllBy (ServesBy (DoesBy g f)) input out out' old new count)
+    pub served_all : {E : Type 0} (r : Result ℕ E) (input out out' : Option (List ℕ))
+        → IfOk r (λ count. ServedAllBy (ServesBy (DoesBy g f)) input out out' old new count)
         → IfOk r (λ count. ServedAllBy Serving input out out' old new count)
     served_all (Ok count) input out out' p = (p.0, p.1, p.2, as_calls p.0 p.1 p.3, p.4, p.5)
     served_all (Err e) input out out' p = tt
 
-    pub served_some : {A E : Type 0} (r : Result A E) (input input' out out' : Option (List ℕ)) → OnErr r (ServedSomeBy (ServesBy (DoesBy g f)) input input' out out' old new)
+    pub served_some : {A E : Type 0} (r : Result A E) (input input' out out' : Option (List ℕ))
+        → OnErr r (ServedSomeBy (ServesBy (DoesBy g f)) input input' out out' old new)
         → OnErr r (ServedSomeBy Serving input input' out out' old new)
     served_some (Ok a) input input' out out' p = tt
     served_some (Err e) input input' out out' p = (p.0, p.1, p.2, p.3, p.4, as_calls p.0 p.1 p.5, p.6)
 
 -- the lines of one reply more
-flat_map_more : (rs : List Reply) (r : Reply) → flat_map reply_line (rs ++ r ∷ []) ≡ flat_map reply_line rs ++ reply_line r
-flat_map_more rs r = flat_map-append reply_line rs (r ∷ []) ∙ ap (λ x. flat_map reply_line rs ++ x) (flat_map-cons reply_line r [] ∙ append-nil (reply_line r))
+flat_map_more : (rs : List Reply) (r : Reply)
+    → flat_map reply_line (rs ++ r ∷ []) ≡ flat_map reply_line rs ++ reply_line r
+flat_map_more rs r = flat_map-append reply_line rs (r ∷ [])
+    ∙ ap (λ x. flat_map reply_line rs ++ x) (flat_map-cons reply_line r [] ∙ append-nil (reply_line r))
 
-module _ {B : Type 0} (Does : B → Step → Reply → B → Type 0) (input mid input' out omid out' : Option (List ℕ)) (old bmid new : B) (lines : List (List ℕ)) (replies : List Reply) (read : LinesRead input mid lines) (run : ServesBy Does lines old replies bmid) (written : Appends out omid (flat_map reply_line replies)) where
+module _ {B : Type 0} (Does : B → Step → Reply → B → Type 0) (input mid input' out omid out' : Option (List ℕ))
+    (old bmid new : B) (lines : List (List ℕ)) (replies : List Reply) (read : LinesRead input mid lines)
+    (run : ServesBy Does lines old replies bmid) (written : Appends out omid (flat_map reply_line replies)) where
   -- one line more
   pub goes_on : (count : ℕ) → length lines ≡ count → TookLine Does mid input' omid out' bmid new
-      → (lines' : List (List ℕ)) × (replies' : List Reply) × LinesRead input input' lines' × ServesBy Does lines' old replies' new × Appends out out' (flat_map reply_line replies') × (length lines' ≡ count + 1)
+      → (lines' : List (List ℕ)) × (replies' : List Reply) × LinesRead input input' lines' × ServesBy
+      Does lines' old replies' new × Appends out out' (flat_map reply_line replies') × (length lines' ≡ count + 1)
   goes_on count is (line, reply, one, answered, grown) = (
     lines ++ line ∷ [],
     replies ++ reply ∷ [],
@@ -156,7 +209,11 @@ module _ {B : Type 0} (Does : B → Step → Reply → B → Type 0) (input mid 
     (
       flat_map reply_line replies ++ begun.0,
       Appends-trans _ _ _ _ _ written begun.1,
-      (begun.2.0, flat_map_more replies reply ∙ ap (λ x. flat_map reply_line replies ++ x) begun.2.1 ∙ sym (append_assoc _ begun.0 begun.2.0)),
+      (
+        begun.2.0,
+        flat_map_more replies reply
+            ∙ ap (λ x. flat_map reply_line replies ++ x) begun.2.1 ∙ sym (append_assoc _ begun.0 begun.2.0),
+      ),
     ),
   )
 
@@ -177,17 +234,21 @@ memory_reply_is (Release tenant unit) reply kept is = absurd (kept.0 is)
 memory_reply_is (Status tenant unit) reply kept is = absurd (kept.0 is)
 
 -- what one line adds to the history, before what later lines add
-one_line : (read : Option Step) (old mid : Ledger) (reply : Reply) → IsRemembered reply → AnsweredStep read old reply mid
-    → IsBadOr read reply × (entries : List Entry) × (mid.history ≡ old.history ++ entries) × ((others : List Entry) → map told (entries ++ others) ≡ entered_before read reply (map told others))
+one_line : (read : Option Step) (old mid : Ledger) (reply : Reply)
+    → IsRemembered reply → AnsweredStep read old reply mid
+    → IsBadOr read reply × (entries : List Entry) × (mid.history ≡ old.history ++ entries)
+    × ((others : List Entry) → map told (entries ++ others) ≡ entered_before read reply (map told others))
 one_line None old mid reply kept (inl (is, same)) = absurd (kept.0 is)
-one_line None old mid reply kept (inr (is, same)) = (is, [], ap (λ l. l.history) same ∙ sym (append-nil old.history), λ others. refl)
+one_line None old mid reply kept (inr (is, same)) =
+    (is, [], ap (λ l. l.history) same ∙ sym (append-nil old.history), λ others. refl)
 one_line (Some step) old mid reply kept (inl (is, same)) = absurd (kept.0 is)
-one_line (Some step) old mid reply kept (inr (inl (said, grown, device, up, other))) =
+one_line (Some step) old mid reply kept (inr (inl (said, grown, device, up, other, steady, once))) =
     (tt, record { who = Caller; step = step; said = said; reply = reply } ∷ [], grown, λ others. refl)
-one_line (Some step) old mid reply kept (inr (inr (is, same, log, up))) = memory_reply_is step reply kept is
+one_line (Some step) old mid reply kept (inr (inr (is, same, log, up, still))) = memory_reply_is step reply kept is
 
 -- the law, one line after the other
-pub enters_each : (lines : List (List ℕ)) (old new : Ledger) (replies : List Reply) → Serves lines old replies new → All IsRemembered replies → EntersEach lines old replies new
+pub enters_each : (lines : List (List ℕ)) (old new : Ledger) (replies : List Reply)
+    → Serves lines old replies new → All IsRemembered replies → EntersEach lines old replies new
 enters_each [] old new replies p all = (p.0, [], ap (λ l. l.history) p.1 ∙ sym (append-nil old.history), refl)
 enters_each (l ∷ ls) old new replies p all =
     let every = subst (All IsRemembered) p.3 all in

@@ -10,7 +10,8 @@ use Rattle.lines.specs.Serving.{line_step}
 use Rattle.lines.specs.declared.input.LineRead.{LineRead}
 use Rattle.lines.specs.declared.input.LineRead.TheVariants.{Line, Long, End}
 
--- a line's step, or that it is none, or that there was no memory to read it; one that is too long is none whatever memory there was
+-- a line's step, or that it is none, or that there was no memory to read it; one that is too long is none whatever
+-- memory there was
 abbrev pub ReadingOf : List ℕ → Result Step LineFault → Type 0
 ReadingOf line step = Gives (λ s. s) step (line_step line) × (MAX_LINE_BYTES < length line → step ≡ Err Bad)
 

@@ -1,5 +1,6 @@
 -- What serving an input writes, and what whoever does the steps is then: a book, or a host.
-use Rattle.std.specs.Prelude.{◌≡◌, ◌≢◌, ◌<◌, ◌⊎◌, ℕ, List, [], ◌∷◌, ◌++◌, length, map, Bool, true, false, nat_le, if◌then◌else◌, Option, Some, None, IfSome, flat_map}
+use Rattle.std.specs.Prelude.{◌≡◌, ◌≢◌, ◌<◌, ◌⊎◌, ℕ, List, [], ◌∷◌, ◌++◌, length, map, Bool, true, false, nat_le}
+use Rattle.std.specs.Prelude.{if◌then◌else◌, Option, Some, None, IfSome, flat_map}
 use Rattle.std.specs.Io.KnownBytes.{Appends, Keeps, IsAtEnd}
 use Rattle.model.specs.declared.limits.TheConstants.{MAX_LINE_BYTES}
 use Rattle.model.specs.declared.refusals.Refusal.TheVariants.{BadLine, Memory}
@@ -74,15 +75,18 @@ abbrev pub Serves : List (List ℕ) → Ledger → List Reply → Ledger → Typ
 Serves lines old replies new = ServesBy EntersStep lines old replies new
 
 -- Serving came to the end: all lines are answered, and each reply is written.
-abbrev pub ServedAllBy : {B : Type 0} → (List (List ℕ) → B → List Reply → B → Type 0) → Option (List ℕ) → Option (List ℕ)
+abbrev pub ServedAllBy : {B : Type 0}
+    → (List (List ℕ) → B → List Reply → B → Type 0) → Option (List ℕ) → Option (List ℕ)
     → Option (List ℕ) → B → B → ℕ → Type 0
 ServedAllBy Serving input old_out new_out old new count =
     (lines : List (List ℕ)) × (replies : List Reply) × IfSome input (λ all. lines_of all ≡ lines)
     × Serving lines old replies new
     × Appends old_out new_out (flat_map reply_line replies) × (length lines ≡ count)
 
--- Serving ended early: the lines read so far are answered, what was taken of the input behind them is a part of one line, and what is written is a beginning of their replies.
-abbrev pub ServedSomeBy : {B : Type 0} → (List (List ℕ) → B → List Reply → B → Type 0) → Option (List ℕ) → Option (List ℕ)
+-- Serving ended early: the lines read so far are answered, what was taken of the input behind them is a part of one
+-- line, and what is written is a beginning of their replies.
+abbrev pub ServedSomeBy : {B : Type 0}
+    → (List (List ℕ) → B → List Reply → B → Type 0) → Option (List ℕ) → Option (List ℕ)
     → Option (List ℕ) → Option (List ℕ) → B → B → Type 0
 ServedSomeBy Serving input input' old_out new_out old new =
     (lines : List (List ℕ)) × (replies : List Reply) × (rest : Option (List ℕ)) × LinesRead input rest lines
@@ -100,7 +104,8 @@ ServedSome input input' old_out new_out old new = ServedSomeBy Serves input inpu
 abbrev pub HostDoes : {S : Type 0} → Meaning S → HostState S → Step → Reply → HostState S → Type 0
 HostDoes M old step reply new = (who : Who) → Carries (IsHostOf M) (EntersHonestly M who step reply) old new
 
--- By a host: whichever book it stood for, these lines were given these replies by that book, and the host stands for it then.
+-- By a host: whichever book it stood for, these lines were given these replies by that book, and the host stands for it
+-- then.
 abbrev pub HostServes : {S : Type 0} → Meaning S → List (List ℕ) → HostState S → List Reply
     → HostState S → Type 0
 HostServes M lines old replies new = Carries (IsHostOf M) (λ before after. Serves lines before replies after) old new
@@ -137,7 +142,8 @@ AreReplies [] replies = replies ≡ []
 AreReplies (line ∷ lines) [] = ⊥
 AreReplies (line ∷ lines) (reply ∷ replies) = IsBadOr (line_step line) reply × AreReplies lines replies
 
--- the history grew by one entry for each line that is a step, in order, by the caller, with that step and its reply, and the other lines were told to be bad
+-- the history grew by one entry for each line that is a step, in order, by the caller, with that step and its reply,
+-- and the other lines were told to be bad
 abbrev pub EntersEach : List (List ℕ) → Ledger → List Reply → Ledger → Type 0
 EntersEach lines old replies new =
     AreReplies lines replies × (entries : List Entry) × (new.history ≡ old.history ++ entries)

@@ -40,7 +40,7 @@ pub fn read_feed<R: BufRead>(
         match feed_line(reader, &mut held)? {
             LineRead::End => return Ok(found),
             kind => {
-                let step = step_of(alloc, &mut scratch, kind, held.as_slice());
+                let step = read_heard(alloc, &mut scratch, kind, held.as_slice());
                 if found.push(step).is_err() {
                     return Err(ServeFault::NoMemory);
                 }
@@ -49,7 +49,9 @@ pub fn read_feed<R: BufRead>(
     }
 }
 
-fn step_of(
+/// The step of a line that was heard, or why it gives none: `Bad` where it is no step, as one that is too long always is, and
+/// `NoMemory` where there was no memory to read it.
+pub fn read_heard(
     alloc: Global,
     scratch: &mut Scratch,
     kind: LineRead,

@@ -62,7 +62,8 @@ pub fn read_line<R: BufRead, W: Write>(
     }
 }
 
-pub(crate) fn line_kind(is_long: bool) -> LineRead
+/// What a line that ended is.
+pub fn line_kind(is_long: bool) -> LineRead
     ensures { result ≡ (if is_long then LineRead.Long else LineRead.Line) }
 {
     if is_long {
@@ -72,7 +73,8 @@ pub(crate) fn line_kind(is_long: bool) -> LineRead
     }
 }
 
-pub(crate) fn heard_at_end(held: &[u8], is_long: bool) -> LineRead
+/// What stands before the end of the input: a line without a line feed, or none.
+pub fn heard_at_end(held: &[u8], is_long: bool) -> LineRead
     ensures { result ≡ (if is_long then LineRead.Long else if length held.now == 0 then LineRead.End else LineRead.Line) }
 {
     if is_long {
@@ -99,7 +101,8 @@ pub fn flush_unless<W: Write>(writer: &mut Counted<W>, ahead: bool) -> Result<()
     }
 }
 
-pub(crate) fn fill<R: BufRead>(
+/// Takes what the reader shows of the line. `Read` comes only where the reader failed, and nothing is taken then.
+pub fn fill<R: BufRead>(
     reader: &mut Counted<R>,
     held: &mut Vec<u8>,
     is_long: &mut bool,

@@ -7,7 +7,8 @@
 //!   which end failed. What raises the count is private to the module `counted`.
 //! - `FuseReader`: a reader for tests, which fails before a line.
 //! - `part` and `input`: a line is read a part at a time, in one buffer whatever its length.
-//! - `read_line`, `put_reply`, `put_bytes`, `flush_unless`: what another loop over lines is made of, as `driver` has one.
+//! - `read_line`, `put_reply`, `put_bytes`, `flush_unless`: what another loop over lines is made of, as `driver` has one;
+//!   `fill`, `Part`, `line_kind`, `heard_at_end`, `read_heard`: what a loop is made of that reads a line in parts.
 //! - `read_step`, `write_reply` and `LineFault` are those of `forms`: what one line means.
 //!
 //! A line ends at a line feed, which is no part of it; what follows the last line feed is a line
@@ -37,8 +38,9 @@ mod serving;
 
 pub use counted::Counted;
 pub use fault::ServeFault;
-pub use feed::read_feed;
+pub use feed::{read_feed, read_heard};
 pub use forms::{LineFault, read_step, write_reply};
 pub use fuse_reader::FuseReader;
-pub use input::{LineRead, flush_unless, read_line};
+pub use input::{LineRead, fill, flush_unless, heard_at_end, line_kind, read_line};
+pub use part::Part;
 pub use serving::{fault_reply, memory_aside, put_bytes, put_reply, serve, serve_host};

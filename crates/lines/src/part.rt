@@ -13,12 +13,12 @@ use written::is_interrupted;
 
 /// How far a read came.
 #[derive(Clone, Copy, Debug, PartialEq, Eq)]
-pub(crate) enum Part {
-    // The line goes on.
+pub enum Part {
+    /// The line goes on.
     More,
-    // Its end was read, and whether the reader shows more behind it.
+    /// Its end was read, and whether the reader shows more behind it.
     Ended(bool),
-    // There is no more input.
+    /// There is no more input.
     AtEnd,
 }
 

@@ -1,5 +1,6 @@
 -- What holds where a table has no rows.
-use Rattle.std.proofs.Common.{◌≡◌, refl, ap, sym, ◌∙◌, ◌≤◌, ◌&&◌, bit_or, arith, ℕ, zero, suc, ◌||◌, Bool, true, false, List, [], ◌∷◌, not, ◌==◌}
+use Rattle.std.proofs.Common.{◌≡◌, refl, ap, sym, ◌∙◌, ◌≤◌, ◌&&◌, bit_or, arith, ℕ, zero, suc, ◌||◌, Bool, true, false}
+use Rattle.std.proofs.Common.{List, [], ◌∷◌, not, ◌==◌}
 use Rattle.std.specs.List.{list_any}
 use Rattle.std.proofs.lemmas.Nat.{le_or_l}
 use Rattle.model.specs.declared.names.Mark.{Mark}
@@ -19,7 +20,8 @@ or_else : (b x y : Bool) → x ≡ y → (not (b || false) || x) ≡ (not b || y
 or_else true x y e = e
 or_else false x y e = refl
 
-blind_from : (u : ℕ) (marks : List Mark) → any_mark (λ u g. not (mark_told [] u g)) u marks ≡ list_any (λ g. not (g.incarnation == 0)) marks
+blind_from : (u : ℕ) (marks : List Mark)
+    → any_mark (λ u g. not (mark_told [] u g)) u marks ≡ list_any (λ g. not (g.incarnation == 0)) marks
 blind_from u [] = refl
 blind_from u (g ∷ marks) = or_else (g.incarnation == 0) _ _ (blind_from (suc u) marks)
 

@@ -1,5 +1,6 @@
 -- What a recovery unit keeps, and what its calls make of it.
-use Rattle.std.specs.Prelude.{◌≡◌, ℕ, ◌+◌, ◌-◌, ◌<◌, ◌≤◌, ◌^◌, List, [], ◌∷◌, ◌++◌, length, take, drop, Option, Some, None, option_map, slice_get, true, cond, ◌==◌, ◌⊎◌}
+use Rattle.std.specs.Prelude.{◌≡◌, ℕ, ◌+◌, ◌-◌, ◌<◌, ◌≤◌, ◌^◌, List, [], ◌∷◌, ◌++◌, length, take, drop, Option, Some}
+use Rattle.std.specs.Prelude.{None, option_map, slice_get, true, cond, ◌==◌, ◌⊎◌}
 use Rattle.model.specs.declared.limits.TheConstants.{MAX_CHECKPOINTS}
 use Rattle.model.specs.declared.names.Row.{Row}
 use Rattle.model.specs.declared.names.Seat.{Seat}
@@ -20,7 +21,8 @@ use Rattle.compact.specs.Laws.{replayed, replayed_one}
 use Rattle.compact.specs.Steps.{first_progress, from_outside, no_letter}
 
 -- One unit. It has a progress while it is up. `base` is the index of the snapshot from which its intervals are kept,
--- `outside` how many receipts of its whole path were from outside; the records of the intervals that are not stable are volatile.
+-- `outside` how many receipts of its whole path were from outside; the records of the intervals that are not stable are
+-- volatile.
 pub record Recovering (S : Type 0) : Type 0 where
   pub seat : Seat
   pub progress : Option (Progress S)
@@ -186,7 +188,8 @@ restored M u target width fetched = record (cut_behind u target) {
       (nearest_of u.shelf target);
 }
 
--- The snapshot from which the unit goes back to the target is, in a tenant of so many units, what these receipts give from p on.
+-- The snapshot from which the unit goes back to the target is, in a tenant of so many units, what these receipts give
+-- from p on.
 abbrev pub BeginsBy : {S : Type 0} → Meaning S → Recovering S → ℕ → ℕ → Progress S → List Record → Type 0
 BeginsBy M u target width p before = (s : Snapshot _) → nearest_of u.shelf target ≡ Some s
     → fitted width s.state ≡ replayed M u.seat p before

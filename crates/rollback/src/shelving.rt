@@ -11,13 +11,10 @@ use model::NoMemory;
 use std::alloc::Global;
 
 /// The shelf of a unit at its beginning.
-pub(crate) fn based<P: Drop>(alloc: Global, state: P) -> Result<Shelf<P>, NoMemory>
-    ensures { IfOk result (λ s. s ≡ record { base = Some (record { index = 0; state = state }); others = [] }) }
+pub(crate) fn based<P: Drop>(alloc: Global, state: P) -> Shelf<P>
+    ensures { result ≡ record { base = Some (record { index = 0; state = state }); others = [] } }
 {
-    let mut shelf = Shelf::new(alloc);
-    shelf.put(Snapshot { index: 0, state })?;
-    shelf.move_base(0);
-    Ok(shelf)
+    Shelf::with_base(alloc, Snapshot { index: 0, state })
 }
 
 /// Shelves a copy of the progress, where there is one. Where that finds no memory, the shelf stays.

@@ -87,7 +87,7 @@ impl<H: Handler> RecoveryUnit<H> {
         ensures unit { IfOk result (λ u. u ≡ begun_unit H.meaning width seat) }
         ensures outside { IfOk result (λ u. CountsOutside 0 u) }
     {
-        let shelf = shelving::based(alloc, progress::begin(alloc, handler, seat, width)?)?;
+        let shelf = shelving::based(alloc, progress::begin(alloc, handler, seat, width)?);
         let progress = progress::begin(alloc, handler, seat, width)?;
         let intervals = path::begun_path(alloc, width)?;
         Ok(RecoveryUnit {

@@ -1,5 +1,6 @@
 -- Kill, flush and frontier.
-use Rattle.std.proofs.Common.{◌≡◌, refl, sym, ◌∙◌, ap, ℕ, ◌+◌, ◌-◌, ◌≤◌, min, [], length, take, drop, arith, map, length-drop}
+use Rattle.std.proofs.Common.{◌≡◌, refl, sym, ◌∙◌, ap, ℕ, ◌+◌, ◌-◌, ◌≤◌, min, [], length, take, drop, arith, map}
+use Rattle.std.proofs.Common.{length-drop}
 use Rattle.std.specs.Prelude.{nat_lt}
 use Rattle.std.specs.List.{take_while}
 use Rattle.std.proofs.lemmas.List.{length-take-le}
@@ -30,14 +31,16 @@ module _ {S : Type 0} (r : Recovering S) (x : Unit S) (k : IsKept r) (s : IsSeen
 
   -- no snapshot goes
   killed_shelf : r.shelf.others ≡ map shelved_as (take_while (λ (t : Snapshot S). nat_lt t.index x.stable) x.shelf)
-  killed_shelf = s.shelf ∙ ap (map shelved_as) (sym (all_pass (λ (t : Snapshot S). nat_lt t.index x.stable) x.shelf (λ i t e. true_lt t.index x.stable (shelf_low r x k s i t e))))
+  killed_shelf = s.shelf ∙ ap (map shelved_as) (sym (all_pass (λ (t : Snapshot S). nat_lt t.index x.stable)
+      x.shelf (λ i t e. true_lt t.index x.stable (shelf_low r x k s i t e))))
 
   -- no volatile record stays
   killed_volatile : records_below x.volatile x.stable ≡ []
   killed_volatile =
       let st = (r.base + length r.intervals) - length r.volatile in
       let none : st - st ≡ 0 = omega arith in
-      (λ i. records_below (s.volatile i) (s.stable i)) ∙ below_is r.volatile st st k.marks ∙ ap (λ n. take n r.volatile) none
+      (λ i. records_below (s.volatile i) (s.stable i))
+      ∙ below_is r.volatile st st k.marks ∙ ap (λ n. take n r.volatile) none
 
   kill_seen : IsSeen (killed_recovering r) (killed_unit x)
   kill_seen = record {
@@ -52,12 +55,14 @@ module _ {S : Type 0} (r : Recovering S) (x : Unit S) (k : IsKept r) (s : IsSeen
     volatile = killed_volatile;
   }
 
-  flush_seen : (place count : ℕ) → count ≤ length r.volatile → IsSeen (marked_stable r count) (flushed_unit place count x)
+  flush_seen : (place count : ℕ)
+      → count ≤ length r.volatile → IsSeen (marked_stable r count) (flushed_unit place count x)
   flush_seen place count few = record {
     seat = s.seat;
     up = s.up;
     now = s.now;
-    stable = let a : length (drop count r.volatile) ≡ length r.volatile - count = length-drop count r.volatile in let b = stable_is r x k s in let c = some_stable r x k s in omega (arith, a, b, c, few);
+    stable = let a : length (drop count r.volatile) ≡ length r.volatile - count = length-drop count r.volatile in
+        let b = stable_is r x k s in let c = some_stable r x k s in omega (arith, a, b, c, few);
     outside = s.outside;
     base = s.base;
     shelf = s.shelf;

@@ -1,5 +1,6 @@
 -- What a unit is after its base moved.
-use Rattle.std.proofs.Common.{◌≡◌, inl, inr, refl, sym, ◌∙◌, ap, subst, ℕ, suc, ◌+◌, ◌-◌, Bool, true, false, cond, not, ◌||◌, List, [], ◌∷◌, length, drop, arith, map, length-drop}
+use Rattle.std.proofs.Common.{◌≡◌, inl, inr, refl, sym, ◌∙◌, ap, subst, ℕ, suc, ◌+◌, ◌-◌, Bool, true, false, cond, not}
+use Rattle.std.proofs.Common.{◌||◌, List, [], ◌∷◌, length, drop, arith, map, length-drop}
 use Rattle.std.specs.Prelude.{Some, slice_get, ◌==◌}
 use Rattle.std.specs.List.{list_any, position_or_len, prefix_len}
 use Rattle.std.specs.Option.{option_map_or}
@@ -16,26 +17,33 @@ use Rattle.rollback_laws.specs.Laws.{ForgettingIsSeen}
 use Rattle.rollback_laws.proofs.Places.{base_is, behind, shelf_low, shelf_there, some_stable, stable_is}
 
 -- the first that is at the index
-found_at : {S : Type 0} (xs : List (Snapshot S)) (n : ℕ) → list_any (is_at n) (map shelved_as xs) ≡ true → (t : Snapshot S) × (slice_get xs (position_or_len (is_at n) (map shelved_as xs)) ≡ Some t) × (t.index ≡ n)
+found_at : {S : Type 0} (xs : List (Snapshot S)) (n : ℕ) → list_any (is_at n) (map shelved_as xs) ≡ true
+    → (t : Snapshot S) × (slice_get xs (position_or_len (is_at n) (map shelved_as xs)) ≡ Some t) × (t.index ≡ n)
 found_at [] n e = cc
 found_at {S} (z ∷ xs) n e = go (z.index == n) refl (λ h. found_at xs n h) e
   where
-    go : (b : Bool) → (z.index == n) ≡ b → (list_any (is_at n) (map shelved_as xs) ≡ true → (t : Snapshot S) × (slice_get xs (position_or_len (is_at n) (map shelved_as xs)) ≡ Some t) × (t.index ≡ n)) → (b || list_any (is_at n) (map shelved_as xs)) ≡ true
-        → (t : Snapshot S) × (slice_get (z ∷ xs) (cond (not b) (1 + prefix_len (λ y. not (is_at n y)) (map shelved_as xs)) 0) ≡ Some t) × (t.index ≡ n)
+    go : (b : Bool) → (z.index == n) ≡ b → (list_any (is_at n) (map shelved_as xs) ≡ true
+        → (t : Snapshot S) × (slice_get xs (position_or_len (is_at n) (map shelved_as xs)) ≡ Some t) × (t.index ≡ n))
+        → (b || list_any (is_at n) (map shelved_as xs)) ≡ true
+        → (t : Snapshot S) × (slice_get (z ∷ xs)
+        (cond (not b) (1 + prefix_len (λ y. not (is_at n y)) (map shelved_as xs)) 0) ≡ Some t) × (t.index ≡ n)
     go true f rest h = (z, refl, eq_true z.index n f)
-    go false f rest h = let r = rest h in (r.0, rw (one (prefix_len (λ y. not (is_at n y)) (map shelved_as xs))) r.1, r.2)
+    go false f rest h = let r = rest h in
+        (r.0, rw (one (prefix_len (λ y. not (is_at n y)) (map shelved_as xs))) r.1, r.2)
 
-module _ {S : Type 0} (r : Recovering S) (x : Unit S) (k : IsKept r) (s : IsSeen r x) (base : ℕ) (has : has_index r.shelf base ≡ true) (other : (base == r.base) ≡ false) where
+module _ {S : Type 0} (r : Recovering S) (x : Unit S) (k : IsKept r)
+    (s : IsSeen r x) (base : ℕ) (has : has_index r.shelf base ≡ true) (other : (base == r.base) ≡ false) where
   -- the index is not that of the base
   of_others : list_any (is_at base) r.shelf.others ≡ true
-  of_others = elim (or_cases (option_map_or (is_at base) r.shelf.base false) (list_any (is_at base) r.shelf.others) has) [
-    | inr h ↦ h
-    | inl h ↦ absurd (
-        let at : (x.base.index == base) ≡ true = ap (λ o. option_map_or (is_at base) o false) (sym s.base) ∙ h in
-        let b : x.base.index ≡ r.base = base_is r x k s in
-        let same : (base == r.base) ≡ true = true_eq base r.base (sym (eq_true x.base.index base at) ∙ b) in
-        cc (same, other))
-  ]
+  of_others =
+      elim (or_cases (option_map_or (is_at base) r.shelf.base false) (list_any (is_at base) r.shelf.others) has) [
+        | inr h ↦ h
+        | inl h ↦ absurd (
+            let at : (x.base.index == base) ≡ true = ap (λ o. option_map_or (is_at base) o false) (sym s.base) ∙ h in
+            let b : x.base.index ≡ r.base = base_is r x k s in
+            let same : (base == r.base) ≡ true = true_eq base r.base (sym (eq_true x.base.index base at) ∙ b) in
+            cc (same, other))
+      ]
 
   abbrev at : ℕ
   at = position_or_len (is_at base) (map shelved_as x.shelf)
@@ -79,5 +87,13 @@ module _ {S : Type 0} (r : Recovering S) (x : Unit S) (k : IsKept r) (s : IsSeen
 module _ {S : Type 0} (M : Meaning S) where
   pub forgetting_is_seen : ForgettingIsSeen M
   forgetting_is_seen r x k s base has other =
-      let f = found r x k s base has other in
-      (at r x k s base has other, (f.0, f.1, f.2, subst (λ z. IsSeen z (rebased x (at r x k s base has other) f.0)) (sym (forgotten_is r x k s base has other)) (based_seen r x k s base has other)))
+      let f = found r x k s base has other in (
+        at r x k s base has other,
+        (
+          f.0,
+          f.1,
+          f.2,
+          subst (λ z. IsSeen z (rebased x (at r x k s base has other) f.0))
+              (sym (forgotten_is r x k s base has other)) (based_seen r x k s base has other),
+        ),
+      )

@@ -13,7 +13,8 @@ take_append (suc n) (x ∷ xs) ys =
     ap (λ zs. x ∷ zs) (take_append n xs ys ∙ ap (λ k. take n xs ++ take k ys) (sym e))
 
 -- the value of an option under a map
-pub mapped : {P Q : Type 0} (f : P → Q) (o : Option P) (y : P) → ((p : P) → o ≡ Some p → y ≡ p) → (q : Q) → option_map f o ≡ Some q → f y ≡ q
+pub mapped : {P Q : Type 0} (f : P → Q) (o : Option P) (y : P)
+    → ((p : P) → o ≡ Some p → y ≡ p) → (q : Q) → option_map f o ≡ Some q → f y ≡ q
 mapped f None y h q e = cc
 mapped f (Some p) y h q e = ap f (h p refl) ∙ same_Some (f p) q e
 

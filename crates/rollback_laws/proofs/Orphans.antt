@@ -1,5 +1,6 @@
 -- How much of a path is kept, by the first orphan.
-use Rattle.std.proofs.Common.{◌≡◌, refl, sym, ◌∙◌, ap, ℕ, ◌+◌, ◌-◌, ◌<◌, ◌≤◌, Bool, true, false, cond, not, length, drop, arith}
+use Rattle.std.proofs.Common.{◌≡◌, refl, sym, ◌∙◌, ap, ℕ, ◌+◌, ◌-◌, ◌<◌, ◌≤◌, Bool, true, false, cond, not, length}
+use Rattle.std.proofs.Common.{drop, arith}
 use Rattle.std.specs.Prelude.{Option, Some, None, MatchOption, slice_get, nat_lt, option_map}
 use Rattle.std.specs.List.{position, position_or_len, prefix_len, take_while}
 use Rattle.std.proofs.lemmas.Bool.Decides.{nat_tests}
@@ -17,8 +18,10 @@ use Rattle.rollback_laws.specs.Seen.{IsSeen}
 use Rattle.rollback_laws.specs.Laws.{FirstOrphansAreSeen, OrphansAreSeen}
 use Rattle.rollback_laws.proofs.Places.{base_is, places_are}
 
-module _ {S : Type 0} (r : Recovering S) (x : Unit S) (k : IsKept r) (s : IsSeen r x) (c : Compact S) (low : x.base.index ≤ x.frontier) (high : x.frontier ≤ all_of x)
-    (clean : (i : ℕ) (v : Interval) → i < x.frontier - x.base.index → slice_get r.intervals i ≡ Some v → is_orphan_by c.table v.vector ≡ false) where
+module _ {S : Type 0} (r : Recovering S) (x : Unit S)
+    (k : IsKept r) (s : IsSeen r x) (c : Compact S) (low : x.base.index ≤ x.frontier) (high : x.frontier ≤ all_of x)
+    (clean : (i : ℕ) (v : Interval) → i < x.frontier - x.base.index
+    → slice_get r.intervals i ≡ Some v → is_orphan_by c.table v.vector ≡ false) where
   abbrev is_kept : Interval → Bool
   is_kept v = not (is_orphan_by c.table v.vector)
 
@@ -29,10 +32,12 @@ module _ {S : Type 0} (r : Recovering S) (x : Unit S) (k : IsKept r) (s : IsSeen
   first = position_or_len (λ (v : Interval). is_orphan_by c.table v.vector) r.intervals
 
   -- what comes before the first orphan among the vectors behind the frontier
-  behind_is : length (take_while (λ v. not (is_orphan_by c.table v)) (vectors_behind x)) ≡ prefix_len is_kept (drop front r.intervals)
+  behind_is : length (take_while (λ v. not (is_orphan_by c.table v)) (vectors_behind x))
+      ≡ prefix_len is_kept (drop front r.intervals)
   behind_is =
       length-prefix_len (λ v. not (is_orphan_by c.table v)) (vectors_behind x)
-      ∙ same_prefix is_kept (λ v. not (is_orphan_by c.table v)) (λ (v : Interval). v.vector) (drop front x.intervals) (λ i v e. refl)
+      ∙ same_prefix is_kept (λ v. not (is_orphan_by c.table v))
+      (λ (v : Interval). v.vector) (drop front x.intervals) (λ i v e. refl)
       ∙ ap (λ vs. prefix_len is_kept (drop front vs)) s.intervals
 
   -- all before the frontier are kept
@@ -41,7 +46,8 @@ module _ {S : Type 0} (r : Recovering S) (x : Unit S) (k : IsKept r) (s : IsSeen
       let h : x.frontier ≤ x.base.index + length x.intervals = high in
       let long : length x.intervals ≡ length r.intervals = ap length s.intervals in
       sym (length-prefix_len is_kept r.intervals)
-      ∙ front_goes_on is_kept front r.intervals (omega (arith, h, long)) (λ i v e. let t = get_take r.intervals front i v e in ap not (clean i v t.1 t.0))
+      ∙ front_goes_on is_kept front r.intervals (omega (arith, h, long)) (λ i v e. let t =
+      get_take r.intervals front i v e in ap not (clean i v t.1 t.0))
       ∙ ap (λ n. front + n) (length-prefix_len is_kept (drop front r.intervals))
 
   kept_is : kept_places c x ≡ r.base + first
@@ -54,12 +60,17 @@ module _ {S : Type 0} (r : Recovering S) (x : Unit S) (k : IsKept r) (s : IsSeen
       counted : (m f : ℕ) → f ≡ (x.frontier - x.base.index) + m → x.base.index ≡ r.base → x.frontier + m ≡ r.base + f
       counted m f b d = omega (arith, b, d, low)
 
-  first_is : (o : Option ℕ) → o ≡ option_map (λ i. r.base + i) (position (λ (v : Interval). is_orphan_by c.table v.vector) r.intervals) → MatchOption o (kept_places c x ≡ all_of x) (λ target. kept_places c x ≡ target)
+  first_is : (o : Option ℕ) → o ≡ option_map (λ i. r.base + i)
+      (position (λ (v : Interval). is_orphan_by c.table v.vector) r.intervals)
+      → MatchOption o (kept_places c x ≡ all_of x) (λ target. kept_places c x ≡ target)
   first_is o e = go (nat_lt first (length r.intervals)) refl o e
     where
-      go : (b : Bool) → nat_lt first (length r.intervals) ≡ b → (o : Option ℕ) → o ≡ option_map (λ i. r.base + i) (cond b (Some first) None) → MatchOption o (kept_places c x ≡ all_of x) (λ target. kept_places c x ≡ target)
+      go : (b : Bool) → nat_lt first (length r.intervals) ≡ b
+          → (o : Option ℕ) → o ≡ option_map (λ i. r.base + i) (cond b (Some first) None)
+          → MatchOption o (kept_places c x ≡ all_of x) (λ target. kept_places c x ≡ target)
       go true t o e = rw e kept_is
-      go false t o e = rw e (kept_is ∙ ap (λ n. r.base + n) (past first (length r.intervals) t (prefix_len-le-length is_kept r.intervals)) ∙ sym (places_are r x k s))
+      go false t o e = rw e (kept_is ∙ ap (λ n. r.base + n)
+          (past first (length r.intervals) t (prefix_len-le-length is_kept r.intervals)) ∙ sym (places_are r x k s))
         where
           past : (m n : ℕ) → nat_lt m n ≡ false → m ≤ n → m ≡ n
           past m n e h = grind (arith, nat_tests)

@@ -14,7 +14,8 @@ use Rattle.rollback_laws.specs.Laws.{PlacesAreSeen}
 
 module _ {S : Type 0} (r : Recovering S) (x : Unit S) (k : IsKept r) (s : IsSeen r x) where
   pub base_is : x.base.index ≡ r.base
-  base_is = same_Some x.base.index r.base (ap (λ o. option_map (λ (b : Shelf (Progress S)). b.index) o) (sym s.base) ∙ k.base)
+  base_is =
+      same_Some x.base.index r.base (ap (λ o. option_map (λ (b : Shelf (Progress S)). b.index) o) (sym s.base) ∙ k.base)
 
   pub places_are : all_of x ≡ places r
   places_are = λ i. base_is i + length (s.intervals i)
@@ -29,17 +30,20 @@ module _ {S : Type 0} (r : Recovering S) (x : Unit S) (k : IsKept r) (s : IsSeen
   has_places = record {
     base = base_is;
     long = places_are;
-    unstable = let a : x.base.index + length x.intervals ≡ r.base + length r.intervals = places_are in let b = stable_is in let c = some_stable in omega (arith, a, b, c);
+    unstable = let a : x.base.index + length x.intervals ≡ r.base + length r.intervals = places_are in
+        let b = stable_is in let c = some_stable in omega (arith, a, b, c);
   }
 
   -- a snapshot of the shelf is shelved
-  pub shelf_there : (i : ℕ) (t : Snapshot S) → slice_get x.shelf i ≡ Some t → slice_get r.shelf.others i ≡ Some (shelved_as t)
+  pub shelf_there : (i : ℕ) (t : Snapshot S)
+      → slice_get x.shelf i ≡ Some t → slice_get r.shelf.others i ≡ Some (shelved_as t)
   shelf_there i t e = ap (λ ys. slice_get ys i) s.shelf ∙ at_map shelved_as x.shelf i t e
 
   -- and no snapshot is behind the stable places
   pub shelf_low : (i : ℕ) (t : Snapshot S) → slice_get x.shelf i ≡ Some t → t.index < x.stable
   shelf_low i t e =
-      let h : t.index ≤ ((r.base + length r.intervals) - length r.volatile) - 1 = k.top (shelved_as t) (inr (i, shelf_there i t e)) in
+      let h : t.index ≤ ((r.base + length r.intervals) - length r.volatile) - 1 =
+      k.top (shelved_as t) (inr (i, shelf_there i t e)) in
       let b = stable_is in
       let c = some_stable in
       omega (arith, h, b, c)
@@ -48,12 +52,15 @@ module _ {S : Type 0} (r : Recovering S) (x : Unit S) (k : IsKept r) (s : IsSeen
   base_low = let a = base_is in let b = stable_is in let c = some_stable in omega (arith, a, b, c)
 
   -- what is shelved is the base or of the shelf
-  pub shelved_there : (y : Shelf (Progress S)) → IsShelved r.shelf y → (t : Snapshot S) × ((t ≡ x.base) ⊎ ((i : ℕ) × (slice_get x.shelf i ≡ Some t))) × (y ≡ shelved_as t)
+  pub shelved_there : (y : Shelf (Progress S)) → IsShelved r.shelf y
+      → (t : Snapshot S) × ((t ≡ x.base) ⊎ ((i : ℕ) × (slice_get x.shelf i ≡ Some t))) × (y ≡ shelved_as t)
   shelved_there y (inl e) = (x.base, inl (λ i. x.base), sym (same_Some (shelved_as x.base) y (sym s.base ∙ e)))
-  shelved_there y (inr h) = let m = map_at shelved_as x.shelf h.0 y (ap (λ ys. slice_get ys h.0) (sym s.shelf) ∙ h.1) in (m.0, inr (h.0, m.1), m.2)
+  shelved_there y (inr h) = let m = map_at shelved_as x.shelf h.0 y (ap (λ ys. slice_get ys h.0) (sym s.shelf) ∙ h.1) in
+      (m.0, inr (h.0, m.1), m.2)
 
   pub low : (t : Snapshot S) → (t ≡ x.base) ⊎ ((i : ℕ) × (slice_get x.shelf i ≡ Some t)) → t.index < x.stable
-  low t (inl e) = let a : t.index ≡ x.base.index = ap (λ (z : Snapshot S). z.index) e in let b = base_low in omega (arith, a, b)
+  low t (inl e) = let a : t.index ≡ x.base.index = ap (λ (z : Snapshot S). z.index) e in
+      let b = base_low in omega (arith, a, b)
   low t (inr h) = shelf_low h.0 t h.1
 
   -- and none is before the base

@@ -1,5 +1,6 @@
 -- Receipts and their turns.
-use Rattle.std.proofs.Common.{◌≡◌, sym, ◌∙◌, ap, ℕ, ◌+◌, ◌-◌, cond, List, [], ◌∷◌, ◌++◌, length, arith, map, length-append}
+use Rattle.std.proofs.Common.{◌≡◌, sym, ◌∙◌, ap, ℕ, ◌+◌, ◌-◌, cond, List, [], ◌∷◌, ◌++◌, length, arith, map}
+use Rattle.std.proofs.Common.{length-append}
 use Rattle.std.specs.Prelude.{Some, slice_get, slice_index_or}
 use Rattle.std.proofs.lemmas.Option.{get_or_from_slice_get}
 use Rattle.theory.proofs.ListLaws.{at_map}
@@ -16,7 +17,10 @@ use Rattle.rollback_laws.proofs.Places.{places_are, some_stable, stable_is}
 
 module _ {S : Type 0} (M : Meaning S) (r : Recovering S) (x : Unit S) (k : IsKept r) (s : IsSeen r x) where
   module _ (name : List ℕ) (c : Compact S) (u : ℕ) (q : Receipt) where
-    took_stable : x.stable ≡ (r.base + length (r.intervals ++ record { vector = next_vector c u x q; letter = q.letter } ∷ [])) - length (r.volatile ++ next_record name c u x q ∷ [])
+    took_stable : x.stable ≡ (r.base + length (r.intervals ++ record {
+      vector = next_vector c u x q;
+      letter = q.letter;
+    } ∷ [])) - length (r.volatile ++ next_record name c u x q ∷ [])
     took_stable =
         let a = length-append r.intervals (record { vector = next_vector c u x q; letter = q.letter } ∷ []) in
         let b = length-append r.volatile (next_record name c u x q ∷ []) in
@@ -28,7 +32,8 @@ module _ {S : Type 0} (M : Meaning S) (r : Recovering S) (x : Unit S) (k : IsKep
     receipt_seen = record {
       seat = s.seat;
       up = s.up ∙ still_some (λ p. replayed_one M r.seat p (next_record name c u x q)) r.progress;
-      now = λ p e. ap (λ seat. replayed_one M seat x.now (next_record name c u x q)) s.seat ∙ mapped (λ p. replayed_one M r.seat p (next_record name c u x q)) r.progress x.now s.now p e;
+      now = λ p e. ap (λ seat. replayed_one M seat x.now (next_record name c u x q)) s.seat
+          ∙ mapped (λ p. replayed_one M r.seat p (next_record name c u x q)) r.progress x.now s.now p e;
       stable = took_stable;
       outside = ap (λ n. n + cond (no_letter q.letter) 1 0) s.outside;
       base = s.base;
@@ -37,14 +42,16 @@ module _ {S : Type 0} (M : Meaning S) (r : Recovering S) (x : Unit S) (k : IsKep
       volatile = ap (λ rs. rs ++ next_record name c u x q ∷ []) s.volatile;
     }
 
-  last_seen : (index : ℕ) → index + 1 ≡ places r → (i : Interval) → slice_get r.intervals (index - r.base) ≡ Some i → i.vector ≡ last_vector x
+  last_seen : (index : ℕ) → index + 1 ≡ places r
+      → (i : Interval) → slice_get r.intervals (index - r.base) ≡ Some i → i.vector ≡ last_vector x
   last_seen index last i e =
       let h : index + 1 ≡ r.base + length r.intervals = last in
       let c = some_stable r x k s in
       let at : index - r.base ≡ length r.intervals - 1 = omega (arith, h, c) in
       let there : slice_get r.intervals (length r.intervals - 1) ≡ Some i = ap (slice_get r.intervals) (sym at) ∙ e in
       sym ((λ j. slice_index_or (map (λ (v : Interval). v.vector) (s.intervals j)) (length (s.intervals j) - 1) [])
-      ∙ get_or_from_slice_get (map (λ (v : Interval). v.vector) r.intervals) (length r.intervals - 1) i.vector [] (at_map (λ (v : Interval). v.vector) r.intervals (length r.intervals - 1) i there))
+      ∙ get_or_from_slice_get (map (λ (v : Interval). v.vector) r.intervals) (length r.intervals - 1) i.vector []
+      (at_map (λ (v : Interval). v.vector) r.intervals (length r.intervals - 1) i there))
 
 module _ {S : Type 0} (M : Meaning S) where
   pub receipts_are_seen : ReceiptsAreSeen M

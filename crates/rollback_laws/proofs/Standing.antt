@@ -1,5 +1,6 @@
 -- What holds of a unit of a tenant whose compact state stands for a world.
-use Rattle.std.proofs.Common.{◌≡◌, sym, ◌∙◌, ap, ℕ, suc, ◌+◌, ◌-◌, ◌<◌, ◌≤◌, false, List, length, drop, arith, length-drop, length-take}
+use Rattle.std.proofs.Common.{◌≡◌, sym, ◌∙◌, ap, ℕ, suc, ◌+◌, ◌-◌, ◌<◌, ◌≤◌, false, List, length, drop, arith}
+use Rattle.std.proofs.Common.{length-drop, length-take}
 use Rattle.std.specs.Prelude.{Some, slice_get}
 use Rattle.std.proofs.lemmas.List.{length-map}
 use Rattle.std.proofs.lemmas.Option.{slice_get_within}
@@ -26,8 +27,10 @@ use Rattle.rollback_laws.specs.Seen.{IsReady, IsSeen}
 use Rattle.rollback_laws.specs.Laws.{UnitsAreReady}
 use Rattle.rollback_laws.proofs.Places.{base_is, places_are as places_seen}
 
-module _ {S : Type 0} (M : Meaning S) (name : List ℕ) (k : Compact S) (w : World) (log : List Record) (stands : StandsCompact M name k w log) (u : ℕ) (m : Member) (x : Unit S)
-    (found : slice_get w.members u ≡ Some m) (at : slice_get k.units u ≡ Some x) (r : Recovering S) (kept : IsKept r) (s : IsSeen r x) where
+module _ {S : Type 0} (M : Meaning S) (name : List ℕ) (k : Compact S)
+    (w : World) (log : List Record) (stands : StandsCompact M name k w log) (u : ℕ) (m : Member) (x : Unit S)
+    (found : slice_get w.members u ≡ Some m)
+    (at : slice_get k.units u ≡ Some x) (r : Recovering S) (kept : IsKept r) (s : IsSeen r x) where
   reached : Reachable M w
   reached = stands.reached
 
@@ -41,33 +44,41 @@ module _ {S : Type 0} (M : Meaning S) (name : List ℕ) (k : Compact S) (w : Wor
   here = is.units u m x found at
 
   -- an interval is of the path
-  on_path : (i : ℕ) (v : Interval) → slice_get r.intervals i ≡ Some v → (y : ℕ) × (slice_get m.path (x.base.index + i) ≡ Some y) × (v ≡ interval_of w.nodes y)
+  on_path : (i : ℕ) (v : Interval) → slice_get r.intervals i ≡ Some v
+      → (y : ℕ) × (slice_get m.path (x.base.index + i) ≡ Some y) × (v ≡ interval_of w.nodes y)
   on_path i v e =
-      let f = map_at (interval_of w.nodes) (drop x.base.index m.path) i v (ap (λ vs. slice_get vs i) (sym here.intervals ∙ s.intervals) ∙ e) in
+      let f = map_at (interval_of w.nodes)
+      (drop x.base.index m.path) i v (ap (λ vs. slice_get vs i) (sym here.intervals ∙ s.intervals) ∙ e) in
       (f.0, get_drop m.path x.base.index i f.0 f.1, f.2)
 
   -- and its vector tells whether it is an orphan
-  told : (i y : ℕ) → slice_get m.path i ≡ Some y → is_orphan w.nodes w.table y ≡ is_orphan_by w.table (vector_of w.nodes y)
+  told : (i y : ℕ) → slice_get m.path i ≡ Some y
+      → is_orphan w.nodes w.table y ≡ is_orphan_by w.table (vector_of w.nodes y)
   told i y e =
       ap (λ t. is_orphan w.nodes t y) (sym (take-length w.table))
       ∙ (vectors_tell M w reached (length w.table) y ((g.chain.sound.units u m found).made i y e)).1
       ∙ ap (λ t. is_orphan_by t (vector_of w.nodes y)) (take-length w.table)
 
-  by_vector : (i y : ℕ) (v : Interval) → slice_get m.path i ≡ Some y → v ≡ interval_of w.nodes y → is_orphan_by k.table v.vector ≡ is_orphan w.nodes w.table y
+  by_vector : (i y : ℕ) (v : Interval) → slice_get m.path i ≡ Some y
+      → v ≡ interval_of w.nodes y → is_orphan_by k.table v.vector ≡ is_orphan w.nodes w.table y
   by_vector i y v e f = (λ j. is_orphan_by (is.table j) (f j).vector) ∙ sym (told i y e)
 
-  clean : (i : ℕ) (v : Interval) → i < x.frontier - x.base.index → slice_get r.intervals i ≡ Some v → is_orphan_by k.table v.vector ≡ false
+  clean : (i : ℕ) (v : Interval)
+      → i < x.frontier - x.base.index → slice_get r.intervals i ≡ Some v → is_orphan_by k.table v.vector ≡ false
   clean i v h e =
       let f = on_path i v e in
-      let b = before_frontier w m (x.base.index + i) f.0 (take_get m.path (frontier w m) (x.base.index + i) f.0 (let p = here.front in omega (arith, h, p)) f.1) in
-      by_vector (x.base.index + i) f.0 v f.1 f.2 ∙ firm_no_orphan w g.chain.sound u (x.base.index + i) f.0 m found f.1 b.1
+      let b = before_frontier w m (x.base.index + i)
+      f.0 (take_get m.path (frontier w m) (x.base.index + i) f.0 (let p = here.front in omega (arith, h, p)) f.1) in
+      by_vector (x.base.index + i) f.0 v f.1 f.2
+      ∙ firm_no_orphan w g.chain.sound u (x.base.index + i) f.0 m found f.1 b.1
 
   tail : OrphansAreTail k.table r.intervals
   tail i j v z le ev ez e =
       let a = on_path i v ev in
       let b = on_path j z ez in
       by_vector (x.base.index + j) b.0 z b.1 b.2
-      ∙ orphans_are_tails M w reached u m found (x.base.index + i) (x.base.index + j) a.0 b.0 (omega (arith, le)) a.1 b.1 (sym (by_vector (x.base.index + i) a.0 v a.1 a.2) ∙ e)
+      ∙ orphans_are_tails M w reached u m found (x.base.index + i)
+      (x.base.index + j) a.0 b.0 (omega (arith, le)) a.1 b.1 (sym (by_vector (x.base.index + i) a.0 v a.1 a.2) ∙ e)
 
   live : length x.live ≡ x.stable - 1 - x.base.index
   live =
@@ -98,7 +109,8 @@ module _ {S : Type 0} (M : Meaning S) (name : List ℕ) (k : Compact S) (w : Wor
       (record { base = omega (arith, a, c); path = omega (arith, a, b, d, e) }, omega (arith, a))
 
   target : IsTarget r (kept_places k x - 1) × (kept_places k x - 1 + 1 ≡ kept_places k x)
-  target = target_of (kept_places k x) (base_serves M name k w log reached is u m x found at) (kept_high M name k w log reached is u m x found at)
+  target = target_of (kept_places k x)
+      (base_serves M name k w log reached is u m x found at) (kept_high M name k w log reached is u m x found at)
 
   ready : IsReady r k x
   ready = record {

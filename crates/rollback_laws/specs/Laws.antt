@@ -1,5 +1,7 @@
--- What the calls of a recovery unit make of it is what the steps of a tenant make of the unit of the compact state that it keeps.
-use Rattle.std.specs.Prelude.{◌≡◌, ◌==◌, ℕ, ◌+◌, ◌-◌, ◌≤◌, true, false, List, [], drop, length, Option, Some, MatchOption, slice_get, option_map}
+-- What the calls of a recovery unit make of it is what the steps of a tenant make of the unit of the compact state that
+-- it keeps.
+use Rattle.std.specs.Prelude.{◌≡◌, ◌==◌, ℕ, ◌+◌, ◌-◌, ◌≤◌, true, false, List, [], drop, length, Option, Some}
+use Rattle.std.specs.Prelude.{MatchOption, slice_get, option_map}
 use Rattle.std.specs.List.{position, position_or_len}
 use Rattle.model.specs.declared.names.Row.{Row}
 use Rattle.model.specs.declared.names.Seat.{Seat}
@@ -10,10 +12,13 @@ use Rattle.handler.specs.Inputs.{Input, turn_upon_input}
 use Rattle.checkpoint.specs.Shelves.{has_index}
 use Rattle.orphan.specs.Tests.{is_orphan_by}
 use Rattle.compact.specs.Compact.{Compact, Interval, Progress, Snapshot, Unit}
-use Rattle.compact.specs.Steps.{Receipt, first_unit, fitted_unit, flushed_unit, going_on, kept_places, killed_unit, last_vector, next_record, places as all_of, receiving_unit, shelved_unit, turn_of_receipt}
+use Rattle.compact.specs.Steps.{Receipt, first_unit, fitted_unit, flushed_unit, going_on, kept_places, killed_unit}
+use Rattle.compact.specs.Steps.{last_vector, next_record, places as all_of, receiving_unit, shelved_unit}
+use Rattle.compact.specs.Steps.{turn_of_receipt}
 use Rattle.compact.specs.StepLaws.{StandsCompact}
 use Rattle.compact.specs.Forgetting.{rebased}
-use Rattle.rollback.specs.Units.{Recovering, IsKept, IsTarget, asking, begun_unit, checkpointed, forgotten, killed_recovering, marked_stable, places, took, widened_to}
+use Rattle.rollback.specs.Units.{Recovering, IsKept, IsTarget, asking, begun_unit, checkpointed, forgotten}
+use Rattle.rollback.specs.Units.{killed_recovering, marked_stable, places, took, widened_to}
 use Rattle.rollback_laws.specs.Seen.{BeginsAt, HasPlaces, IsClean, IsRead, IsReady, IsRestored, IsSeen}
 
 -- ---- beginning and joins

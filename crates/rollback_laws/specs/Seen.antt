@@ -1,5 +1,6 @@
 -- What a recovery unit and the unit of the compact state that it keeps have in common.
-use Rattle.std.specs.Prelude.{◌≡◌, ◌⊎◌, ℕ, ◌+◌, ◌-◌, ◌<◌, ◌≤◌, false, List, Some, drop, length, map, min, slice_get, take}
+use Rattle.std.specs.Prelude.{◌≡◌, ◌⊎◌, ℕ, ◌+◌, ◌-◌, ◌<◌, ◌≤◌, false, List, Some, drop, length, map, min, slice_get}
+use Rattle.std.specs.Prelude.{take}
 use Rattle.std.specs.Option.{is_some}
 use Rattle.model.specs.declared.records.Record.{Record}
 use Rattle.model.specs.Handler.{Meaning}
@@ -15,7 +16,8 @@ use Rattle.rollback.specs.Units.{Recovering, IsTarget, OrphansAreTail, places as
 abbrev pub shelved_as : {S : Type 0} → Snapshot S → Shelf (Progress S)
 shelved_as s = record { index = s.index; state = s.progress }
 
--- The recovery unit keeps this unit of the compact state. How many rows the unit knows, its frontier, the places of its records
+-- The recovery unit keeps this unit of the compact state. How many rows the unit knows, its frontier, the places of its
+-- records
 -- in the log, and its outputs are kept elsewhere.
 pub record IsSeen {S : Type 0} (r : Recovering S) (x : Unit S) : Type 0 where
   pub seat : x.seat ≡ r.seat

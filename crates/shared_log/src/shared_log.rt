@@ -1,6 +1,6 @@
 //! The log of all tenants.
 
-ghost use Rattle.std.specs.Prelude.{◌≡◌, ◌<◌, ◌≤◌, ◌++◌, ◌∷◌, [], All, IfOk, OnOk, OnErr, Some, length, slice_get, take, drop};
+ghost use Rattle.std.specs.Prelude.{◌≡◌, ◌≢◌, ◌<◌, ◌≤◌, ◌+◌, ◌++◌, ◌∷◌, [], All, IfOk, OnOk, OnErr, Some, length, slice_get, take, drop};
 ghost use Rattle.model.specs.Failures.{HasRisen};
 ghost use Rattle.shared_log.specs.Index.{listed, OtherLists, SameLists};
 ghost use Rattle.shared_log.specs.Logged.{places_of, AllKept, OthersKept, IsHeld, Grows, KeepsContents, emptied};
@@ -58,13 +58,15 @@ impl<S: Store> SharedLog<S> {
     ///
     /// # Errors
     ///
-    /// `Device` comes only where the device failed in this call; after an error the records and the
-    /// live ones are as they were.
+    /// `Device` comes only where the device failed in this call, which is not tried again; after an
+    /// error the records and the live ones are as they were.
     pub fn append(&mut self, logged: &Record) -> Result<(), StoreFault>
         ensures ok { OnOk result (self.new.records ≡ self.old.records ++ Some logged.now ∷ []) }
         ensures err { OnErr result (self.new.records ≡ self.old.records) }
         ensures device { result ≡ Err StoreFault.Device → HasRisen self.old.failures self.new.failures }
         ensures up { self.old.failures ≤ self.new.failures }
+        ensures steady { result ≢ Err StoreFault.Device → self.new.failures ≡ self.old.failures }
+        ensures once { self.new.failures ≤ self.old.failures + 1 }
         ensures own { OnOk result (places_of logged.now.tenant logged.now.unit self.new
             ≡ places_of logged.now.tenant logged.now.unit self.old ++ length self.old.records ∷ []) }
         ensures others { OthersKept logged.now.tenant logged.now.unit self.old self.new }
@@ -101,6 +103,8 @@ impl<S: Store> SharedLog<S> {
         ensures kept { AllKept self.old self.new }
         ensures device { result ≡ Err StoreFault.Device → HasRisen self.old.failures self.new.failures }
         ensures up { self.old.failures ≤ self.new.failures }
+        ensures steady { result ≢ Err StoreFault.Device → self.new.failures ≡ self.old.failures }
+        ensures once { self.new.failures ≤ self.old.failures + 1 }
     {
         self.store.fetch(place)
     }
@@ -152,6 +156,8 @@ fn append_to<S: Store>(
     ensures same { OnErr result (SameLists index.old index.new) }
     ensures device { result ≡ Err StoreFault.Device → HasRisen (S.failures store.old) (S.failures store.new) }
     ensures up { S.failures store.old ≤ S.failures store.new }
+    ensures steady { result ≢ Err StoreFault.Device → S.failures store.new ≡ S.failures store.old }
+    ensures once { S.failures store.new ≤ S.failures store.old + 1 }
 {
     let Some(next) = count.checked_add(1) else {
         return Err(StoreFault::NoMemory);

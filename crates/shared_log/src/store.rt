@@ -1,6 +1,6 @@
 //! Stores.
 
-ghost use Rattle.std.specs.Prelude.{◌≡◌, ◌<◌, ◌≤◌, ◌++◌, ◌∷◌, [], IfOk, OnOk, OnErr, List, length, slice_get, slice_set, Some, None};
+ghost use Rattle.std.specs.Prelude.{◌≡◌, ◌≢◌, ◌<◌, ◌≤◌, ◌+◌, ◌++◌, ◌∷◌, [], IfOk, OnOk, OnErr, List, length, slice_get, slice_set, Some, None};
 ghost use Rattle.model.specs.Failures.{HasRisen};
 ghost use Rattle.shared_log.specs.Logged.{IsHeld};
 
@@ -35,7 +35,8 @@ pub trait Store: Drop {
     /// The acknowledged records, in order, and empty places for those that were forgotten.
     ghost log: { Self → List (Option Record) };
 
-    /// How often the device failed. The count stays at its greatest, where it passes as risen.
+    /// How often the device failed. The count stays at its greatest, where it passes as risen. A call that isn't answered
+    /// `Device` leaves it as it was, and one that is raises it by one at most: it isn't tried again.
     ghost failures: { Self → ℕ };
 
     /// Keeps a record, or leaves all as it was.
@@ -43,7 +44,9 @@ pub trait Store: Drop {
         ensures ok { OnOk result (log self.new ≡ log self.old ++ Some logged.now ∷ []) }
         ensures err { OnErr result (log self.new ≡ log self.old) }
         ensures device { result ≡ Err StoreFault.Device → HasRisen (failures self.old) (failures self.new) }
-        ensures up { failures self.old ≤ failures self.new };
+        ensures up { failures self.old ≤ failures self.new }
+        ensures steady { result ≢ Err StoreFault.Device → failures self.new ≡ failures self.old }
+        ensures once { failures self.new ≤ failures self.old + 1 };
 
     /// Gives the record of a place back, which must not be forgotten.
     fn fetch(&mut self, place: u64) -> Result<model::Record, StoreFault>
@@ -51,7 +54,9 @@ pub trait Store: Drop {
         ensures found { IfOk result (λ r. slice_get (log self.old) place ≡ Some (Some r)) }
         ensures same { log self.new ≡ log self.old }
         ensures device { result ≡ Err StoreFault.Device → HasRisen (failures self.old) (failures self.new) }
-        ensures up { failures self.old ≤ failures self.new };
+        ensures up { failures self.old ≤ failures self.new }
+        ensures steady { result ≢ Err StoreFault.Device → failures self.new ≡ failures self.old }
+        ensures once { failures self.new ≤ failures self.old + 1 };
 
     /// Gives up the record of a place, whose place stays as an empty one. It takes no memory and
     /// cannot fail. What a device has of the record may stay there.

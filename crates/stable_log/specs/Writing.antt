@@ -3,7 +3,14 @@ use Rattle.std.specs.Prelude.{ℕ, ◌+◌, ◌-◌, ◌^◌, min, List, [], ◌
 use Rattle.forms.specs.Writing.{record_text}
 use Rattle.model.specs.declared.records.Record.{Record}
 
--- the records that were acknowledged, with empty places for those that were forgotten, the writer, how often it failed, and whether nothing is written any more
+-- a writer, how often it failed, and whether nothing is written any more
+pub record Wired (W : Type 0) : Type 0 where
+  pub writer : W
+  pub failures : ℕ
+  pub is_closed : Bool
+
+-- the records that were acknowledged, with empty places for those that were forgotten, the writer, how often it failed,
+-- and whether nothing is written any more
 pub record Writing (W : Type 0) : Type 0 where
   pub records : List (Option Record)
   pub writer : W

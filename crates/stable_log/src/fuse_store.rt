@@ -77,6 +77,8 @@ impl Store for FuseStore {
         ensures err { OnErr result (self.new.records ≡ self.old.records) }
         ensures device { result ≡ Err StoreFault.Device → HasRisen self.old.failures self.new.failures }
         ensures up { self.old.failures ≤ self.new.failures }
+        ensures steady { result ≢ Err StoreFault.Device → self.new.failures ≡ self.old.failures }
+        ensures once { self.new.failures ≤ self.old.failures + 1 }
         ensures fails { is_one_of self.old.appends self.old.bad_appends ≡ true → result ≡ Err StoreFault.Device }
         ensures works { is_one_of self.old.appends self.old.bad_appends ≡ false → result ≢ Err StoreFault.Device }
         ensures counted { self.old.appends < 2 ^ 64 - 1 → self.new.appends ≡ self.old.appends + 1 }
@@ -96,6 +98,8 @@ impl Store for FuseStore {
         ensures same { self.new.records ≡ self.old.records }
         ensures device { result ≡ Err StoreFault.Device → HasRisen self.old.failures self.new.failures }
         ensures up { self.old.failures ≤ self.new.failures }
+        ensures steady { result ≢ Err StoreFault.Device → self.new.failures ≡ self.old.failures }
+        ensures once { self.new.failures ≤ self.old.failures + 1 }
         ensures fails { is_one_of self.old.fetches self.old.bad_fetches ≡ true → result ≡ Err StoreFault.Device }
         ensures works { is_one_of self.old.fetches self.old.bad_fetches ≡ false → result ≢ Err StoreFault.Device }
         ensures counted { self.old.fetches < 2 ^ 64 - 1 → self.new.fetches ≡ self.old.fetches + 1 }

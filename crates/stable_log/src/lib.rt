@@ -2,7 +2,8 @@
 //!
 //! - `Store`, `StoreFault`, `MemoryStore`, `Records`, `SharedLog`: of the crate `shared_log` below,
 //!   which the tenant stands on, so that an edit of a line's form doesn't prove the tenant again.
-//! - `WriterStore`: keeps its records, and writes a line of JSON for each, for people to read.
+//! - `WriterStore`: keeps its records, and writes a line of JSON for each, for people to read. `device` counts the
+//!   failures of its writer.
 //! - `FuseStore`: fails the appends and fetches that it is told to, for tests.
 //! - `FuseWriter`: takes some bytes and then fails, for tests.
 //!
@@ -29,6 +30,7 @@
 //! ```
 #![tactic(auto)]
 
+mod device;
 mod fuse_store;
 mod fuse_writer;
 mod writer_store;

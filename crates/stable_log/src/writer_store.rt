@@ -1,19 +1,19 @@
 //! A store that writes its records.
 
-ghost use Rattle.std.specs.Prelude.{◌≡◌, ◌≢◌, ◌<◌, ◌≤◌, ◌++◌, ◌∷◌, [], IfOk, OnOk, OnErr, None, length, slice_get, slice_set, string_bytes, Some, true, false};
+ghost use Rattle.std.specs.Prelude.{◌≡◌, ◌≢◌, ◌<◌, ◌≤◌, ◌+◌, ◌++◌, ◌∷◌, [], IfOk, OnOk, OnErr, None, length, slice_get, slice_set, string_bytes, Some, true, false};
 ghost use Rattle.std.specs.Io.KnownBytes.{Appends, Keeps};
 ghost use Rattle.model.specs.Failures.{HasRisen};
 ghost use Rattle.written.specs.Beginnings.{AppendsBeginning};
 ghost use Rattle.shared_log.specs.Logged.{IsHeld};
 ghost use Rattle.stable_log.specs.Writing.{log_line, one_more};
 
+use crate::device::Device;
 use forms::write_record;
 use model::{NoMemory, Record};
 use shared_log::{Records, Store, StoreFault};
 use std::alloc::Global;
 use std::io::Write;
 use std::marker::Model;
-use written::{flush_all, put_all};
 
 /// A store that keeps its records in memory, and writes one line of JSON for each. A record is
 /// acknowledged once its line is out. One that is forgotten leaves memory; its line stays written.
@@ -25,9 +25,7 @@ use written::{flush_all, put_all};
 pub struct WriterStore<W> {
     alloc: Global,
     records: Records,
-    writer: W,
-    failures: u64,
-    is_closed: bool,
+    device: Device<W>,
 }
 
 impl<W> Model for WriterStore<W> {
@@ -37,9 +35,9 @@ impl<W> Model for WriterStore<W> {
 
     ghost view = { λ s. record {
       records = s.records;
-      writer = s.writer;
-      failures = s.failures;
-      is_closed = s.is_closed;
+      writer = s.device.writer;
+      failures = s.device.failures;
+      is_closed = s.device.is_closed;
     } };
 }
 
@@ -52,15 +50,6 @@ fn line_of(alloc: Global, logged: &Record) -> Result<String, NoMemory>
     Ok(line)
 }
 
-/// Writes all of the bytes and flushes them. Where that fails a beginning of them is written.
-fn put_out<W: Write>(writer: &mut W, bytes: &[u8]) -> Result<(), written::Failed>
-    ensures ok { OnOk result (Appends (W.contents writer.old) (W.contents writer.new) bytes.now) }
-    ensures err { OnErr result (AppendsBeginning (W.contents writer.old) (W.contents writer.new) bytes.now) }
-{
-    put_all(writer, bytes)?;
-    flush_all(writer)
-}
-
 impl<W> WriterStore<W> {
     /// A store with no records, over this writer.
     pub fn new(alloc: Global, writer: W) -> WriterStore<W>
@@ -69,9 +58,7 @@ impl<W> WriterStore<W> {
         WriterStore {
             alloc,
             records: Records::new(alloc),
-            writer,
-            failures: 0,
-            is_closed: false,
+            device: Device::new(writer),
         }
     }
 
@@ -79,28 +66,14 @@ impl<W> WriterStore<W> {
     pub fn writer(&self) -> &W
         ensures { result.now ≡ self.now.writer }
     {
-        &self.writer
+        self.device.writer()
     }
 
     /// Whether a write failed: nothing is written any more.
     pub fn is_closed(&self) -> bool
         ensures { result ≡ self.now.is_closed }
     {
-        let WriterStore { is_closed, .. } = self;
-        *is_closed
-    }
-
-    /// The device failed.
-    fn count_failure(&mut self)
-        ensures records { self.new.records ≡ self.old.records }
-        ensures writer { self.new.writer ≡ self.old.writer }
-        ensures risen { HasRisen self.old.failures self.new.failures }
-        ensures up { self.old.failures ≤ self.new.failures }
-        ensures counted { self.new.failures ≡ one_more self.old.failures }
-        ensures closed { self.new.is_closed ≡ true }
-    {
-        self.is_closed = true;
-        self.failures = self.failures.saturating_add(1);
+        self.device.is_closed()
     }
 }
 
@@ -125,19 +98,19 @@ impl<W: Write + Drop> Store for WriterStore<W> {
         ensures refused { self.old.is_closed ≡ true → result ≡ Err StoreFault.Device }
         ensures counts { result ≡ Err StoreFault.Device → self.new.failures ≡ one_more self.old.failures }
         ensures uncounted { result ≢ Err StoreFault.Device → self.new.failures ≡ self.old.failures }
+        ensures once { self.new.failures ≤ self.old.failures + 1 }
         ensures closes { result ≡ Err StoreFault.Device → self.new.is_closed ≡ true }
         ensures opens { OnOk result (self.new.is_closed ≡ false) }
     {
-        if self.is_closed {
-            self.count_failure();
+        if self.device.is_closed() {
+            self.device.refuse();
             return Err(StoreFault::Device);
         }
         let line = line_of(self.alloc, logged)?;
         let kept = logged.copy(self.alloc)?;
         self.records.keep(kept)?;
-        if put_out(&mut self.writer, line.as_bytes()).is_err() {
+        if self.device.put(line.as_bytes()).is_err() {
             self.records.take_back();
-            self.count_failure();
             return Err(StoreFault::Device);
         }
         Ok(())

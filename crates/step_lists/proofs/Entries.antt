@@ -7,7 +7,8 @@ use Rattle.model.specs.declared.replies.Reply.{Reply}
 use Rattle.model.specs.declared.replies.Said.{Said}
 use Rattle.model.specs.declared.replies.Who.TheVariants.{Caller}
 use Rattle.model.specs.declared.steps.Step.{Step}
-use Rattle.model.specs.declared.steps.Step.TheVariants.{Open, Join, Post, Deliver, Flush, Checkpoint, Kill, Restart, Notice, Release, Status}
+use Rattle.model.specs.declared.steps.Step.TheVariants.{Open, Join, Post, Deliver, Flush, Checkpoint, Kill, Restart}
+use Rattle.model.specs.declared.steps.Step.TheVariants.{Notice, Release, Status}
 use Rattle.book.specs.Entries.{IsEntered, Ledger, memory_reply}
 use Rattle.book.specs.History.{Ran}
 use Rattle.journal.specs.GoingOn.{IsPromise}
@@ -42,9 +43,12 @@ one_more before mid s r p (inl added) = (added.0, added.1)
 one_more before mid s r p (inr forgone) = absurd (no_promise s (subst IsPromise forgone.0 p))
 
 -- and so was the whole list
-pub entered : (before after : Ledger) (steps : List Step) (replies : List Reply) → Ran before steps replies after → All IsPromise replies
-    → (entries : List Entry) × (after.history ≡ before.history ++ entries) × (map step_of entries ≡ steps) × (map reply_of entries ≡ replies)
-entered before after [] [] ran p = ([], ap (λ (l : Ledger). l.history) ran ∙ sym (append-nil before.history), refl, refl)
+pub entered : (before after : Ledger) (steps : List Step) (replies : List Reply)
+    → Ran before steps replies after → All IsPromise replies
+    → (entries : List Entry) × (after.history ≡ before.history ++ entries)
+    × (map step_of entries ≡ steps) × (map reply_of entries ≡ replies)
+entered before after [] [] ran p =
+    ([], ap (λ (l : Ledger). l.history) ran ∙ sym (append-nil before.history), refl, refl)
 entered before after [] (r ∷ replies) ran p = absurd ran
 entered before after (s ∷ steps) [] ran p = absurd ran
 entered before after (s ∷ steps) (r ∷ replies) ran p =

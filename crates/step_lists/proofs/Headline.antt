@@ -19,14 +19,17 @@ use Rattle.step_lists.proofs.Tenants.{honest_from, own_events, own_promises, sam
 
 module _ {S : Type 0} (M : Meaning S) where
   -- histories with the same own steps
-  module _ (t : List ℕ) (one other : List Entry) (records records' : List Record) (legal : IsLegal M one) (legal' : IsLegal M other)
+  module _ (t : List ℕ) (one other : List Entry)
+      (records records' : List Record) (legal : IsLegal M one) (legal' : IsLegal M other)
       (recorded : RecordedAfter M [] one records) (recorded' : RecordedAfter M [] other records')
       (steps : own_steps t (map step_of one) ≡ own_steps t (map step_of other))
       (p : All IsPromise (map reply_of one)) (q : All IsPromise (map reply_of other)) where
     courses : alone M (own t (pairs one)) ≡ alone M (own t (pairs other))
-    courses = same_course M t None (own t (pairs one)) (own t (pairs other)) (honest_from M t [] one records recorded) (honest_from M t [] other records' recorded')
+    courses = same_course M t None (own t (pairs one))
+        (own t (pairs other)) (honest_from M t [] one records recorded) (honest_from M t [] other records' recorded')
         (own_events t one ∙ ap (map told_step) steps ∙ sym (own_events t other))
-        (subst (All IsPromise) (legal t) (own_promises t one p)) (subst (All IsPromise) (legal' t) (own_promises t other q))
+        (subst (All IsPromise) (legal t) (own_promises t one p))
+        (subst (All IsPromise) (legal' t) (own_promises t other q))
 
     pub in_common : AreOne M t one other
     in_common =
@@ -39,7 +42,8 @@ module _ {S : Type 0} (M : Meaning S) where
           lasting = whole.lasting;
         }
 
-  wholly : (steps : List Step) (replies : List Reply) (after : Ledger) → IsRunOf M steps replies after → IsWholly steps replies after.history
+  wholly : (steps : List Step) (replies : List Reply) (after : Ledger)
+      → IsRunOf M steps replies after → IsWholly steps replies after.history
   wholly steps replies after run =
       let e = entered run.start after steps replies run.ran run.promises in
       let all : after.history ≡ e.0 = e.1 ∙ ap (λ (h : List Entry). h ++ e.0) run.empty in
@@ -51,7 +55,8 @@ module _ {S : Type 0} (M : Meaning S) where
       let w' = wholly steps' replies' other run' in (
         w,
         w',
-        in_common tenant one.history other.history run.book.recorded.0 run'.book.recorded.0 run.book.legal run'.book.legal run.book.recorded.1 run'.book.recorded.1
+        in_common tenant one.history other.history run.book.recorded.0
+            run'.book.recorded.0 run.book.legal run'.book.legal run.book.recorded.1 run'.book.recorded.1
             (ap (own_steps tenant) w.steps ∙ same ∙ sym (ap (own_steps tenant) w'.steps))
             (subst (All IsPromise) (sym w.replies) run.promises) (subst (All IsPromise) (sym w'.replies) run'.promises),
       )

@@ -31,7 +31,8 @@ told_step s = (addressed s).1
 -- ---- own steps, events and replies
 
 module _ (t : List ℕ) where
-  own-first : (e : Entry) (rest : List Entry) → names t e.step ≡ true → own t (pairs (e ∷ rest)) ≡ event_of e ∷ own t (pairs rest)
+  own-first : (e : Entry) (rest : List Entry)
+      → names t e.step ≡ true → own t (pairs (e ∷ rest)) ≡ event_of e ∷ own t (pairs rest)
   own-first e rest is =
       let others = filter (λ (p : Step × Said). names t p.0) (pairs rest) in
       ap (λ b. map event_of_pair (cond b (pair_of e ∷ others) others)) is
@@ -56,39 +57,48 @@ module _ (t : List ℕ) where
       ∙ later
       ∙ sym (ap (λ b. map told_step (cond b (e.step ∷ others) others)) is)
 
-  pub own_events : (history : List Entry) → map event_step (own t (pairs history)) ≡ map told_step (own_steps t (map step_of history))
+  pub own_events : (history : List Entry)
+      → map event_step (own t (pairs history)) ≡ map told_step (own_steps t (map step_of history))
   own_events [] = refl
   own_events (e ∷ rest) = steps_at (names t e.step) e rest refl (own_events rest)
 
   -- of promises each to the tenant is one
-  promises_at : (b : Bool) (e : Entry) (rest : List Entry) → names t e.step ≡ b → IsPromise e.reply → All IsPromise (replies_to t rest)
+  promises_at : (b : Bool) (e : Entry) (rest : List Entry)
+      → names t e.step ≡ b → IsPromise e.reply → All IsPromise (replies_to t rest)
       → All IsPromise (replies_to t (e ∷ rest))
   promises_at true e rest is here later =
       let others = filter (λ (x : Entry). names t x.step) rest in
-      subst (All IsPromise) (sym (ap (λ b. map reply_of (cond b (e ∷ others) others)) is)) (All-cons IsPromise e.reply (replies_to t rest) here later)
+      subst (All IsPromise) (sym (ap (λ b. map reply_of (cond b (e ∷ others) others)) is))
+      (All-cons IsPromise e.reply (replies_to t rest) here later)
   promises_at false e rest is here later =
       let others = filter (λ (x : Entry). names t x.step) rest in
       subst (All IsPromise) (sym (ap (λ b. map reply_of (cond b (e ∷ others) others)) is)) later
 
-  pub own_promises : (history : List Entry) → All IsPromise (map reply_of history) → All IsPromise (replies_to t history)
+  pub own_promises : (history : List Entry)
+      → All IsPromise (map reply_of history) → All IsPromise (replies_to t history)
   own_promises [] p = All-nil IsPromise
   own_promises (e ∷ rest) p =
-      promises_at (names t e.step) e rest refl (All-head IsPromise e.reply (map reply_of rest) p) (own_promises rest (All-tail IsPromise e.reply (map reply_of rest) p))
+      promises_at (names t e.step) e rest refl (All-head IsPromise e.reply (map reply_of rest) p)
+      (own_promises rest (All-tail IsPromise e.reply (map reply_of rest) p))
 
 module _ {S : Type 0} (M : Meaning S) (t : List ℕ) where
   -- ---- what the store said during the tenant's events is honest
 
   abbrev pub HonestFrom : Option World → List Event → Type 0
   HonestFrom w [] = Unit {0}
-  HonestFrom w (e ∷ events) = (grown : List Record) × IsHonestAt M t w e.step e.said grown × HonestFrom (step M w e).world events
+  HonestFrom w (e ∷ events) = (grown : List Record)
+      × IsHonestAt M t w e.step e.said grown × HonestFrom (step M w e).world events
 
   world_of-apart : (h : List Entry) (e : Entry) → names t e.step ≡ false → world_of M t (h ++ e ∷ []) ≡ world_of M t h
   world_of-apart h e is =
       ap (λ (events : List Event). (alone M events).world)
-      (own-push t h e ∙ ap (λ b. own t (pairs h) ++ map event_of_pair (cond b (pair_of e ∷ []) [])) is ∙ append-nil (own t (pairs h)))
+      (own-push t h e ∙ ap (λ b. own t (pairs h) ++ map event_of_pair (cond b (pair_of e ∷ []) [])) is
+      ∙ append-nil (own t (pairs h)))
 
-  honest_at : (b : Bool) (before rest : List Entry) (e : Entry) (grown : List Record) → IsHonestAfter M before e grown → names t e.step ≡ b
-      → HonestFrom (world_of M t (before ++ e ∷ [])) (own t (pairs rest)) → HonestFrom (world_of M t before) (own t (pairs (e ∷ rest)))
+  honest_at : (b : Bool) (before rest : List Entry) (e : Entry) (grown : List Record)
+      → IsHonestAfter M before e grown → names t e.step ≡ b
+      → HonestFrom (world_of M t (before ++ e ∷ [])) (own t (pairs rest))
+      → HonestFrom (world_of M t before) (own t (pairs (e ∷ rest)))
   honest_at true before rest e grown honest is later =
       let here : t ≡ name_of e = same_name t (name_of e) is in
       subst (HonestFrom (world_of M t before)) (sym (own-first t e rest is)) (
@@ -104,7 +114,8 @@ module _ {S : Type 0} (M : Meaning S) (t : List ℕ) where
       → HonestFrom (world_of M t before) (own t (pairs rest))
   honest_from before [] records recorded = tt
   honest_from before (e ∷ rest) records recorded =
-      honest_at (names t e.step) before rest e recorded.0 recorded.3 refl (honest_from (before ++ e ∷ []) rest recorded.1 recorded.4)
+      honest_at (names t e.step)
+      before rest e recorded.0 recorded.3 refl (honest_from (before ++ e ∷ []) rest recorded.1 recorded.4)
 
   -- ---- the same steps from the same world
 
@@ -136,9 +147,11 @@ module _ {S : Type 0} (M : Meaning S) (t : List ℕ) where
       let now = outcomes w e e' h.0 h'.0 step_here h.1 h'.1
       (All-head IsPromise (step M w e).reply others p) (All-head IsPromise (step M w e').reply others' q) in
       let back : (step M w e').world ≡ (step M w e).world = ap (λ (o : Outcome). o.world) (sym now) in
-      let later = same_course (step M w e).world events events' h.2 (subst (λ x. HonestFrom x events') back h'.2) steps_after
+      let later =
+      same_course (step M w e).world events events' h.2 (subst (λ x. HonestFrom x events') back h'.2) steps_after
       (All-tail IsPromise (step M w e).reply others p)
-      (subst (λ x. All IsPromise (course_from M x events').replies) back (All-tail IsPromise (step M w e').reply others' q)) in
+      (subst (λ x. All IsPromise (course_from M x events').replies)
+      back (All-tail IsPromise (step M w e').reply others' q)) in
       let whole : course_from M (step M w e).world events ≡ course_from M (step M w e').world events' =
       later ∙ ap (λ (o : Outcome). course_from M o.world events') now in
       λ i. record { replies = (now i).reply ∷ (whole i).replies; world = (whole i).world }

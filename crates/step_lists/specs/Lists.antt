@@ -15,7 +15,8 @@ use Rattle.journal.specs.GoingOn.{IsBook, IsPromise}
 abbrev pub own_steps : List ℕ → List Step → List Step
 own_steps tenant steps = filter (names tenant) steps
 
--- a new book did these steps in order, and gave these replies, which tell of no memory that was missing and of no device that failed
+-- a new book did these steps in order, and gave these replies, which tell of no memory that was missing and of no
+-- device that failed
 pub record IsRunOf {S : Type 0} (M : Meaning S) (steps : List Step) (replies : List Reply) (after : Ledger)
     : Type 0 where
   pub start : Ledger

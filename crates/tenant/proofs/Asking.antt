@@ -26,29 +26,38 @@ use Rattle.tenant.specs.Represents.{Leaves, StandsFor}
 use Rattle.tenant.proofs.Follow.{KeepsUnit, none_kept}
 
 -- what gives the value of a map is there
-pub mapped_from : {X Y : Type 0} (f : X → Y) (o : Option X) (y : Y) → option_map f o ≡ Some y → (x : X) × (o ≡ Some x) × (f x ≡ y)
+pub mapped_from : {X Y : Type 0} (f : X → Y) (o : Option X) (y : Y)
+    → option_map f o ≡ Some y → (x : X) × (o ≡ Some x) × (f x ≡ y)
 mapped_from f None y e = absurd (cc e)
 mapped_from f (Some x) y e = (x, refl, same_Some (f x) y e)
 
 -- a unit that is asked is up
-pub asked_up : {S : Type 0} (r : Recovering S) (source : Source) (text : List ℕ) (input : Input S) → asking r source text ≡ Some input → (p : Progress S) × (r.progress ≡ Some p) × (record { seat = r.seat; state = p.state; source = source; text = text } ≡ input)
-asked_up r source text input e = mapped_from (λ p. record { seat = r.seat; state = p.state; source = source; text = text }) r.progress input e
+pub asked_up : {S : Type 0} (r : Recovering S) (source : Source) (text : List ℕ) (input : Input S)
+    → asking r source text ≡ Some input → (p : Progress S)
+    × (r.progress ≡ Some p) × (record { seat = r.seat; state = p.state; source = source; text = text } ≡ input)
+asked_up r source text input e =
+    mapped_from (λ p. record { seat = r.seat; state = p.state; source = source; text = text }) r.progress input e
 
 -- what is asked for passed the tests before the turn
-pub asking_at : {S : Type 0} (t : TenantState S) (u : ℕ) (m n : Member S) (refusal : Member S → Option Refusal) (source : Source) (text : List ℕ) → slice_get t.members u ≡ Some m → slice_get t.members u ≡ Some n → refusal m ≡ None → places m.recovering < 2 ^ 32
-    → (r : Result (Input S) Refusal) → IfOk r (λ input. asking m.recovering source text ≡ Some input) → IfOk r (λ input. IsAsking (refusal n) n.recovering source text input)
+pub asking_at : {S : Type 0} (t : TenantState S)
+    (u : ℕ) (m n : Member S) (refusal : Member S → Option Refusal) (source : Source) (text : List ℕ)
+    → slice_get t.members u ≡ Some m → slice_get t.members u ≡ Some n → refusal m ≡ None → places m.recovering < 2 ^ 32
+    → (r : Result (Input S) Refusal) → IfOk r (λ input. asking m.recovering source text ≡ Some input)
+    → IfOk r (λ input. IsAsking (refusal n) n.recovering source text input)
 asking_at {S} t u m n refusal source text at there passes room (Ok input) a =
     let same : m ≡ n = same_Some m n (sym at ∙ there) in
     rw (← same) (record { passes = passes; room = room; asked = a })
 asking_at t u m n refusal source text at there passes room (Err r) a = tt
 
 -- the unit of the world
-pub record Shown {S : Type 0} (M : Meaning S) (name : List ℕ) (w : World) (log : List Record) (u : ℕ) (x : Unit S) : Type 0 where
+pub record Shown {S : Type 0} (M : Meaning S)
+    (name : List ℕ) (w : World) (log : List Record) (u : ℕ) (x : Unit S) : Type 0 where
   pub member : WorldMember
   pub at : slice_get w.members u ≡ Some member
   pub is : IsUnit M name w log member x
 
-module _ {S : Type 0} (M : Meaning S) (name : List ℕ) (live : ℕ → List ℕ) (t : TenantState S) (w : World) (log : List Record) (s : StandsFor M name live t w log) (u : ℕ) where
+module _ {S : Type 0} (M : Meaning S) (name : List ℕ) (live : ℕ → List ℕ)
+    (t : TenantState S) (w : World) (log : List Record) (s : StandsFor M name live t w log) (u : ℕ) where
   pub shown : (m : Member S) (x : KeepsUnit t live s.0 u m) → Shown M name w log u x.unit
   shown m x =
       let within = slice_get_within s.0.units u x.unit x.at in
@@ -70,26 +79,34 @@ module _ {S : Type 0} (M : Meaning S) (name : List ℕ) (live : ℕ → List ℕ
       different x e = cc e
 
   -- the input that is asked for is that of the world
-  pub input_is : (m : Member S) (x : KeepsUnit t live s.0 u m) (f : Shown M name w log u x.unit) (source : Source) (text : List ℕ) (input : Input S) → asking m.recovering source text ≡ Some input → input_upon M w f.member source text ≡ input
+  pub input_is : (m : Member S) (x : KeepsUnit t live s.0 u m)
+      (f : Shown M name w log u x.unit) (source : Source) (text : List ℕ) (input : Input S)
+      → asking m.recovering source text ≡ Some input → input_upon M w f.member source text ≡ input
   input_is m x f source text input asked =
       let a = asked_up m.recovering source text input asked in
       let up : f.member.up ≡ true = sym f.is.up ∙ x.is.seen.up ∙ ap is_some a.1 in
       let seat = sym f.is.seat ∙ x.is.seen.seat in
-      let now : progress_after M w f.member (length f.member.path - 1) ≡ a.0 = sym (f.is.now up) ∙ x.is.seen.now a.0 a.1 in
+      let now : progress_after M w f.member (length f.member.path - 1) ≡ a.0 =
+      sym (f.is.now up) ∙ x.is.seen.now a.0 a.1 in
       (λ i. record { seat = seat i; state = (now i).state; source = source; text = text }) ∙ a.2
 
 -- ---- refusals in the world
 
 -- after one all stays
-pub refused_stays : {S : Type 0} (M : Meaning S) (name : List ℕ) (live : ℕ → List ℕ) (t : TenantState S) (w : World) (log : List Record) → StandsFor M name live t w log → (outcome : Outcome) (r : Refusal) (reply : Reply) → outcome ≡ done (Refused r) w → reply ≡ Refused r
+pub refused_stays : {S : Type 0} (M : Meaning S) (name : List ℕ)
+    (live : ℕ → List ℕ) (t : TenantState S) (w : World) (log : List Record) → StandsFor M name live t w log
+    → (outcome : Outcome) (r : Refusal) (reply : Reply) → outcome ≡ done (Refused r) w → reply ≡ Refused r
     → Leaves M name live outcome reply t log
 refused_stays M name live t w log s outcome r reply e told = (w, e ∙ ap (λ r. done r w) (sym told), s)
 
 -- one that the first tests have
-pub refused_first : (w : World) (out : Outcome) (tests rest : List (Bool × Refusal)) (r : Refusal) → first_refusal tests ≡ Some r → outcome_or w out (first_refusal (tests ++ rest)) ≡ done (Refused r) w
-refused_first w out tests rest r e = ap (outcome_or w out) (refusal_append tests rest ∙ ap (λ o. or_next o (first_refusal rest)) e)
+pub refused_first : (w : World) (out : Outcome) (tests rest : List (Bool × Refusal)) (r : Refusal)
+    → first_refusal tests ≡ Some r → outcome_or w out (first_refusal (tests ++ rest)) ≡ done (Refused r) w
+refused_first w out tests rest r e =
+    ap (outcome_or w out) (refusal_append tests rest ∙ ap (λ o. or_next o (first_refusal rest)) e)
 
 -- a unit that is not there
-pub refused_none : (w : World) (u : ℕ) (f : WorldMember → Outcome) → slice_get w.members u ≡ None → at_unit w u f ≡ done (Refused NoUnit) w
+pub refused_none : (w : World) (u : ℕ) (f : WorldMember → Outcome)
+    → slice_get w.members u ≡ None → at_unit w u f ≡ done (Refused NoUnit) w
 unfolding at_unit
 refused_none w u f e = ap (if_unit w f) e

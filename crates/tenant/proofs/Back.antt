@@ -1,5 +1,7 @@
 -- The steps `restart` and `notice`.
-use Rattle.std.proofs.Common.{◌≡◌, ◌^◌, inl, inr, refl, sym, ◌∙◌, ap, subst, ℕ, suc, ◌+◌, ◌-◌, ◌<◌, ◌≤◌, Bool, true, false, cond, min, List, [], ◌∷◌, ◌++◌, length, take, drop, arith, append-nil, map, length-set}
+use Rattle.std.proofs.Common.{◌≡◌, ◌^◌, inl, inr, refl, sym, ◌∙◌, ap, subst, ℕ, suc, ◌+◌, ◌-◌, ◌<◌, ◌≤◌, Bool, true}
+use Rattle.std.proofs.Common.{false, cond, min, List, [], ◌∷◌, ◌++◌, length, take, drop, arith, append-nil, map}
+use Rattle.std.proofs.Common.{length-set}
 use Rattle.std.specs.Prelude.{MatchOption, Option, Some, None, nat_le, nat_lt, option_map, slice_get, slice_set}
 use Rattle.std.specs.List.{position}
 use Rattle.std.specs.Option.{is_some}
@@ -30,10 +32,13 @@ use Rattle.shared_log.specs.Logged.{Grows, IsLeftOf, Logged, places_of}
 use Rattle.shared_log.proofs.LeftLaws.{same_grows}
 use Rattle.orphan.specs.Tests.{is_orphan_by}
 use Rattle.compact.specs.Compact.{Compact, Interval, Progress, Snapshot, Unit}
-use Rattle.compact.specs.Steps.{Done, at_unit_of, back_state, back_unit, first_progress, kept_places, knowing_unit, notice_of, or_refused, places as all_of, rebuilt, restart_of, row_to, tests_of_back, with_unit_at}
+use Rattle.compact.specs.Steps.{Done, at_unit_of, back_state, back_unit, first_progress, kept_places, knowing_unit}
+use Rattle.compact.specs.Steps.{notice_of, or_refused, places as all_of, rebuilt, restart_of, row_to, tests_of_back}
+use Rattle.compact.specs.Steps.{with_unit_at}
 use Rattle.compact.specs.StepLaws.{IsRebuilt, StandsCompact}
 use Rattle.compact.proofs.Recovery.{bases_serve, notices_follow, restarts_follow, snapshots_serve}
-use Rattle.rollback.specs.Units.{IsKept, IsTarget, OrphansAreTail, Recovering, cut_behind, places, restored, stable_places}
+use Rattle.rollback.specs.Units.{IsKept, IsTarget, OrphansAreTail, Recovering, cut_behind, places, restored}
+use Rattle.rollback.specs.Units.{stable_places}
 use Rattle.rollback.proofs.Cuts.{kept_cut}
 use Rattle.rollback_laws.specs.Seen.{BeginsAt, IsReady, IsRead, IsRestored, IsSeen, shelved_as}
 use Rattle.rollback_laws.proofs.Orphans.{first_orphans_are_seen}
@@ -41,7 +46,8 @@ use Rattle.rollback_laws.proofs.Places.{places_are_seen}
 use Rattle.rollback_laws.proofs.Restores.{restores_are_seen}
 use Rattle.rollback_laws.proofs.Standing.{units_are_ready}
 use Rattle.tenant.specs.declared.answer.Answer.{Answer}
-use Rattle.tenant.specs.Kept.{TenantState, Member, returned_kept, kept_before, kept_length, live_count, outputs_to, restart_refusal, returned, returned_member, up_refusal}
+use Rattle.tenant.specs.Kept.{TenantState, Member, returned_kept, kept_before, kept_length, live_count, outputs_to}
+use Rattle.tenant.specs.Kept.{restart_refusal, returned, returned_member, up_refusal}
 use Rattle.tenant.specs.Outcomes.{failing}
 use Rattle.tenant.specs.Returns.{Failed, Returns, Went}
 use Rattle.tenant.specs.Stands.{Did, IsStanding, live_in}
@@ -57,12 +63,14 @@ use Rattle.shared_log.proofs.PlacesLaws.{places_are}
 
 -- ---- the first refusal
 
-worn_first : (limit : Bool) (rest : List (Bool × Refusal)) → limit ≡ true → first_refusal ((limit, Limit) ∷ rest) ≡ Some Limit
+worn_first : (limit : Bool) (rest : List (Bool × Refusal))
+    → limit ≡ true → first_refusal ((limit, Limit) ∷ rest) ≡ Some Limit
 unfolding first_refusal
 worn_first true rest e = refl
 worn_first false rest e = absurd (cc e)
 
-later_first : (b : Bool) (q : Refusal) (rest : List (Bool × Refusal)) → b ≡ false → first_refusal ((b, q) ∷ rest) ≡ first_refusal rest
+later_first : (b : Bool) (q : Refusal) (rest : List (Bool × Refusal))
+    → b ≡ false → first_refusal ((b, q) ∷ rest) ≡ first_refusal rest
 unfolding first_refusal
 later_first true q rest e = absurd (cc e)
 later_first false q rest e = refl
@@ -93,13 +101,15 @@ none_true e f = cc (e, f)
 
 -- ---- numbers
 
-spans : (kept stable base index : ℕ) → base ≤ index → min kept stable - 1 - base - (index - base) ≡ min kept stable - 1 - index
+spans : (kept stable base index : ℕ)
+    → base ≤ index → min kept stable - 1 - base - (index - base) ≡ min kept stable - 1 - index
 spans kept stable base index h = omega (arith, h)
 
 pub above : (a b : ℕ) → nat_le a b ≡ false → b < a
 above a b e = grind (arith, nat_tests)
 
-module _ {S : Type 0} (M : Meaning S) (name : List ℕ) (t : TenantState S) (w : World) (before : Logged) (s : IsStanding M name t w before.records) (u : ℕ) where
+module _ {S : Type 0} (M : Meaning S) (name : List ℕ)
+    (t : TenantState S) (w : World) (before : Logged) (s : IsStanding M name t w before.records) (u : ℕ) where
   abbrev whole : List Record
   whole = s.whole
 
@@ -116,18 +126,34 @@ module _ {S : Type 0} (M : Meaning S) (name : List ℕ) (t : TenantState S) (w :
   st = s.stands.2
 
   -- what is left where the log took nothing
-  closes : (step : TenantStep) (said : Said) (reply : Reply) (v : TenantState S) (after : Logged) → Leaves M name (live_in name after.records) (step_open M w step said) reply v whole → Grows before.records [] after.records
-      → IsHonest M name w step said [] → (said.end ≡ Device → HasRisen before.failures after.failures) → Did M name w v step said reply before after
+  closes : (step : TenantStep) (said : Said) (reply : Reply) (v : TenantState S) (after : Logged)
+      → Leaves M name (live_in name after.records) (step_open M w step said) reply v whole
+      → Grows before.records [] after.records
+      → IsHonest M name w step said []
+      → (said.end ≡ Device → HasRisen before.failures after.failures) → Did M name w v step said reply before after
   closes step said reply v after l grows honest device = record {
-    steps = (l.0, l.1, closed (record { whole = whole; left = subst (λ (ws : List Record). IsLeftOf after.records ws) (append-nil whole) (grows whole s.left); stands = l.2 }));
+    steps = (
+      l.0,
+      l.1,
+      closed (record {
+        whole = whole;
+        left = subst (λ (ws : List Record). IsLeftOf after.records ws)
+            (append-nil whole) (grows whole s.left);
+        stands = l.2;
+      }),
+    );
     logs = record { honest = ([], grows, honest); device = device };
   }
 
   -- what a refusal leaves, where what the store said is honest for this refusal
-  refused_closes : (step : TenantStep) (said : Said) (q : Refusal) (after : Logged) → after.records ≡ before.records → ((step_open M w step said).reply ≡ Refused q → IsHonest M name w step said []) → (said.end ≡ Device → HasRisen before.failures after.failures)
-      → Leaves M name (live_in name after.records) (step_open M w step said) (Refused q) t whole → Did M name w t step said (Refused q) before after
+  refused_closes : (step : TenantStep) (said : Said) (q : Refusal) (after : Logged)
+      → after.records ≡ before.records → ((step_open M w step said).reply ≡ Refused q → IsHonest M name w step said [])
+      → (said.end ≡ Device → HasRisen before.failures after.failures)
+      → Leaves M name (live_in name after.records) (step_open M w step said) (Refused q) t whole
+      → Did M name w t step said (Refused q) before after
   refused_closes step said q after records honest device l =
-      closes step said (Refused q) t after l (same_grows before.records after.records records) (honest (ap (λ (o : Outcome). o.reply) l.1)) device
+      closes step said (Refused q) t after l (same_grows before.records after.records records)
+      (honest (ap (λ (o : Outcome). o.reply) l.1)) device
 
   same_live : (after : Logged) → after.records ≡ before.records → IsCompact t (live_in name after.records) k
   same_live after e = subst (λ (rs : List (Option Record)). IsCompact t (live_in name rs) k) (sym e) is
@@ -149,8 +175,10 @@ module _ {S : Type 0} (M : Meaning S) (name : List ℕ) (t : TenantState S) (w :
   pub restart_no_unit : slice_get t.members u ≡ None → Did M name w t (Restart u) quiet (Refused NoUnit) before before
   restart_no_unit e =
       closes (Restart u) quiet (Refused NoUnit) t before
-      (leaves M name live whole (restart w u quiet) (reach_restart quiet) _ (record { reply = Refused NoUnit; state = k })
-      (restarts_follow M name k w whole st u quiet some_progress (λ x at none. absurd (none_or_some (slice_get k.units u) x (none_kept t live k is u e) at)))
+      (leaves M name live whole
+      (restart w u quiet) (reach_restart quiet) _ (record { reply = Refused NoUnit; state = k })
+      (restarts_follow M name k w whole st u quiet
+      some_progress (λ x at none. absurd (none_or_some (slice_get k.units u) x (none_kept t live k is u e) at)))
       (no_unit t live k is u (restart_of k u quiet some_progress) e) t is)
       unchanged (quiet_asked _) (λ f. absurd (cc f))
 
@@ -165,7 +193,10 @@ module _ {S : Type 0} (M : Meaning S) (name : List ℕ) (t : TenantState S) (w :
 
     -- what a notice does where it cuts, and where it cuts nothing
     abbrev going : Said → Progress S → Done S
-    going said progress = or_refused k (record { reply = Noticed (Some (start_of (row_to k u (kept_places k x.unit)))); state = back_state k u x.unit progress }) (first_refusal (tests_of_back k u said))
+    going said progress = or_refused k (record {
+      reply = Noticed (Some (start_of (row_to k u (kept_places k x.unit))));
+      state = back_state k u x.unit progress;
+    }) (first_refusal (tests_of_back k u said))
 
     abbrev staying : Done S
     staying = record { reply = Noticed None; state = with_unit_at k u (knowing_unit k x.unit) }
@@ -174,26 +205,39 @@ module _ {S : Type 0} (M : Meaning S) (name : List ℕ) (t : TenantState S) (w :
     only P p y at = subst P (same_Some x.unit y (sym x.at ∙ at)) p
 
     -- refused whatever the store said
-    module _ (said : Said) (q : Refusal) (after : Logged) (records : after.records ≡ before.records) (device : said.end ≡ Device → HasRisen before.failures after.failures) where
-      pub restart_refused : ((restart w u said).reply ≡ Refused q → IsHonest M name w (Restart u) said []) → first_refusal ((x.unit.up, Up) ∷ tests_of_back k u said) ≡ Some q → Did M name w t (Restart u) said (Refused q) before after
+    module _ (said : Said) (q : Refusal) (after : Logged) (records : after.records ≡ before.records)
+        (device : said.end ≡ Device → HasRisen before.failures after.failures) where
+      pub restart_refused : ((restart w u said).reply ≡ Refused q → IsHonest M name w (Restart u) said [])
+          → first_refusal ((x.unit.up, Up) ∷ tests_of_back k u said) ≡ Some q
+          → Did M name w t (Restart u) said (Refused q) before after
       restart_refused honest e =
           refused_closes (Restart u) said q after records honest device
-          (leaves M name (live_in name after.records) whole (restart w u said) (reach_restart said) _ (record { reply = Refused q; state = k })
-          (restarts_follow M name k w whole st u said some_progress (λ y at none. absurd (none_or_some (first_refusal ((x.unit.up, Up) ∷ tests_of_back k u said)) q
-          (ap (λ (z : Unit S). first_refusal ((z.up, Up) ∷ tests_of_back k u said)) (same_Some x.unit y (sym x.at ∙ at)) ∙ none) e)))
-          (ap (at_unit_of k (restart_of k u said some_progress)) x.at ∙ ap (or_refused k _) e) t (same_live after records))
+          (leaves M name (live_in name after.records)
+          whole (restart w u said) (reach_restart said) _ (record { reply = Refused q; state = k })
+          (restarts_follow M name k w whole st u said some_progress
+          (λ y at none. absurd (none_or_some (first_refusal ((x.unit.up, Up) ∷ tests_of_back k u said)) q
+          (ap (λ (z : Unit S). first_refusal ((z.up, Up) ∷ tests_of_back k u said)) (same_Some x.unit y (sym x.at ∙ at))
+          ∙ none) e)))
+          (ap (at_unit_of k (restart_of k u said some_progress)) x.at
+          ∙ ap (or_refused k _) e) t (same_live after records))
 
-      pub notice_refused : ((notice w u said).reply ≡ Refused q → IsHonest M name w (Notice u) said []) → is_some r.progress ≡ true → kept_places k x.unit < all_of x.unit → first_refusal (tests_of_back k u said) ≡ Some q → Did M name w t (Notice u) said (Refused q) before after
+      pub notice_refused : ((notice w u said).reply ≡ Refused q → IsHonest M name w (Notice u) said [])
+          → is_some r.progress ≡ true → kept_places k x.unit < all_of x.unit
+          → first_refusal (tests_of_back k u said) ≡ Some q → Did M name w t (Notice u) said (Refused q) before after
       notice_refused honest up cut e =
           refused_closes (Notice u) said q after records honest device
-          (leaves M name (live_in name after.records) whole (notice w u said) (reach_notice said) _ (record { reply = Refused q; state = k })
-          (notices_follow M name k w whole st u said some_progress (λ y at less none. absurd (none_or_some (first_refusal (tests_of_back k u said)) q none e)))
-          (is_up t live k is u (notice_of k u said some_progress) m x up ∙ ap (λ b. cond b (going said some_progress) staying) (true_lt (kept_places k x.unit) (all_of x.unit) cut) ∙ ap (or_refused k _) e)
+          (leaves M name (live_in name after.records)
+          whole (notice w u said) (reach_notice said) _ (record { reply = Refused q; state = k })
+          (notices_follow M name k w whole st u said some_progress
+          (λ y at less none. absurd (none_or_some (first_refusal (tests_of_back k u said)) q none e)))
+          (is_up t live k is u (notice_of k u said some_progress) m x up ∙ ap (λ b. cond b (going said some_progress)
+          staying) (true_lt (kept_places k x.unit) (all_of x.unit) cut) ∙ ap (or_refused k _) e)
           t (same_live after records))
 
     -- ---- it goes back
 
-    module _ (target : ℕ) (it : IsTarget r target) (tailed : OrphansAreTail t.table r.intervals → target + 1 ≡ kept_length t.table r) where
+    module _ (target : ℕ) (it : IsTarget r target)
+        (tailed : OrphansAreTail t.table r.intervals → target + 1 ≡ kept_length t.table r) where
       ready : IsReady r k x.unit
       ready = units_are_ready M name k w whole st u x.unit x.at r x.is.kept x.is.seen
 
@@ -206,31 +250,38 @@ module _ {S : Type 0} (M : Meaning S) (name : List ℕ) (t : TenantState S) (w :
           go (option_map (λ i. r.base + i) (position (λ (v : Interval). is_orphan_by k.table v.vector) r.intervals))
           (first_orphans_are_seen M r x.unit x.is.kept x.is.seen k (omega (arith, firm)) ready.front ready.clean _ refl)
         where
-          go : (o : Option ℕ) → MatchOption o (kept_places k x.unit ≡ all_of x.unit) (λ first. kept_places k x.unit ≡ first) → kept_before o (places r) ≡ kept_places k x.unit
+          go : (o : Option ℕ) → MatchOption o (kept_places k x.unit ≡ all_of x.unit)
+              (λ first. kept_places k x.unit ≡ first) → kept_before o (places r) ≡ kept_places k x.unit
           go None h = sym (h ∙ long)
           go (Some first) h = sym h
 
       pub last : target + 1 ≡ kept_places k x.unit
-      last = tailed (subst (λ (rows : List Row). OrphansAreTail rows r.intervals) is.table ready.tail) ∙ ap (λ rows. kept_length rows r) (sym is.table) ∙ kept_is
+      last = tailed (subst (λ (rows : List Row). OrphansAreTail rows r.intervals) is.table ready.tail)
+          ∙ ap (λ rows. kept_length rows r) (sym is.table) ∙ kept_is
 
       -- the path ends there
       pub all_kept : places r ≤ target + 1 → nat_lt (kept_places k x.unit) (all_of x.unit) ≡ false
-      all_kept h = let a = last in let b = long in no_less (kept_places k x.unit) (all_of x.unit) (target + 1) (places r) a b h
+      all_kept h = let a = last in
+          let b = long in no_less (kept_places k x.unit) (all_of x.unit) (target + 1) (places r) a b h
         where
           no_less : (n l q p : ℕ) → q ≡ n → l ≡ p → p ≤ q → nat_lt n l ≡ false
           no_less n l q p a b h = let c : l ≤ n = omega (arith, a, b, h) in grind (arith, nat_tests)
 
       pub some_cut : target + 1 < places r → kept_places k x.unit < all_of x.unit
-      some_cut h = let a = last in let b = long in less (kept_places k x.unit) (all_of x.unit) (target + 1) (places r) a b h
+      some_cut h = let a = last in
+          let b = long in less (kept_places k x.unit) (all_of x.unit) (target + 1) (places r) a b h
         where
           less : (n l q p : ℕ) → q ≡ n → l ≡ p → q < p → n < l
           less n l q p a b h = omega (arith, a, b, h)
 
-      module _ (v : TenantState S) (after : Logged) (a : Answer) (given : Reply) (wt : Went M name t u m target given a v before after) where
+      module _ (v : TenantState S)
+          (after : Logged) (a : Answer) (given : Reply) (wt : Went M name t u m target given a v before after) where
         abbrev fetched : List Record
         fetched = wt.replayed.0
 
-        b : (f : Snapshot S) × BeginsAt r k x.unit target f × ((log fetched : List Record) → length x.unit.live ≡ x.unit.stable - 1 - x.unit.base.index → IsRead k x.unit log f fetched → IsRestored M r k x.unit log target fetched)
+        b : (f : Snapshot S) × BeginsAt r k x.unit target f
+            × ((log fetched : List Record) → length x.unit.live ≡ x.unit.stable - 1 - x.unit.base.index
+            → IsRead k x.unit log f fetched → IsRestored M r k x.unit log target fetched)
         b = restores_are_seen M r x.unit x.is.kept x.is.seen k target it last
 
         base_is : x.unit.base.index ≡ r.base
@@ -241,7 +292,8 @@ module _ {S : Type 0} (M : Meaning S) (name : List ℕ) (t : TenantState S) (w :
           | inl e ↦ let q : b.0.index ≡ x.unit.base.index = ap (λ (z : Snapshot S). z.index) e in omega (arith, q)
           | inr e ↦
               let width = st.represents.width in
-              let mw = get_below w.members u (let c = slice_get_within k.units u x.unit x.at in omega (arith, c, width)) in
+              let mw =
+              get_below w.members u (let c = slice_get_within k.units u x.unit x.at in omega (arith, c, width)) in
               let q = (st.represents.units u mw.0 x.unit mw.1 x.at).shelf.behind e.0 b.0 e.1 in
               omega (arith, q)
         ]
@@ -250,7 +302,8 @@ module _ {S : Type 0} (M : Meaning S) (name : List ℕ) (t : TenantState S) (w :
         own_count = ready.live ∙ (λ i. x.is.seen.stable i - 1 - base_is i)
 
         live_is : drop (length (places_of name u before) - live_count r) (places_of name u before) ≡ x.unit.live
-        live_is = (λ i. drop (length (places_are before name u i) - sym own_count i) (places_are before name u i)) ∙ sym x.is.places
+        live_is = (λ i. drop (length (places_are before name u i) - sym own_count i) (places_are before name u i))
+            ∙ sym x.is.places
 
         read : IsRead k x.unit whole b.0 fetched
         read =
@@ -260,8 +313,11 @@ module _ {S : Type 0} (M : Meaning S) (name : List ℕ) (t : TenantState S) (w :
             let behind = drop (length (places_of name u before) - live_count r) (places_of name u before) in
             let low : r.base ≤ b.0.index = (let p = base_low in let q = base_is in omega (arith, p, q)) in
             let dropped : d ≡ b.0.index - x.unit.base.index = ap (λ z. b.0.index - z) (sym base_is) in
-            let count : n ≡ min (kept_places k x.unit) x.unit.stable - 1 - b.0.index = spans (target + 1) (stable_places r) r.base b.0.index low ∙ (λ i. min (last i) (sym x.is.seen.stable i) - 1 - b.0.index) in
-            whole_fetched before.records whole s.left (take n (drop d behind)) fetched (wt.replayed.1 (shelved_as b.0) b.1.nearest)
+            let count : n ≡ min (kept_places k x.unit) x.unit.stable - 1 - b.0.index =
+            spans (target + 1) (stable_places r) r.base b.0.index low
+            ∙ (λ i. min (last i) (sym x.is.seen.stable i) - 1 - b.0.index) in
+            whole_fetched before.records
+            whole s.left (take n (drop d behind)) fetched (wt.replayed.1 (shelved_as b.0) b.1.nearest)
             ∙ sym (take-map f n (drop d behind))
             ∙ ap (take n) (sym (drop-map f d behind))
             ∙ (λ i. take (count i) (drop (dropped i) (map f (live_is i))))
@@ -285,20 +341,34 @@ module _ {S : Type 0} (M : Meaning S) (name : List ℕ) (t : TenantState S) (w :
         after_unit = back_unit k x.unit p
 
         seen_after : IsSeen (returned r target wt.progress) after_unit
-        seen_after = subst (λ (o : Option (Progress S)). IsSeen (returned r target o) after_unit) (sym progress_is) back.seen
+        seen_after =
+            subst (λ (o : Option (Progress S)). IsSeen (returned r target o) after_unit) (sym progress_is) back.seen
 
         kept_after : IsKept (returned r target wt.progress)
         kept_after =
-            let c = kept_cut r target (cut_behind r target).outside (cut_behind r target).intervals (cut_behind r target).volatile (cut_behind r target).shelf x.is.kept it refl refl refl refl in
-            record { base = c.base; stable = c.stable; few = c.few; top = c.top; rises = c.rises; marks = c.marks; outside = c.outside }
+            let c = kept_cut r target (cut_behind r target).outside (cut_behind r target).intervals
+            (cut_behind r target).volatile (cut_behind r target).shelf x.is.kept it refl refl refl refl in
+            record {
+              base = c.base;
+              stable = c.stable;
+              few = c.few;
+              top = c.top;
+              rises = c.rises;
+              marks = c.marks;
+              outside = c.outside;
+            }
 
         live_own : AreLast after_unit.live (live_in name after.records u)
         live_own =
-            let count : target - r.base ≡ kept_places k x.unit - suc x.unit.base.index = counts target r.base (kept_places k x.unit) x.unit.base.index last base_is in
+            let count : target - r.base ≡ kept_places k x.unit - suc x.unit.base.index =
+            counts target r.base (kept_places k x.unit) x.unit.base.index last base_is in
             let taken = last_taken x.unit.live (live u) (target - r.base) x.is.places in
-            let now : take (length (live u) - length x.unit.live + (target - r.base)) (live u) ≡ live_in name after.records u =
-            (λ i. take (length (sym (places_are before name u) i) - own_count i + (target - r.base)) (sym (places_are before name u) i)) ∙ sym wt.own ∙ places_are after name u in
-            subst (λ (n : ℕ). AreLast (take n x.unit.live) (live_in name after.records u)) count (subst (λ (ps : List ℕ). AreLast (take (target - r.base) x.unit.live) ps) now taken)
+            let now : take (length (live u) - length x.unit.live + (target - r.base))
+            (live u) ≡ live_in name after.records u =
+            (λ i. take (length (sym (places_are before name u) i) - own_count i + (target - r.base))
+            (sym (places_are before name u) i)) ∙ sym wt.own ∙ places_are after name u in
+            subst (λ (n : ℕ). AreLast (take n x.unit.live) (live_in name after.records u)) count
+            (subst (λ (ps : List ℕ). AreLast (take (target - r.base) x.unit.live) ps) now taken)
           where
             counts : (target base kept index : ℕ) → target + 1 ≡ kept → index ≡ base → target - base ≡ kept - suc index
             counts target base kept index e f = omega (arith, e, f)
@@ -313,7 +383,9 @@ module _ {S : Type 0} (M : Meaning S) (name : List ℕ) (t : TenantState S) (w :
         hold_after =
             let few : places r ≤ 2 ^ 32 = x.is.kept.few in
             let path = it.path in
-            hold_cut x.unit.hold (kept_places k x.unit) (all_of x.unit) (whole_hold M name k w whole st u x.unit x.at) (low (kept_places k x.unit) (all_of x.unit) target (places r) last long path) (few_places (all_of x.unit) (places r) long few)
+            hold_cut x.unit.hold (kept_places k x.unit) (all_of x.unit) (whole_hold M name k w whole st u x.unit x.at)
+            (low (kept_places k x.unit) (all_of x.unit) target (places r) last long path)
+            (few_places (all_of x.unit) (places r) long few)
             ∙ (λ i. outputs_to (x.is.outputs i) (sym last i))
           where
             low : (n l target p : ℕ) → target + 1 ≡ n → l ≡ p → target < p → n ≤ l
@@ -329,7 +401,8 @@ module _ {S : Type 0} (M : Meaning S) (name : List ℕ) (t : TenantState S) (w :
           own = x.is.own;
           outputs = hold_after;
           known = ap (λ rows. length rows + 1) is.table;
-          stable = set_get_same t.stable_lengths u (stable_places (returned r target wt.progress)) x.unit.stable x.is.stable ∙ ap (λ n. Some n) (sym seen_after.stable);
+          stable = set_get_same t.stable_lengths u (stable_places (returned r target wt.progress))
+              x.unit.stable x.is.stable ∙ ap (λ n. Some n) (sym seen_after.stable);
           frontier = x.is.frontier;
           released = x.is.released;
           places = live_own;
@@ -347,7 +420,8 @@ module _ {S : Type 0} (M : Meaning S) (name : List ℕ) (t : TenantState S) (w :
           optimism = is.optimism;
           table = λ i. is.table i ++ row_is i ∷ [];
           width = length-set t.members u q ∙ is.width ∙ sym width_is;
-          stables = length-set t.stable_lengths u (stable_places (returned r target wt.progress)) ∙ is.stables ∙ sym width_is;
+          stables = length-set t.stable_lengths u (stable_places (returned r target wt.progress))
+              ∙ is.stables ∙ sym width_is;
           fronts = is.fronts ∙ sym width_is;
           counts = is.counts ∙ sym width_is;
           lines = is.lines ∙ sym width_is;
@@ -364,126 +438,211 @@ module _ {S : Type 0} (M : Meaning S) (name : List ℕ) (t : TenantState S) (w :
           letters = is.letters;
         }
           where
-            own_stands : (c : ℕ) (n : Member S) (z : Unit S) → c ≡ u → n ≡ q → z ≡ after_unit → IsMember v2 (live_in name after.records) c n z
+            own_stands : (c : ℕ) (n : Member S) (z : Unit S)
+                → c ≡ u → n ≡ q → z ≡ after_unit → IsMember v2 (live_in name after.records) c n z
             own_stands c n z e f g =
                 subst (λ (z : Unit S). IsMember v2 (live_in name after.records) c n z) (sym g)
                 (subst (λ (n : Member S). IsMember v2 (live_in name after.records) c n after_unit) (sym f)
                 (subst (λ (c : ℕ). IsMember v2 (live_in name after.records) c q after_unit) (sym e) one))
 
-            other_stands : (c : ℕ) (n : Member S) (z : Unit S) → (c ≡ u → ⊥) → IsMember t live c n z → IsMember v2 (live_in name after.records) c n z
+            other_stands : (c : ℕ) (n : Member S) (z : Unit S)
+                → (c ≡ u → ⊥) → IsMember t live c n z → IsMember v2 (live_in name after.records) c n z
             other_stands c n z other i = record {
               kept = i.kept;
               seen = i.seen;
               own = i.own;
               outputs = i.outputs;
               known = i.known;
-              stable = set_get_other t.stable_lengths u c (stable_places (returned r target wt.progress)) other ∙ i.stable;
+              stable =
+                  set_get_other t.stable_lengths u c (stable_places (returned r target wt.progress)) other ∙ i.stable;
               frontier = i.frontier;
               released = i.released;
               places = subst (λ (ps : List ℕ). AreLast z.live ps) (sym (live_other c other)) i.places;
             }
 
-        start_is : start_of (row_to k u (kept_places k x.unit)) ≡ record { incarnation = incarnation_of t.table u + 1; index = target + 1 }
+        start_is : start_of (row_to k u (kept_places k x.unit)) ≡ record {
+          incarnation = incarnation_of t.table u + 1;
+          index = target + 1;
+        }
         start_is = λ i. start_of (row_is i)
 
         not_device : quiet.end ≡ Device → HasRisen before.failures after.failures
         not_device f = absurd (cc f)
 
         no_refusal : nat_le 65535 (incarnation_of t.table u) ≡ false → first_refusal (tests_of_back k u quiet) ≡ None
-        no_refusal room = later_first (nat_le 65535 (incarnation_of k.table u)) Limit _ (ap (λ rows. nat_le 65535 (incarnation_of rows u)) is.table ∙ room) ∙ quiet_first
+        no_refusal room = later_first (nat_le 65535 (incarnation_of k.table u))
+            Limit _ (ap (λ rows. nat_le 65535 (incarnation_of rows u)) is.table ∙ room) ∙ quiet_first
 
-        to_answer : (step : TenantStep) (reply : Reply) → reply ≡ given → Did M name w v2 step quiet reply before after → Did M name w v step a.said a.reply before after
+        to_answer : (step : TenantStep) (reply : Reply) → reply ≡ given
+            → Did M name w v2 step quiet reply before after → Did M name w v step a.said a.reply before after
         to_answer step reply e d =
             subst (λ (z : Said). Did M name w v step z a.reply before after) (sym wt.said)
             (subst (λ (z : Reply). Did M name w v step quiet z before after) (e ∙ sym wt.reply)
             (subst (λ (z : TenantState S). Did M name w z step quiet reply before after) (sym wt.back) d))
 
-        pub restart_done : x.unit.up ≡ false → nat_le 65535 (incarnation_of t.table u) ≡ false → Restarted (record { incarnation = incarnation_of t.table u + 1; index = target + 1 }) ≡ given → Did M name w v (Restart u) a.said a.reply before after
+        pub restart_done : x.unit.up ≡ false → nat_le 65535 (incarnation_of t.table u) ≡ false
+            → Restarted (record { incarnation = incarnation_of t.table u + 1; index = target + 1 }) ≡ given
+            → Did M name w v (Restart u) a.said a.reply before after
         restart_done down room reply =
             to_answer (Restart u) _ reply
-            (closes (Restart u) quiet (Restarted (record { incarnation = incarnation_of t.table u + 1; index = target + 1 })) v2 after
-            (leaves M name (live_in name after.records) whole (restart w u quiet) (reach_restart quiet) _ (record { reply = Restarted (record { incarnation = incarnation_of t.table u + 1; index = target + 1 }); state = state })
-            (restarts_follow M name k w whole st u quiet p (λ y at none. only (λ (z : Unit S). IsRebuilt M k z whole p) back.rebuilt y at))
-            (ap (at_unit_of k (restart_of k u quiet p)) x.at ∙ ap (or_refused k _) (later_first x.unit.up Up _ down ∙ no_refusal room) ∙ (λ i. record { reply = Restarted (start_is i); state = state }))
+            (closes (Restart u)
+            quiet (Restarted (record { incarnation = incarnation_of t.table u + 1; index = target + 1 })) v2 after
+            (leaves M name (live_in name after.records)
+            whole (restart w u quiet) (reach_restart quiet) _ (record {
+              reply = Restarted
+                  (record { incarnation = incarnation_of t.table u + 1; index = target + 1 });
+              state = state;
+            })
+            (restarts_follow M name k w whole st u quiet p (λ y at none. only
+            (λ (z : Unit S). IsRebuilt M k z whole p) back.rebuilt y at))
+            (ap (at_unit_of k (restart_of k u quiet p)) x.at ∙ ap (or_refused k _) (later_first x.unit.up Up _ down
+            ∙ no_refusal room) ∙ (λ i. record { reply = Restarted (start_is i); state = state }))
             v2 is_after)
             wt.grows (quiet_asked _) not_device)
 
-        pub notice_done : is_some r.progress ≡ true → target + 1 < places r → nat_le 65535 (incarnation_of t.table u) ≡ false → Noticed (Some (record { incarnation = incarnation_of t.table u + 1; index = target + 1 })) ≡ given
+        pub notice_done : is_some r.progress ≡ true
+            → target + 1 < places r → nat_le 65535 (incarnation_of t.table u) ≡ false
+            → Noticed (Some (record { incarnation = incarnation_of t.table u + 1; index = target + 1 })) ≡ given
             → Did M name w v (Notice u) a.said a.reply before after
         notice_done up cut room reply =
             to_answer (Notice u) _ reply
-            (closes (Notice u) quiet (Noticed (Some (record { incarnation = incarnation_of t.table u + 1; index = target + 1 }))) v2 after
-            (leaves M name (live_in name after.records) whole (notice w u quiet) (reach_notice quiet) _ (record { reply = Noticed (Some (record { incarnation = incarnation_of t.table u + 1; index = target + 1 })); state = state })
-            (notices_follow M name k w whole st u quiet p (λ y at less none. only (λ (z : Unit S). IsRebuilt M k z whole p) back.rebuilt y at))
-            (is_up t live k is u (notice_of k u quiet p) m x up ∙ ap (λ c. cond c (going quiet p) staying) (true_lt (kept_places k x.unit) (all_of x.unit) (some_cut cut)) ∙ ap (or_refused k _) (no_refusal room) ∙ (λ i. record { reply = Noticed (Some (start_is i)); state = state }))
+            (closes (Notice u) quiet
+            (Noticed (Some (record { incarnation = incarnation_of t.table u + 1; index = target + 1 }))) v2 after
+            (leaves M name (live_in name after.records)
+            whole (notice w u quiet) (reach_notice quiet) _ (record {
+              reply = Noticed (Some
+                  (record { incarnation = incarnation_of t.table u + 1; index = target + 1 }));
+              state = state;
+            })
+            (notices_follow M name k w whole st u quiet p (λ y at less none. only
+            (λ (z : Unit S). IsRebuilt M k z whole p) back.rebuilt y at))
+            (is_up t live k is u (notice_of k u quiet p) m x up ∙ ap (λ c. cond c (going quiet p) staying) (true_lt
+            (kept_places k x.unit) (all_of x.unit) (some_cut cut)) ∙ ap (or_refused k _) (no_refusal room)
+            ∙ (λ i. record { reply = Noticed (Some (start_is i)); state = state }))
             v2 is_after)
             wt.grows (quiet_asked _) not_device)
 
-      failed : (step : TenantStep) (v : TenantState S) (after : Logged) (a : Answer) → Failed t a v before after → Did M name w t step failing (Refused Store) before after → Did M name w v step a.said a.reply before after
+      failed : (step : TenantStep) (v : TenantState S) (after : Logged) (a : Answer) → Failed t a v before after
+          → Did M name w t step failing (Refused Store) before after → Did M name w v step a.said a.reply before after
       failed step v after a fl d =
           subst (λ (z : Said). Did M name w v step z a.reply before after) (sym fl.said)
           (subst (λ (z : Reply). Did M name w v step failing z before after) (sym fl.reply)
           (subst (λ (z : TenantState S). Did M name w z step failing (Refused Store) before after) (sym fl.same) d))
 
       -- whether it went, or the device failed
-      pub restart_returns : restart_refusal t.table u (Some m) ≡ None → (start : Start) → start ≡ record { incarnation = incarnation_of t.table u + 1; index = target + 1 } → (v : TenantState S) (after : Logged) (a : Answer)
-          → Returns M name t u m target (Restarted start) a v before after → Did M name w v (Restart u) a.said a.reply before after
+      pub restart_returns : restart_refusal t.table u (Some m) ≡ None → (start : Start) → start ≡ record {
+        incarnation =
+            incarnation_of t.table u + 1;
+        index = target + 1;
+      } → (v : TenantState S) (after : Logged) (a : Answer)
+          → Returns M name t u m target (Restarted start) a v before after
+          → Did M name w v (Restart u) a.said a.reply before after
       restart_returns none start e v after a (inl wt) =
           let f = passes (is_some r.progress) (nat_le 65535 (incarnation_of t.table u)) none in
           restart_done v after a (Restarted start) wt (x.is.seen.up ∙ f.0) f.1 (ap Restarted (sym e))
       restart_returns none start e v after a (inr fl) =
           let f = passes (is_some r.progress) (nat_le 65535 (incarnation_of t.table u)) none in
-          failed (Restart u) v after a fl (restart_refused failing Store after fl.records (λ d. fl.device) (λ is. failing_asked _ (restart_asked w u failing is))
-          (later_first x.unit.up Up _ (x.is.seen.up ∙ f.0) ∙ later_first (nat_le 65535 (incarnation_of k.table u)) Limit _ (ap (λ rows. nat_le 65535 (incarnation_of rows u)) is.table ∙ f.1) ∙ failing_first))
+          failed (Restart u) v after a fl (restart_refused
+          failing Store after fl.records (λ d. fl.device) (λ is. failing_asked _ (restart_asked w u failing is))
+          (later_first x.unit.up Up _ (x.is.seen.up ∙ f.0) ∙ later_first (nat_le 65535 (incarnation_of k.table u))
+          Limit _ (ap (λ rows. nat_le 65535 (incarnation_of rows u)) is.table ∙ f.1) ∙ failing_first))
 
-      pub notice_returns : is_some r.progress ≡ true → target + 1 < places r → nat_le 65535 (incarnation_of t.table u) ≡ false → (start : Start) → start ≡ record { incarnation = incarnation_of t.table u + 1; index = target + 1 } → (v : TenantState S) (after : Logged) (a : Answer)
-          → Returns M name t u m target (Noticed (Some start)) a v before after → Did M name w v (Notice u) a.said a.reply before after
-      notice_returns up cut room start e v after a (inl wt) = notice_done v after a (Noticed (Some start)) wt up cut room (ap (λ z. Noticed (Some z)) (sym e))
+      pub notice_returns : is_some r.progress ≡ true → target + 1 < places r
+          → nat_le 65535 (incarnation_of t.table u) ≡ false → (start : Start) → start ≡ record {
+            incarnation =
+                incarnation_of t.table u + 1;
+            index = target + 1;
+          } → (v : TenantState S) (after : Logged) (a : Answer)
+          → Returns M name t u m target (Noticed (Some start)) a v before after
+          → Did M name w v (Notice u) a.said a.reply before after
+      notice_returns up cut room start e v after a (inl wt) =
+          notice_done v after a (Noticed (Some start)) wt up cut room (ap (λ z. Noticed (Some z)) (sym e))
       notice_returns up cut room start e v after a (inr fl) =
-          failed (Notice u) v after a fl (notice_refused failing Store after fl.records (λ d. fl.device) (λ is. failing_asked _ (notice_asked w u failing is)) up (some_cut cut)
-          (later_first (nat_le 65535 (incarnation_of k.table u)) Limit _ (ap (λ rows. nat_le 65535 (incarnation_of rows u)) is.table ∙ room) ∙ failing_first))
+          failed (Notice u) v after a fl (notice_refused failing Store after
+          fl.records (λ d. fl.device) (λ is. failing_asked _ (notice_asked w u failing is)) up (some_cut cut)
+          (later_first (nat_le 65535 (incarnation_of k.table u))
+          Limit _ (ap (λ rows. nat_le 65535 (incarnation_of rows u)) is.table ∙ room) ∙ failing_first))
 
-      pub notice_worn : is_some r.progress ≡ true → target + 1 < places r → nat_le 65535 (incarnation_of t.table u) ≡ true → Did M name w t (Notice u) quiet (Refused Limit) before before
-      notice_worn up cut worn = notice_refused quiet Limit before refl (λ f. absurd (cc f)) (λ is. quiet_asked _) up (some_cut cut) (worn_first (nat_le 65535 (incarnation_of k.table u)) _ (ap (λ rows. nat_le 65535 (incarnation_of rows u)) is.table ∙ worn))
+      pub notice_worn : is_some r.progress ≡ true
+          → target + 1 < places r → nat_le 65535 (incarnation_of t.table u) ≡ true
+          → Did M name w t (Notice u) quiet (Refused Limit) before before
+      notice_worn up cut worn = notice_refused quiet Limit before refl (λ f. absurd (cc f))
+          (λ is. quiet_asked _) up (some_cut cut) (worn_first (nat_le 65535 (incarnation_of k.table u))
+          _ (ap (λ rows. nat_le 65535 (incarnation_of rows u)) is.table ∙ worn))
 
       -- it keeps all, and learns the rows
-      pub notice_learns : is_some r.progress ≡ true → places r ≤ target + 1 → Did M name w (record t { members = slice_set t.members u (record m { known = length t.table }) }) (Notice u) quiet (Noticed None) before before
+      pub notice_learns : is_some r.progress ≡ true → places r ≤ target + 1
+          → Did M name w (record t { members = slice_set t.members u (record m { known = length t.table }) })
+          (Notice u) quiet (Noticed None) before before
       notice_learns up whole_path =
           let learned : Member S = record m { known = length t.table } in
           closes (Notice u) quiet (Noticed None) (record t { members = slice_set t.members u learned }) before
-          (leaves M name live whole (notice w u quiet) (reach_notice quiet) _ (record { reply = Noticed None; state = with_unit_at k u (knowing_unit k x.unit) })
+          (leaves M name live whole (notice w u quiet) (reach_notice quiet)
+          _ (record { reply = Noticed None; state = with_unit_at k u (knowing_unit k x.unit) })
           (notices_follow M name k w whole st u quiet some_progress (λ y at less none. absurd (not_cut y at less)))
-          (is_up t live k is u (notice_of k u quiet some_progress) m x up ∙ ap (λ c. cond c (going quiet some_progress) staying) (all_kept whole_path))
+          (is_up t live k is u (notice_of k u quiet some_progress) m x up
+          ∙ ap (λ c. cond c (going quiet some_progress) staying) (all_kept whole_path))
           (record t { members = slice_set t.members u learned })
-          (with_one t live k is u learned (knowing_unit k x.unit) (record { kept = x.is.kept; seen = record { seat = x.is.seen.seat; up = x.is.seen.up; now = x.is.seen.now; stable = x.is.seen.stable; outside = x.is.seen.outside; base = x.is.seen.base; shelf = x.is.seen.shelf; intervals = x.is.seen.intervals; volatile = x.is.seen.volatile }; own = x.is.own; outputs = x.is.outputs; known = ap length is.table; stable = x.is.stable; frontier = x.is.frontier; released = x.is.released; places = x.is.places })))
+          (with_one t live k is u learned (knowing_unit k x.unit) (record {
+            kept = x.is.kept;
+            seen = record {
+              seat = x.is.seen.seat;
+              up = x.is.seen.up;
+              now = x.is.seen.now;
+              stable = x.is.seen.stable;
+              outside = x.is.seen.outside;
+              base = x.is.seen.base;
+              shelf = x.is.seen.shelf;
+              intervals = x.is.seen.intervals;
+              volatile = x.is.seen.volatile;
+            };
+            own = x.is.own;
+            outputs = x.is.outputs;
+            known = ap length is.table;
+            stable = x.is.stable;
+            frontier = x.is.frontier;
+            released = x.is.released;
+            places = x.is.places;
+          })))
           unchanged (quiet_asked _) (λ f. absurd (cc f))
         where
           not_cut : (y : Unit S) → slice_get k.units u ≡ Some y → kept_places k y < all_of y → ⊥
           not_cut y at less =
               let e = same_Some x.unit y (sym x.at ∙ at) in
-              let h : kept_places k x.unit < all_of x.unit = subst (λ (z : Unit S). kept_places k z < all_of z) (sym e) less in
+              let h : kept_places k x.unit < all_of x.unit =
+              subst (λ (z : Unit S). kept_places k z < all_of z) (sym e) less in
               none_true (true_lt (kept_places k x.unit) (all_of x.unit) h) (all_kept whole_path)
 
-  pub restart_refused_by : (q : Refusal) → restart_refusal t.table u (slice_get t.members u) ≡ Some q → Did M name w t (Restart u) quiet (Refused q) before before
+  pub restart_refused_by : (q : Refusal) → restart_refusal t.table u (slice_get t.members u) ≡ Some q
+      → Did M name w t (Restart u) quiet (Refused q) before before
   restart_refused_by q e = go (slice_get t.members u) refl e
     where
-      limited : (m : Member S) (found : slice_get t.members u ≡ Some m) (up worn : Bool) → is_some m.recovering.progress ≡ up → nat_le 65535 (incarnation_of t.table u) ≡ worn → cond up (Some Up) (cond worn (Some Limit) None) ≡ Some q
+      limited : (m : Member S) (found : slice_get t.members u ≡ Some m) (up worn : Bool)
+          → is_some m.recovering.progress ≡ up
+          → nat_le 65535 (incarnation_of t.table u) ≡ worn → cond up (Some Up) (cond worn (Some Limit) None) ≡ Some q
           → Did M name w t (Restart u) quiet (Refused q) before before
-      limited m found true worn a b f = restart_refused m found quiet q before refl (λ d. absurd (cc d)) (λ is. quiet_asked _) (up_first _ _ ((x m found).is.seen.up ∙ a) ∙ f)
+      limited m found true worn a b f = restart_refused m found
+          quiet q before refl (λ d. absurd (cc d)) (λ is. quiet_asked _) (up_first _ _ ((x m found).is.seen.up ∙ a) ∙ f)
       limited m found false true a b f =
           restart_refused m found quiet q before refl (λ d. absurd (cc d)) (λ is. quiet_asked _)
-          (later_first _ Up _ ((x m found).is.seen.up ∙ a) ∙ worn_first _ _ (ap (λ rows. nat_le 65535 (incarnation_of rows u)) is.table ∙ b) ∙ f)
+          (later_first _ Up _ ((x m found).is.seen.up ∙ a)
+          ∙ worn_first _ _ (ap (λ rows. nat_le 65535 (incarnation_of rows u)) is.table ∙ b) ∙ f)
       limited m found false false a b f = absurd (cc f)
 
-      go : (o : Option (Member S)) → slice_get t.members u ≡ o → restart_refusal t.table u o ≡ Some q → Did M name w t (Restart u) quiet (Refused q) before before
-      go None a f = subst (λ (z : Refusal). Did M name w t (Restart u) quiet (Refused z) before before) (same_Some NoUnit q f) (restart_no_unit a)
-      go (Some m) a f = limited m a (is_some m.recovering.progress) (nat_le 65535 (incarnation_of t.table u)) refl refl f
+      go : (o : Option (Member S)) → slice_get t.members u ≡ o
+          → restart_refusal t.table u o ≡ Some q → Did M name w t (Restart u) quiet (Refused q) before before
+      go None a f = subst (λ (z : Refusal). Did M name w t (Restart u) quiet (Refused z) before before)
+          (same_Some NoUnit q f) (restart_no_unit a)
+      go (Some m) a f =
+          limited m a (is_some m.recovering.progress) (nat_le 65535 (incarnation_of t.table u)) refl refl f
 
   -- a notice to a unit that is not there or not up
-  pub notice_not_up : (q : Refusal) → up_refusal (slice_get t.members u) ≡ Some q → Did M name w t (Notice u) quiet (Refused q) before before
+  pub notice_not_up : (q : Refusal)
+      → up_refusal (slice_get t.members u) ≡ Some q → Did M name w t (Notice u) quiet (Refused q) before before
   notice_not_up q e = go (slice_get t.members u) refl
     where
-      refused : (progress : Progress S) → ((y : Unit S) → slice_get k.units u ≡ Some y → IsRebuilt M k y whole progress) → Did M name w t (Notice u) quiet (Refused q) before before
+      refused : (progress : Progress S) → ((y : Unit S) → slice_get k.units u ≡ Some y → IsRebuilt M k y whole progress)
+          → Did M name w t (Notice u) quiet (Refused q) before before
       refused progress rebuilds =
           closes (Notice u) quiet (Refused q) t before
           (leaves M name live whole (notice w u quiet) (reach_notice quiet) _ (record { reply = Refused q; state = k })
@@ -491,10 +650,14 @@ module _ {S : Type 0} (M : Meaning S) (name : List ℕ) (t : TenantState S) (w :
           (not_up t live k is u (notice_of k u quiet progress) q e) t is)
           unchanged (quiet_asked _) (λ f. absurd (cc f))
 
-      go : (o : Option (Member S)) → slice_get t.members u ≡ o → Did M name w t (Notice u) quiet (Refused q) before before
-      go None a = refused some_progress (λ y at. absurd (none_or_some (slice_get k.units u) y (none_kept t live k is u a) at))
+      go : (o : Option (Member S))
+          → slice_get t.members u ≡ o → Did M name w t (Notice u) quiet (Refused q) before before
+      go None a =
+          refused some_progress (λ y at. absurd (none_or_some (slice_get k.units u) y (none_kept t live k is u a) at))
       go (Some m) a =
           let y = (x m a).unit in
-          let served = snapshots_serve M name k w whole st u y (x m a).at y.base (inl refl) (bases_serve M name k w whole st u y (x m a).at) in
+          let served = snapshots_serve
+          M name k w whole st u y (x m a).at y.base (inl refl) (bases_serve M name k w whole st u y (x m a).at) in
           let p = rebuilt M k y y.base served.0 in
-          refused p (λ z at. only m a (λ (z : Unit S). IsRebuilt M k z whole p) (y.base, (served.0, served.1, refl)) z at)
+          refused p (λ z at. only m a
+          (λ (z : Unit S). IsRebuilt M k z whole p) (y.base, (served.0, served.1, refl)) z at)

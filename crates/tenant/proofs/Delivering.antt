@@ -25,7 +25,9 @@ use Rattle.handler.specs.Inputs.{Input, turn_upon_input}
 use Rattle.layer_laws.specs.Laws.{stable_lengths}
 use Rattle.layer_laws.proofs.Unstable.{unstable_are_counted}
 use Rattle.compact.specs.Compact.{Compact, Content, IsContent, IsLetter, Letter, Progress, Unit}
-use Rattle.compact.specs.Steps.{Done, Receipt, accepted_of, at_unit_of, deliver_content, deliver_front, deliver_of, delivered, if_letter_of, lengths_of, letter_refusal, or_next, or_refused, receiving_state}
+use Rattle.compact.specs.Steps.{Done, Receipt, accepted_of, at_unit_of, deliver_content, deliver_front, deliver_of}
+use Rattle.compact.specs.Steps.{delivered, if_letter_of, lengths_of, letter_refusal, or_next, or_refused}
+use Rattle.compact.specs.Steps.{receiving_state}
 use Rattle.compact.proofs.Receipts.{deliveries_follow}
 use Rattle.compact.proofs.Tests.{deliveries_are_tested, lengths_are}
 use Rattle.rollback.specs.Units.{asking}
@@ -33,7 +35,8 @@ use Rattle.unit_steps.specs.Laws.{known_to}
 use Rattle.unit_steps.specs.Receipts.{IsWithin, arrival_refusal, letter_refused, past_tests}
 use Rattle.unit_steps.proofs.Seen.{letters_are_refused}
 use Rattle.tenant.specs.declared.receipts.Plan.{Plan}
-use Rattle.tenant.specs.Kept.{IsAsking, TenantState, Member, known_of, letter_refusal_of, next_letters_of, next_record_of, next_reply_of, received_kept, turn_refusal_of}
+use Rattle.tenant.specs.Kept.{IsAsking, TenantState, Member, known_of, letter_refusal_of, next_letters_of}
+use Rattle.tenant.specs.Kept.{next_record_of, next_reply_of, received_kept, turn_refusal_of}
 use Rattle.tenant.specs.Needs.{IsAsked, deliver_needs, deliver_to_needs, input_unless, input_upon, letter_needs}
 use Rattle.tenant.specs.Plans.{IsPlanned}
 use Rattle.tenant.specs.Represents.{IsCompact, Leaves, StandsFor}
@@ -42,7 +45,8 @@ use Rattle.tenant.proofs.Follow.{KeepsUnit, keeps, leaves}
 use Rattle.tenant.proofs.Receiving.{received_is, reply_is, turn_refusal_is}
 
 -- lists as long with the same elements
-same_list : {X : Type 0} (f : X → ℕ) (xs : List X) (ns : List ℕ) → length ns ≡ length xs → ((i : ℕ) (x : X) → slice_get xs i ≡ Some x → slice_get ns i ≡ Some (f x)) → map f xs ≡ ns
+same_list : {X : Type 0} (f : X → ℕ) (xs : List X) (ns : List ℕ)
+    → length ns ≡ length xs → ((i : ℕ) (x : X) → slice_get xs i ≡ Some x → slice_get ns i ≡ Some (f x)) → map f xs ≡ ns
 same_list f [] [] h each = refl
 same_list f [] (n ∷ ns) h each = absurd (omega (arith, h))
 same_list f (x ∷ xs) [] h each = absurd (omega (arith, h))
@@ -62,7 +66,8 @@ record IsSent {S : Type 0} (M : Meaning S) (w : World) (l : ℕ) (c : Letter) : 
   pub at : slice_get (executed M w).letters l ≡ Some message
   pub is : IsLetter w l message c
 
-module _ {S : Type 0} (M : Meaning S) (name : List ℕ) (live : ℕ → List ℕ) (t : TenantState S) (w : World) (log : List Record) (s : StandsFor M name live t w log) (l : ℕ) where
+module _ {S : Type 0} (M : Meaning S) (name : List ℕ) (live : ℕ → List ℕ)
+    (t : TenantState S) (w : World) (log : List Record) (s : StandsFor M name live t w log) (l : ℕ) where
   abbrev k : Compact S
   k = s.0
 
@@ -117,14 +122,18 @@ module _ {S : Type 0} (M : Meaning S) (name : List ℕ) (live : ℕ → List ℕ
         within (Some content) e =
             let made = letters_made M w.nodes l received sent.at in
             let long = (unstable_are_counted M w s.2.reached received.sender made).1 in
-            let a : length content.vector ≡ length (vector_of w.nodes received.sender) = ap (λ (z : Content). length z.vector) e in
-            let b : length (stable_lengths w) ≡ length t.stable_lengths = ap length (sym (lengths_are M name k w log s.2.reached s.2.represents) ∙ lengths_kept) in
+            let a : length content.vector ≡ length (vector_of w.nodes received.sender) =
+            ap (λ (z : Content). length z.vector) e in
+            let b : length (stable_lengths w) ≡ length t.stable_lengths =
+            ap length (sym (lengths_are M name k w log s.2.reached s.2.represents) ∙ lengths_kept) in
             omega (arith, long, a, b)
 
-    pub letter_no_unit : slice_get t.members c.receiver ≡ None → IsAsked (deliver_needs M w l) (deliver M w l) w (Err NoUnit)
+    pub letter_no_unit : slice_get t.members c.receiver ≡ None
+        → IsAsked (deliver_needs M w l) (deliver M w l) w (Err NoUnit)
     unfolding deliver_needs
     letter_no_unit e =
-        let none : slice_get w.members received.receiver ≡ None = ap (slice_get w.members) (sym sent.is.receiver) ∙ none_shown M name live t w log s c.receiver e in (
+        let none : slice_get w.members received.receiver ≡ None =
+        ap (slice_get w.members) (sym sent.is.receiver) ∙ none_shown M name live t w log s c.receiver e in (
           ap (letter_needs M w) sent.at ∙ ap (deliver_to_needs M w received) none,
           ap (if_letter M w l) sent.at ∙ refused_none w received.receiver (deliver_to M w l received) none,
         )
@@ -147,83 +156,121 @@ module _ {S : Type 0} (M : Meaning S) (name : List ℕ) (live : ℕ → List ℕ
 
       refusal_of : letter_refusal k x.unit c c.content ≡ letter_refusal_of t m c
       refusal_of = letters_are_refused M m.recovering x.unit x.is.kept x.is.seen k c
-          ∙ (λ i. letter_refused (known_is i) (s.1.optimism i) (s.1.quota i).volatile m.recovering c.source c.number c.content)
+          ∙ (λ i. letter_refused
+          (known_is i) (s.1.optimism i) (s.1.quota i).volatile m.recovering c.source c.number c.content)
 
       before : first_refusal (deliver_front w received f.member) ≡ letter_refusal_of t m c
-      before = sym (deliveries_are_tested M name k w log s.2 l received c sent.at at_k f.member x.unit at_w unit_at) ∙ refusal_of
+      before = sym (deliveries_are_tested M name k w log s.2 l received c sent.at at_k f.member x.unit at_w unit_at)
+          ∙ refusal_of
 
-      pub letter_refused_first : (r : Refusal) → letter_refusal_of t m c ≡ Some r → IsAsked (deliver_needs M w l) (deliver M w l) w (Err r)
+      pub letter_refused_first : (r : Refusal)
+          → letter_refusal_of t m c ≡ Some r → IsAsked (deliver_needs M w l) (deliver M w l) w (Err r)
       unfolding deliver_needs
       letter_refused_first r e =
           let first : first_refusal (deliver_front w received f.member) ≡ Some r = before ∙ e in (
             ap (letter_needs M w) sent.at ∙ ap (deliver_to_needs M w received) at_w ∙ ap (input_unless _) first,
             ap (if_letter M w l) sent.at ∙ at_unit_found w received.receiver (deliver_to M w l received) f.member at_w
-                ∙ refused_first w (accepted M w received.receiver f.member (letter l received.sender)) (deliver_front w received f.member) (turn_tests M w f.member (turn_upon_receipt M w received.receiver f.member (letter l received.sender))) r first,
+                ∙ refused_first w (accepted M w received.receiver f.member (letter l received.sender))
+                (deliver_front w received f.member) (turn_tests M
+                w f.member (turn_upon_receipt M w received.receiver f.member (letter l received.sender))) r first,
           )
 
       module _ (content : Content) (whole : c.content ≡ Some content) where
         content_is : content ≡ record { text = received.text; vector = vector_of w.nodes received.sender }
         content_is = subst (IsContent w l received) whole sent.is.content
 
-        asked_by : letter_refusal_of t m c ≡ None → (input : Input S) → asking m.recovering (FromUnit c.source) content.text ≡ Some input → deliver_needs M w l ≡ Some input
+        asked_by : letter_refusal_of t m c ≡ None → (input : Input S)
+            → asking m.recovering (FromUnit c.source) content.text ≡ Some input → deliver_needs M w l ≡ Some input
         unfolding deliver_needs
         asked_by passes input asked =
             ap (letter_needs M w) sent.at ∙ ap (deliver_to_needs M w received) at_w
-            ∙ (λ i. input_unless (input_upon M w f.member (FromUnit (sym sent.is.source i)) (sym (ap (λ (z : Content). z.text) content_is) i)) ((before ∙ passes) i))
-            ∙ ap (λ (input : Input S). Some input) (input_is M name live t w log s c.receiver m x f (FromUnit c.source) content.text input asked)
+            ∙ (λ i. input_unless (input_upon M w f.member (FromUnit (sym sent.is.source i))
+            (sym (ap (λ (z : Content). z.text) content_is) i)) ((before ∙ passes) i))
+            ∙ ap (λ (input : Input S). Some input)
+            (input_is M name live t w log s c.receiver m x f (FromUnit c.source) content.text input asked)
 
-        pub letter_asked : letter_refusal_of t m c ≡ None → (r : Result (Input S) Refusal) → IfOk r (λ input. asking m.recovering (FromUnit c.source) content.text ≡ Some input) → IfErr r (λ refusal. (refusal ≡ Down) × (m.recovering.progress ≡ None))
+        pub letter_asked : letter_refusal_of t m c ≡ None → (r : Result (Input S) Refusal)
+            → IfOk r (λ input. asking m.recovering (FromUnit c.source) content.text ≡ Some input)
+            → IfErr r (λ refusal. (refusal ≡ Down) × (m.recovering.progress ≡ None))
             → IsAsked (deliver_needs M w l) (deliver M w l) w r
         letter_asked passes (Ok input) a b = asked_by passes input a
         letter_asked passes (Err refusal) a b =
-            let some : letter_refused (known_of t m) t.optimism t.quota.volatile m.recovering c.source c.number (Some content) ≡ None = (sym (ap (letter_refused (known_of t m) t.optimism t.quota.volatile m.recovering c.source c.number) whole) ∙ passes) in
-            let none = next_none (first_refusal (past_tests (known_of t m) t.optimism m.recovering content.vector)) (arrival_refusal t.quota.volatile m.recovering (FromUnit c.source) c.number content.text m.recovering.progress) some in
-            let down : arrival_refusal t.quota.volatile m.recovering (FromUnit c.source) c.number content.text m.recovering.progress ≡ Some Down = ap (arrival_refusal t.quota.volatile m.recovering (FromUnit c.source) c.number content.text) b.1 in
+            let some : letter_refused (known_of t m) t.optimism
+            t.quota.volatile m.recovering c.source c.number (Some content) ≡ None = (sym (ap (letter_refused
+            (known_of t m) t.optimism t.quota.volatile m.recovering c.source c.number) whole) ∙ passes) in
+            let none = next_none
+            (first_refusal (past_tests (known_of t m) t.optimism m.recovering content.vector)) (arrival_refusal
+            t.quota.volatile m.recovering (FromUnit c.source) c.number content.text m.recovering.progress) some in
+            let down : arrival_refusal t.quota.volatile
+            m.recovering (FromUnit c.source) c.number content.text m.recovering.progress ≡ Some Down =
+            ap (arrival_refusal t.quota.volatile m.recovering (FromUnit c.source) c.number content.text) b.1 in
             absurd (cc (sym none ∙ down))
 
         -- ---- upon the turn
 
-        module _ (input : Input S) (is : IsAsking (letter_refusal_of t m c) m.recovering (FromUnit c.source) content.text input) where
+        module _ (input : Input S)
+            (is : IsAsking (letter_refusal_of t m c) m.recovering (FromUnit c.source) content.text input) where
           abbrev q : Receipt
           q = delivered l c content
 
-          turned : (o : Option Refusal) → turn_refusal_of t m (turn_upon_input M input) ≡ o → deliver_of M name k l ≡ or_refused k (accepted_of M name k c.receiver q x.unit) o
+          turned : (o : Option Refusal) → turn_refusal_of t m (turn_upon_input M input) ≡ o
+              → deliver_of M name k l ≡ or_refused k (accepted_of M name k c.receiver q x.unit) o
           turned o e =
               let after = turn_refusal_is M name live t w log s c.receiver m x q input is.asked ∙ e in
-              let pass : letter_refusal k x.unit c (Some content) ≡ None = ap (letter_refusal k x.unit c) (sym whole) ∙ refusal_of ∙ is.passes in
+              let pass : letter_refusal k x.unit c (Some content) ≡ None =
+              ap (letter_refusal k x.unit c) (sym whole) ∙ refusal_of ∙ is.passes in
               ap (if_letter_of M name k l) at_k
               ∙ ap (at_unit_of k (deliver_content M name k l c c.content)) x.at
               ∙ ap (λ (o : Option Content). deliver_content M name k l c o x.unit) whole
               ∙ (λ i. or_refused k (accepted_of M name k c.receiver q x.unit) (or_next (pass i) (after i)))
 
-          pub letter_refused_then : (r : Refusal) → turn_refusal_of t m (turn_upon_input M input) ≡ Some r → Leaves M name live (deliver M w l) (Refused r) t log
-          letter_refused_then r e = leaves M name live log (deliver M w l) reach _ (record { reply = Refused r; state = k }) (deliveries_follow M name k w log s.2 l) (turned (Some r) e) t s.1
+          pub letter_refused_then : (r : Refusal) → turn_refusal_of t m (turn_upon_input M input) ≡ Some r
+              → Leaves M name live (deliver M w l) (Refused r) t log
+          letter_refused_then r e = leaves M name live log (deliver M w l) reach _ (record {
+            reply = Refused r;
+            state = k;
+          }) (deliveries_follow M name k w log s.2 l) (turned (Some r) e) t s.1
 
-          letter_done : turn_refusal_of t m (turn_upon_input M input) ≡ None → (p : Progress S) → m.recovering.progress ≡ Some p → (reply : Reply) → reply ≡ next_reply_of t c.receiver m (turn_upon_input M input)
-              → (v : TenantState S) → v ≡ received_kept M t c.receiver m (next_record_of name t c.receiver m q) (turn_upon_input M input).outputs (next_letters_of t c.receiver m q (turn_upon_input M input) p.sessions)
+          letter_done : turn_refusal_of t m (turn_upon_input M input) ≡ None
+              → (p : Progress S) → m.recovering.progress ≡ Some p
+              → (reply : Reply) → reply ≡ next_reply_of t c.receiver m (turn_upon_input M input)
+              → (v : TenantState S)
+              → v ≡ received_kept M t c.receiver m (next_record_of name t c.receiver m q) (turn_upon_input
+              M input).outputs (next_letters_of t c.receiver m q (turn_upon_input M input) p.sessions)
               → Leaves M name live (deliver M w l) reply v log
           letter_done none p up reply answer v new =
               let told = reply_is M name live t w log s c.receiver m x q input is.asked in
               let kept = received_is M name live t w log s c.receiver m x q input is.asked p up is.room in
               let given : Done S = record { reply = reply; state = receiving_state M name k c.receiver q x.unit } in
               leaves M name live log (deliver M w l) reach _ given (deliveries_follow M name k w log s.2 l)
-              (turned None none ∙ (λ i. record { reply = (told ∙ sym answer) i; state = receiving_state M name k c.receiver q x.unit }))
-              v (subst (λ (v : TenantState S). IsCompact v live (receiving_state M name k c.receiver q x.unit)) (sym new) kept)
+              (turned None none ∙ (λ i. record {
+                reply = (told ∙ sym answer) i;
+                state = receiving_state M name k c.receiver q x.unit;
+              }))
+              v (subst (λ (v : TenantState S).
+              IsCompact v live (receiving_state M name k c.receiver q x.unit)) (sym new) kept)
 
           -- so it is of what was planned
-          pub letter_planned : (turn : Turn S) → turn ≡ turn_upon_input M input → (plan : Plan) → IsPlanned name t c.receiver m q turn (Ok plan) → (reply : Reply) → reply ≡ plan.answer.reply
-              → (v : TenantState S) → v ≡ received_kept M t c.receiver m plan.logged (turn_upon_input M input).outputs plan.made.items → Leaves M name live (deliver M w l) reply v log
+          pub letter_planned : (turn : Turn S) → turn ≡ turn_upon_input M input → (plan : Plan)
+              → IsPlanned name t c.receiver m q turn (Ok plan) → (reply : Reply) → reply ≡ plan.answer.reply
+              → (v : TenantState S)
+              → v ≡ received_kept M t c.receiver m plan.logged (turn_upon_input M input).outputs plan.made.items
+              → Leaves M name live (deliver M w l) reply v log
           letter_planned turn e plan planned reply told v new =
               let p = asked_up m.recovering (FromUnit c.source) content.text input is.asked in
               let made = planned.1 p.0 p.1 in
-              letter_done (ap (turn_refusal_of t m) (sym e) ∙ planned.0) p.0 p.1 reply (told ∙ made.reply ∙ ap (next_reply_of t c.receiver m) e) v
-              (new ∙ (λ i. received_kept M t c.receiver m (made.logged i) (turn_upon_input M input).outputs ((made.made ∙ (λ j. next_letters_of t c.receiver m q (e j) p.0.sessions)) i)))
+              letter_done (ap (turn_refusal_of t m) (sym e)
+              ∙ planned.0) p.0 p.1 reply (told ∙ made.reply ∙ ap (next_reply_of t c.receiver m) e) v
+              (new ∙ (λ i. received_kept M t c.receiver m (made.logged i) (turn_upon_input M input).outputs
+              ((made.made ∙ (λ j. next_letters_of t c.receiver m q (e j) p.0.sessions)) i)))
 
 -- a content told by its parts
 abbrev content_of : List ℕ → List Mark → Option Content
 content_of text vector = Some (record { text = text; vector = vector })
 
 -- what is there, by what its parts are
-pub content_parts : (sent : Option Content) (content : Content) (text : List ℕ) (vector : List Mark) → sent ≡ Some content → text ≡ content.text → vector ≡ content.vector
+pub content_parts : (sent : Option Content) (content : Content) (text : List ℕ) (vector : List Mark)
+    → sent ≡ Some content → text ≡ content.text → vector ≡ content.vector
     → sent ≡ Some (record { text = text; vector = vector })
-content_parts sent content text vector is t v = is ∙ (ap (λ x. content_of x content.vector) (sym t) ∙ ap (λ y. content_of text y) (sym v))
+content_parts sent content text vector is t v =
+    is ∙ (ap (λ x. content_of x content.vector) (sym t) ∙ ap (λ y. content_of text y) (sym v))

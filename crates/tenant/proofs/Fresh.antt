@@ -4,10 +4,12 @@ use Rattle.std.specs.Prelude.{Option, Some, None}
 use Rattle.handler.specs.Inputs.{Input}
 use Rattle.tenant.specs.Needs.{IsFresh}
 
-pub not_fresh : {S : Type 0} (needed : Option (Input S)) (asked input : Input S) → needed ≡ Some asked → (asked ≡ input → ⊥) → IsFresh needed input → ⊥
+pub not_fresh : {S : Type 0} (needed : Option (Input S)) (asked input : Input S)
+    → needed ≡ Some asked → (asked ≡ input → ⊥) → IsFresh needed input → ⊥
 not_fresh needed asked input e differ fresh = differ (subst (λ (o : Option (Input _)). IsFresh o input) e fresh)
 
-pub fresh_same : {S : Type 0} (needed : Option (Input S)) (asked input : Input S) → needed ≡ Some asked → asked ≡ input → IsFresh needed input
+pub fresh_same : {S : Type 0} (needed : Option (Input S)) (asked input : Input S)
+    → needed ≡ Some asked → asked ≡ input → IsFresh needed input
 fresh_same needed asked input e same = subst (λ (o : Option (Input _)). IsFresh o input) (sym e) same
 
 pub fresh_none : {S : Type 0} (needed : Option (Input S)) (input : Input S) → needed ≡ None → IsFresh needed input

@@ -21,19 +21,28 @@ module _ (name : List ℕ) (u : ℕ) (before mid after : Logged) (same : mid.rec
   pub others_on : OthersKept name u mid after → OthersKept name u before after
   others_on o n x other = o n x other ∙ places_same before mid same n x
 
-  module _ {S : Type 0} (M : Meaning S) (t : TenantState S) (m q : Member S) (target : ℕ) (there : slice_get t.members u ≡ Some q) (found : slice_get t.members u ≡ Some m) (given : Reply) (a : Answer) (v : TenantState S) (keep skipped : ℕ) (progress : Option (Progress S)) where
+  module _ {S : Type 0} (M : Meaning S) (t : TenantState S)
+      (m q : Member S) (target : ℕ) (there : slice_get t.members u ≡ Some q) (found : slice_get t.members u ≡ Some m)
+      (given : Reply) (a : Answer) (v : TenantState S) (keep skipped : ℕ) (progress : Option (Progress S)) where
     alike : q ≡ m
     alike = same_Some q m (sym there ∙ found)
 
-    pub went : (a.reply ≡ given) × IsPlain a → IsReplayed M before.records (places_of name u before) q.recovering target (length t.members) progress → v ≡ returned_kept t u m target (incarnation_of t.table u + 1) progress → keep ≡ target - q.recovering.base → skipped ≡ length (places_of name u before) - live_count q.recovering
-        → places_of name u after ≡ take (skipped + keep) (places_of name u mid) → OthersKept name u mid after → Grows mid.records [] after.records → Went M name t u m target given a v before after
+    pub went : (a.reply ≡ given) × IsPlain a
+        → IsReplayed M before.records (places_of name u before) q.recovering target (length t.members) progress
+        → v ≡ returned_kept t u m target (incarnation_of t.table u + 1) progress
+        → keep ≡ target - q.recovering.base → skipped ≡ length (places_of name u before) - live_count q.recovering
+        → places_of name u after ≡ take (skipped + keep) (places_of name u mid) → OthersKept name u mid after
+        → Grows mid.records [] after.records → Went M name t u m target given a v before after
     went plain replayed back count skips own others grows = record {
       said = plain.1.1;
       reply = plain.0;
       progress = progress;
-      replayed = subst (λ (n : Member S). IsReplayed M before.records (places_of name u before) n.recovering target (length t.members) progress) alike replayed;
+      replayed = subst (λ (n : Member S). IsReplayed
+          M before.records (places_of name u before) n.recovering target (length t.members) progress) alike replayed;
       back = back;
-      own = own ∙ (λ i. take ((skips ∙ ap (λ (n : Member S). length (places_of name u before) - live_count n.recovering) alike) i + (count ∙ ap (λ (n : Member S). target - n.recovering.base) alike) i) (places_same before mid same name u i));
+      own = own ∙ (λ i. take ((skips
+          ∙ ap (λ (n : Member S). length (places_of name u before) - live_count n.recovering) alike) i + (count
+          ∙ ap (λ (n : Member S). target - n.recovering.base) alike) i) (places_same before mid same name u i));
       others = others_on others;
       grows = grows_on grows;
     }

@@ -1,5 +1,6 @@
 -- What was received up to a base stays so over a step, and so does what a tenant keeps of its past.
-use Rattle.std.proofs.Common.{◌≡◌, ◌⊎◌, inl, inr, refl, sym, ◌∙◌, ap, ℕ, zero, suc, ◌-◌, ◌<◌, ◌≤◌, Bool, true, false, cond, ◌||◌, List, [], ◌∷◌, ◌++◌, length, take, arith}
+use Rattle.std.proofs.Common.{◌≡◌, ◌⊎◌, inl, inr, refl, sym, ◌∙◌, ap, ℕ, zero, suc, ◌-◌, ◌<◌, ◌≤◌, Bool, true, false}
+use Rattle.std.proofs.Common.{cond, ◌||◌, List, [], ◌∷◌, ◌++◌, length, take, arith}
 use Rattle.std.specs.Prelude.{Option, Some, None, slice_get, is_none, ◌==◌}
 use Rattle.std.specs.List.{list_any}
 use Rattle.std.proofs.lemmas.Option.{slice_get_within, same_Some}
@@ -13,7 +14,8 @@ use Rattle.model.specs.declared.steps.TenantStep.{TenantStep}
 use Rattle.model.specs.Alone.{Reachable, step_open}
 use Rattle.model.specs.Alone.Reachable.{stepped}
 use Rattle.model.specs.Handler.{Meaning}
-use Rattle.model.specs.Keeping.{Shelf, changed, changed_if, first_shelf, put, with_room, received_at, received_for_good, receives}
+use Rattle.model.specs.Keeping.{Shelf, changed, changed_if, first_shelf, put, with_room, received_at, received_for_good}
+use Rattle.model.specs.Keeping.{receives}
 use Rattle.model.specs.Lists.{has}
 use Rattle.model.specs.Nodes.{Cause, Message, Node, began, letter, node_at, outside, parents, place_before, sender_of}
 use Rattle.model.specs.Steps.{Outcome}
@@ -22,7 +24,8 @@ use Rattle.model.proofs.Places.{get_below}
 use Rattle.theory.proofs.Certificate.{Invariant, reachable_invariant}
 use Rattle.theory.proofs.Changes.{Change, step_changes}
 use Rattle.theory.proofs.Firm.{firm_change}
-use Rattle.theory.proofs.ListLaws.{any_none, append_get, at_map, get_append, get_append_any, get_set, get_take, take_get, take_while_le}
+use Rattle.theory.proofs.ListLaws.{any_none, append_get, at_map, get_append, get_append_any, get_set, get_take}
+use Rattle.theory.proofs.ListLaws.{take_get, take_while_le}
 use Rattle.theory.proofs.Released.{firm_on, nodes_kept}
 use Rattle.layer_laws.specs.Laws.{frontier}
 use Rattle.compact.proofs.Tails.{before_frontier}
@@ -36,18 +39,21 @@ use Rattle.tenant.proofs.Reading.{stands_at}
 
 -- ---- closed, and opened for the proofs of this crate
 
-pub past_opened : {S : Type 0} {t : TenantState S} {w : World} {shelves : List Shelf} → KeepsPast t w shelves → IsKeeping t w shelves
+pub past_opened : {S : Type 0} {t : TenantState S} {w : World} {shelves : List Shelf}
+    → KeepsPast t w shelves → IsKeeping t w shelves
 unfolding KeepsPast
 past_opened k = k
 
-pub past_closed : {S : Type 0} {t : TenantState S} {w : World} {shelves : List Shelf} → IsKeeping t w shelves → KeepsPast t w shelves
+pub past_closed : {S : Type 0} {t : TenantState S} {w : World} {shelves : List Shelf}
+    → IsKeeping t w shelves → KeepsPast t w shelves
 unfolding KeepsPast
 past_closed k = k
 
 -- ---- lists
 
 -- two fronts of which each place passes alike
-any_same : (p q : ℕ → Bool) (n : ℕ) (xs ys : List ℕ) → n ≤ length xs → ((i x : ℕ) → i < n → slice_get xs i ≡ Some x → (slice_get ys i ≡ Some x) × (p x ≡ q x)) → list_any p (take n xs) ≡ list_any q (take n ys)
+any_same : (p q : ℕ → Bool) (n : ℕ) (xs ys : List ℕ) → n ≤ length xs → ((i x : ℕ) → i < n → slice_get xs i ≡ Some x
+    → (slice_get ys i ≡ Some x) × (p x ≡ q x)) → list_any p (take n xs) ≡ list_any q (take n ys)
 any_same p q zero xs ys h f = refl
 any_same p q (suc n) [] ys h f = absurd (omega (arith, h))
 any_same p q (suc n) (x ∷ xs) [] h f = absurd (let a = (f 0 x (omega arith) refl).0 in cc a)
@@ -75,7 +81,8 @@ none_above began l n h f = refl
 none_above (outside number text) l n h f = refl
 none_above (letter m s) l n h f = let low = f m s refl in grind (arith, nat_tests)
 
-module _ {S : Type 0} (M : Meaning S) (w : World) (g : Invariant M w) (u : ℕ) (m : Member) (found : slice_get w.members u ≡ Some m) where
+module _ {S : Type 0} (M : Meaning S)
+    (w : World) (g : Invariant M w) (u : ℕ) (m : Member) (found : slice_get w.members u ≡ Some m) where
   -- a letter that was not made is received by no interval
   pub unmade : (n l : ℕ) → length (executed M w).letters ≤ l → received_at w.nodes (take n m.path) l ≡ false
   unmade n l h = any_none (λ x. receives l (node_at w.nodes x).cause) (take n m.path) (λ i x e.
@@ -93,20 +100,28 @@ module _ {S : Type 0} (M : Meaning S) (w : World) (g : Invariant M w) (u : ℕ) 
       let zero_is : i ≡ 0 = omega (arith, low) in
       none_from (node_at w.nodes x) l (s.first x (ap (slice_get m.path) (sym zero_is) ∙ a.0)))
 
-module _ {S : Type 0} (M : Meaning S) (v w : World) (g : Invariant M v) (g' : Invariant M w) (c : Change M v w) (u : ℕ) (m n : Member) (found : slice_get v.members u ≡ Some m) (after : slice_get w.members u ≡ Some n) where
+module _ {S : Type 0} (M : Meaning S) (v w : World) (g : Invariant M v) (g' : Invariant M w) (c : Change M v w)
+    (u : ℕ) (m n : Member) (found : slice_get v.members u ≡ Some m) (after : slice_get w.members u ≡ Some n) where
   -- a firm interval stays in its place
-  stays : (i x : ℕ) → i < frontier v m → slice_get m.path i ≡ Some x → (slice_get n.path i ≡ Some x) × (node_at w.nodes x ≡ node_at v.nodes x)
+  stays : (i x : ℕ) → i < frontier v m
+      → slice_get m.path i ≡ Some x → (slice_get n.path i ≡ Some x) × (node_at w.nodes x ≡ node_at v.nodes x)
   stays i x low on =
       let s = g.chain.sound.units u m found in
       let within = s.made i x on in
       let k = nodes_kept M c x within in
-      let firm = firm_change M g.chain.sound c x within (before_frontier v m i x (take_get m.path (frontier v m) i x low on)).1 in
-      ((firm_on w g'.chain.sound u i x n after k.0 firm (ap (λ z. z.unit) k.1 ∙ s.own i x on) (ap (λ z. z.index) k.1 ∙ s.indexed i x on)).0, k.1)
+      let firm = firm_change M
+      g.chain.sound c x within (before_frontier v m i x (take_get m.path (frontier v m) i x low on)).1 in (
+        (firm_on w g'.chain.sound u i x n after k.0 firm (ap (λ z. z.unit) k.1
+            ∙ s.own i x on) (ap (λ z. z.index) k.1 ∙ s.indexed i x on)).0,
+        k.1,
+      )
 
   -- so whether a letter was received for good is as it was
-  pub received_stays : (base l : ℕ) → base < frontier v m → received_at v.nodes (take (suc base) m.path) l ≡ received_at w.nodes (take (suc base) n.path) l
+  pub received_stays : (base l : ℕ) → base < frontier v m
+      → received_at v.nodes (take (suc base) m.path) l ≡ received_at w.nodes (take (suc base) n.path) l
   received_stays base l low =
-      any_same (λ x. receives l (node_at v.nodes x).cause) (λ x. receives l (node_at w.nodes x).cause) (suc base) m.path n.path
+      any_same (λ x. receives l (node_at v.nodes x).cause)
+      (λ x. receives l (node_at w.nodes x).cause) (suc base) m.path n.path
       (let a = take_while_le (is_firm v) m.path in omega (arith, a, low))
       (λ i x h on. let s = stays i x (omega (arith, h, low)) on in (s.0, ap (λ z. receives l z.cause) (sym s.1)))
 
@@ -114,10 +129,14 @@ module _ {S : Type 0} (M : Meaning S) (v w : World) (g : Invariant M v) (g' : In
 
 -- Each shelf has the base that it had, or is a new one, of a unit at its beginning.
 abbrev pub SameBases : (List Shelf → List Shelf) → Type 0
-SameBases change = (shelves : List Shelf) (u : ℕ) (s : Shelf) → slice_get (change shelves) u ≡ Some s → ((r : Shelf) × (slice_get shelves u ≡ Some r) × (r.base ≡ s.base)) ⊎ ((length shelves ≤ u) × (s.base ≡ 0))
+SameBases change = (shelves : List Shelf) (u : ℕ) (s : Shelf) → slice_get (change shelves) u ≡ Some s
+    → ((r : Shelf) × (slice_get shelves u ≡ Some r) × (r.base ≡ s.base)) ⊎ ((length shelves ≤ u) × (s.base ≡ 0))
 
-module _ {S : Type 0} (M : Meaning S) (name : List ℕ) (t v : TenantState S) (w z : World) (records : List (Option Record)) (standing : IsStanding M name t w records) (step : TenantStep) (said : Said) (reply : Reply) (stepped_to : step_open M w step said ≡ done reply z)
-    (shelves : List Shelf) (keeping : IsKeeping t w shelves) (change : List Shelf → List Shelf) (bases : SameBases change) (made : Shelves change t v) where
+module _ {S : Type 0} (M : Meaning S) (name : List ℕ)
+    (t v : TenantState S) (w z : World) (records : List (Option Record)) (standing : IsStanding M name t w records)
+    (step : TenantStep) (said : Said) (reply : Reply) (stepped_to : step_open M w step said ≡ done reply z)
+    (shelves : List Shelf) (keeping : IsKeeping t w shelves)
+    (change : List Shelf → List Shelf) (bases : SameBases change) (made : Shelves change t v) where
   reached : Reachable M w
   reached = standing.stands.2.reached
 
@@ -137,36 +156,45 @@ module _ {S : Type 0} (M : Meaning S) (name : List ℕ) (t v : TenantState S) (w
   width =
       let a = standing.stands.1.width in
       let b = standing.stands.2.represents.width in
-      let c : length (shelves_of t) ≡ length t.members = length-map t.members (λ (m : MemberOf S). shelf_of m.recovering) in
+      let c : length (shelves_of t) ≡ length t.members =
+      length-map t.members (λ (m : MemberOf S). shelf_of m.recovering) in
       ap length (sym keeping.shelved) ∙ c ∙ a ∙ b
 
   count : length t.letters ≡ length (executed M w).letters
   count = ap length (sym standing.stands.1.letters) ∙ standing.stands.2.represents.sent
 
   -- the unit of a shelf, whose base is firm
-  of_shelf : (u : ℕ) (s : Shelf) → slice_get shelves u ≡ Some s → (m : Member) × (slice_get w.members u ≡ Some m) × (s.base < frontier w m)
+  of_shelf : (u : ℕ) (s : Shelf)
+      → slice_get shelves u ≡ Some s → (m : Member) × (slice_get w.members u ≡ Some m) × (s.base < frontier w m)
   of_shelf u s at =
       let m = get_below w.members u (let a = slice_get_within shelves u s at in let b = width in omega (arith, a, b)) in
       let x = stands_at M name (live_in name records) t w standing.whole standing.stands u m.0 m.1 in
-      let own : shelf_of x.member.recovering ≡ s = same_Some (shelf_of x.member.recovering) s (sym (at_map (λ (n : MemberOf S). shelf_of n.recovering) t.members u x.member x.found) ∙ ap (λ ss. slice_get ss u) keeping.shelved ∙ at) in
+      let own : shelf_of x.member.recovering ≡ s = same_Some (shelf_of x.member.recovering) s
+      (sym (at_map (λ (n : MemberOf S). shelf_of n.recovering) t.members u x.member x.found)
+      ∙ ap (λ ss. slice_get ss u) keeping.shelved ∙ at) in
       let base : x.member.recovering.base ≡ s.base = ap (λ (r : Shelf). r.base) own in
-      let seen : x.unit.base.index ≡ x.member.recovering.base = (places_are_seen M x.member.recovering x.unit x.kept.kept x.kept.seen).base in
+      let seen : x.unit.base.index ≡ x.member.recovering.base =
+      (places_are_seen M x.member.recovering x.unit x.kept.kept x.kept.seen).base in
       let firm : x.unit.base.index < frontier w m.0 = x.stands.firm_base in
       (m.0, m.1, omega (arith, base, seen, firm))
 
   -- a letter to a unit that was not there has its content
-  content_there : (l : ℕ) (c : Letter) (received : Message) → IsLetter w l received c → length w.members ≤ c.receiver → (o : Option Content) → IsContent w l received o → is_none o ≡ false
+  content_there : (l : ℕ) (c : Letter) (received : Message) → IsLetter w l received c
+      → length w.members ≤ c.receiver → (o : Option Content) → IsContent w l received o → is_none o ≡ false
   content_there l c received is high None taken =
       let within = slice_get_within w.members received.receiver taken.member taken.found in
       let same : c.receiver ≡ received.receiver = is.receiver in
       absurd (omega (arith, within, same, high))
   content_there l c received is high (Some content) e = refl
 
-  has_content : (l : ℕ) (c : Letter) → slice_get t.letters l ≡ Some c → length w.members ≤ c.receiver → is_none c.content ≡ false
+  has_content : (l : ℕ) (c : Letter)
+      → slice_get t.letters l ≡ Some c → length w.members ≤ c.receiver → is_none c.content ≡ false
   has_content l c at high =
       let rep = standing.stands.2.represents in
-      let e : slice_get standing.stands.0.letters l ≡ Some c = ap (λ ls. slice_get ls l) standing.stands.1.letters ∙ at in
-      let received = get_below (executed M w).letters l (let a = slice_get_within t.letters l c at in let b = count in omega (arith, a, b)) in
+      let e : slice_get standing.stands.0.letters l ≡ Some c =
+      ap (λ ls. slice_get ls l) standing.stands.1.letters ∙ at in
+      let received = get_below (executed M w).letters l (let a = slice_get_within t.letters l c at in
+      let b = count in omega (arith, a, b)) in
       let is = rep.letters l received.0 c received.1 e in
       content_there l c received.0 is high c.content is.content
 
@@ -175,7 +203,9 @@ module _ {S : Type 0} (M : Meaning S) (name : List ℕ) (t v : TenantState S) (w
     first_of : s.base ≡ 0 → received_for_good z n s l ≡ false
     first_of none = ap (λ b. received_at z.nodes (take (suc b) n.path) l) none ∙ first_none M z g' c.receiver n after l
 
-    by_shelf : (slice_get t.letters l ≡ Some c) ⊎ ((length t.letters ≤ l) × (is_none c.content ≡ false)) → ((r : Shelf) × (slice_get shelves c.receiver ≡ Some r) × (r.base ≡ s.base)) ⊎ ((length shelves ≤ c.receiver) × (s.base ≡ 0)) → is_none c.content ≡ received_for_good z n s l
+    by_shelf : (slice_get t.letters l ≡ Some c) ⊎ ((length t.letters ≤ l) × (is_none c.content ≡ false))
+        → ((r : Shelf) × (slice_get shelves c.receiver ≡ Some r) × (r.base ≡ s.base))
+        ⊎ ((length shelves ≤ c.receiver) × (s.base ≡ 0)) → is_none c.content ≡ received_for_good z n s l
     by_shelf (inl at) (inl r) =
         let m = of_shelf c.receiver r.0 r.1 in
         keeping.letters l c m.0 r.0 at m.1 r.1
@@ -189,12 +219,15 @@ module _ {S : Type 0} (M : Meaning S) (name : List ℕ) (t v : TenantState S) (w
         ∙ sym (unmade M w g c.receiver m.0 m.1 (suc r.0.base) l (omega (arith, low, many)))
         ∙ received_stays M w z g g' moved c.receiver m.0 n m.1 after r.0.base l m.2
         ∙ ap (λ b. received_at z.nodes (take (suc b) n.path) l) r.2
-    by_shelf (inl at) (inr h) = has_content l c at (let a = h.0 in let b = width in omega (arith, a, b)) ∙ sym (first_of h.1)
+    by_shelf (inl at) (inr h) =
+        has_content l c at (let a = h.0 in let b = width in omega (arith, a, b)) ∙ sym (first_of h.1)
     by_shelf (inr new) (inr h) = new.1 ∙ sym (first_of h.1)
 
-  letter_cases : (l : ℕ) (c : Letter) → slice_get v.letters l ≡ Some c → (slice_get t.letters l ≡ Some c) ⊎ ((length t.letters ≤ l) × (is_none c.content ≡ false))
+  letter_cases : (l : ℕ) (c : Letter) → slice_get v.letters l ≡ Some c
+      → (slice_get t.letters l ≡ Some c) ⊎ ((length t.letters ≤ l) × (is_none c.content ≡ false))
   letter_cases l c at =
-      let e : slice_get (t.letters ++ made.letters.made) l ≡ Some c = ap (λ ls. slice_get ls l) (sym made.letters.letters) ∙ at in
+      let e : slice_get (t.letters ++ made.letters.made) l ≡ Some c =
+      ap (λ ls. slice_get ls l) (sym made.letters.letters) ∙ at in
       elim (dec_lt l (length t.letters)) [
         | yes q ↦
             let old = get_below t.letters l q in
@@ -220,7 +253,8 @@ same_bases shelves u s at = inl (s, at, refl)
 pub changed_bases : (f : Shelf → Shelf) → ((s : Shelf) → (f s).base ≡ s.base) → (u : ℕ) → SameBases (changed f u)
 changed_bases f keeps u shelves v s at = go (slice_get shelves u) refl at
   where
-    go : (o : Option Shelf) → slice_get shelves u ≡ o → slice_get (changed_if f u shelves o) v ≡ Some s → ((r : Shelf) × (slice_get shelves v ≡ Some r) × (r.base ≡ s.base)) ⊎ ((length shelves ≤ v) × (s.base ≡ 0))
+    go : (o : Option Shelf) → slice_get shelves u ≡ o → slice_get (changed_if f u shelves o) v ≡ Some s
+        → ((r : Shelf) × (slice_get shelves v ≡ Some r) × (r.base ≡ s.base)) ⊎ ((length shelves ≤ v) × (s.base ≡ 0))
     go None e q = inl (s, q, refl)
     go (Some r) e q = elim (get_set shelves u v (f r) s q) [
       | inl h ↦ inl (r, ap (slice_get shelves) h.0 ∙ e, sym (keeps r) ∙ ap (λ (x : Shelf). x.base) (sym h.1))

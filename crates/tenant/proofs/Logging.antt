@@ -1,5 +1,6 @@
 -- Records that are logged one after another.
-use Rattle.std.proofs.Common.{◌≡◌, ◌⊎◌, inl, inr, sym, ◌∙◌, ap, ℕ, suc, ◌+◌, ◌<◌, true, List, [], ◌∷◌, ◌++◌, length, take, arith, append_assoc, map}
+use Rattle.std.proofs.Common.{◌≡◌, ◌⊎◌, inl, inr, sym, ◌∙◌, ap, ℕ, suc, ◌+◌, ◌<◌, true, List, [], ◌∷◌, ◌++◌, length}
+use Rattle.std.proofs.Common.{take, arith, append_assoc, map}
 use Rattle.std.specs.Prelude.{Option, Some, slice_get, bytes_eq}
 use Rattle.std.proofs.lemmas.List.{map-append}
 use Rattle.model.specs.declared.records.Record.{Record}
@@ -7,21 +8,25 @@ use Rattle.model.proofs.Places.{get_below}
 use Rattle.theory.proofs.LettersExact.{take_more}
 
 -- a front with one more
-pub take_one : {X : Type 0} (xs : List X) (i : ℕ) (x : X) → slice_get xs i ≡ Some x → take (i + 1) xs ≡ take i xs ++ x ∷ []
+pub take_one : {X : Type 0} (xs : List X) (i : ℕ) (x : X)
+    → slice_get xs i ≡ Some x → take (i + 1) xs ≡ take i xs ++ x ∷ []
 take_one xs i x e = ap (λ n. take n xs) (let t : i + 1 ≡ suc i = omega arith in t) ∙ take_more xs i x e
 
 abbrev pub AreOf : List ℕ → List Record → ℕ → Type 0
 AreOf tenant records n = (k : ℕ) (r : Record) → k < n → slice_get records k ≡ Some r → bytes_eq r.tenant tenant ≡ true
 
-module _ (tenant : List ℕ) (records : List Record) (i : ℕ) (within : i < length records) (before mid after : List (Option Record))
-    (one : (r : Record) → slice_get records i ≡ Some r → (after ≡ mid ++ Some r ∷ []) × (bytes_eq r.tenant tenant ≡ true)) where
+module _ (tenant : List ℕ) (records : List Record)
+    (i : ℕ) (within : i < length records) (before mid after : List (Option Record))
+    (one : (r : Record) → slice_get records i ≡ Some r
+    → (after ≡ mid ++ Some r ∷ []) × (bytes_eq r.tenant tenant ≡ true)) where
   pub logged_one : mid ≡ before ++ map Some (take i records) → after ≡ before ++ map Some (take (i + 1) records)
   logged_one so_far =
       let r = get_below records i within in
       (one r.0 r.1).0
       ∙ ap (λ rs. rs ++ Some r.0 ∷ []) so_far
       ∙ append_assoc before (map Some (take i records)) (Some r.0 ∷ [])
-      ∙ ap (λ rs. before ++ rs) (sym (ap (map Some) (take_one records i r.0 r.1) ∙ map-append Some (take i records) (r.0 ∷ [])))
+      ∙ ap (λ rs. before ++ rs)
+      (sym (ap (map Some) (take_one records i r.0 r.1) ∙ map-append Some (take i records) (r.0 ∷ [])))
 
   pub of_one : AreOf tenant records i → AreOf tenant records (i + 1)
   of_one so_far k r below found = elim (last k below) [

@@ -16,7 +16,16 @@ use Rattle.tenant.proofs.Standing.{closed}
 
 -- any record, where one was forgotten
 any_record : Record
-any_record = record { tenant = []; unit = 0; mark = record { incarnation = 0; index = 0 }; source = Outside; letter = None; number = 0; text = []; vector = [] }
+any_record = record {
+  tenant = [];
+  unit = 0;
+  mark = record { incarnation = 0; index = 0 };
+  source = Outside;
+  letter = None;
+  number = 0;
+  text = [];
+  vector = [];
+}
 
 -- a whole list that may have been before records were forgotten
 whole_of : List (Option Record) → List Record
@@ -32,10 +41,13 @@ left_of (Some r ∷ records) = (refl, left_of records)
 
 module _ {S : Type 0} (M : Meaning S) (kinds : List (List ℕ)) (quota : Quota) (optimism : ℕ) (reply : Reply) where
   -- two worlds of one outcome are one
-  same_world : (outcome : Outcome) (y z : World) → outcome ≡ record { reply = reply; world = Some y } → outcome ≡ record { reply = reply; world = Some z } → y ≡ z
-  same_world outcome y z e f = let h : Some y ≡ Some z = sym (ap (λ (o : Outcome). o.world) e) ∙ ap (λ (o : Outcome). o.world) f in cc h
+  same_world : (outcome : Outcome) (y z : World)
+      → outcome ≡ record { reply = reply; world = Some y } → outcome ≡ record { reply = reply; world = Some z } → y ≡ z
+  same_world outcome y z e f =
+      let h : Some y ≡ Some z = sym (ap (λ (o : Outcome). o.world) e) ∙ ap (λ (o : Outcome). o.world) f in cc h
 
-  pub opened_is : (t : Option (TenantState S)) → OpensAs M kinds quota optimism reply t → IsOpened M kinds quota optimism reply t
+  pub opened_is : (t : Option (TenantState S))
+      → OpensAs M kinds quota optimism reply t → IsOpened M kinds quota optimism reply t
   opened_is None e = (None, e, λ name records. tt)
   opened_is (Some t) h = (Some first.0, first.1, stands)
     where
@@ -48,10 +60,13 @@ module _ {S : Type 0} (M : Meaning S) (kinds : List (List ℕ)) (quota : Quota) 
           closed (record {
             whole = whole_of records;
             left = left_of records;
-            stands = subst (λ z. StandsFor M name (live_in name records) t z (whole_of records)) (same_world (open_new M kinds quota optimism) l.0 first.0 l.1 first.1) l.2;
+            stands = subst (λ z. StandsFor M name (live_in name records) t z (whole_of records))
+                (same_world (open_new M kinds quota optimism) l.0 first.0 l.1 first.1) l.2;
           })
 
 -- the same, by what the calls give
-pub opened_so : {S : Type 0} (M : Meaning S) (kinds : List (List ℕ)) (quota : Quota) (optimism : ℕ) (reply other : Reply) (t : Option (TenantState S))
+pub opened_so : {S : Type 0} (M : Meaning S)
+    (kinds : List (List ℕ)) (quota : Quota) (optimism : ℕ) (reply other : Reply) (t : Option (TenantState S))
     → other ≡ reply → OpensAs M kinds quota optimism reply t → IsOpened M kinds quota optimism other t
-opened_so M kinds quota optimism reply other t e h = subst (λ r. IsOpened M kinds quota optimism r t) (sym e) (opened_is M kinds quota optimism reply t h)
+opened_so M kinds quota optimism reply other t e h =
+    subst (λ r. IsOpened M kinds quota optimism r t) (sym e) (opened_is M kinds quota optimism reply t h)

@@ -1,5 +1,6 @@
 -- What a tenant stands for stays where the log changes beside it.
-use Rattle.std.proofs.Common.{◌≡◌, sym, ◌∙◌, ap, subst, ℕ, ◌+◌, true, false, List, [], ◌++◌, length, take, append-nil, arith, map}
+use Rattle.std.proofs.Common.{◌≡◌, sym, ◌∙◌, ap, subst, ℕ, ◌+◌, true, false, List, [], ◌++◌, length, take, append-nil}
+use Rattle.std.proofs.Common.{arith, map}
 use Rattle.std.specs.Prelude.{IfOk, OnErr, Option, Some, Result, Ok, Err, slice_get, bytes_eq}
 use Rattle.std.proofs.lemmas.Option.{slice_get_within}
 use Rattle.std.proofs.lemmas.List.{length-take}
@@ -19,7 +20,8 @@ use Rattle.tenant.proofs.Places.{other_places, owns_not, places_behind, places_s
 use Rattle.tenant.proofs.Standing.{closed, opened}
 
 -- Its records are live as they were.
-pub stands_beside : {S : Type 0} (M : Meaning S) (name : List ℕ) (t : TenantState S) (w : World) (before after : List (Option Record)) (grown : List Record) → Grows before grown after
+pub stands_beside : {S : Type 0} (M : Meaning S) (name : List ℕ) (t : TenantState S)
+    (w : World) (before after : List (Option Record)) (grown : List Record) → Grows before grown after
     → ((u : ℕ) → live_in name after u ≡ live_in name before u) → Stands M name t w before → Stands M name t w after
 stands_beside M name t w before after grown grows same given =
     let s = opened given in
@@ -29,21 +31,27 @@ stands_beside M name t w before after grown grows same given =
       stands = (
         s.stands.0,
         subst (λ (live : ℕ → List ℕ). IsCompact t live s.stands.0) (λ i u. sym (same u) i) s.stands.1,
-        record { reached = s.stands.2.reached; represents = logs_may_grow M name s.stands.0 w s.whole grown s.stands.2.represents },
+        record {
+          reached = s.stands.2.reached;
+          represents = logs_may_grow M name s.stands.0 w s.whole grown s.stands.2.represents;
+        },
       );
     })
 
 -- Records of one tenant are live of no other.
-pub appended_beside : {S : Type 0} (M : Meaning S) (name other : List ℕ) (t : TenantState S) (w : World) (before after : List (Option Record)) (records : List Record) (n : ℕ) → after ≡ before ++ map Some (take n records)
+pub appended_beside : {S : Type 0} (M : Meaning S) (name other : List ℕ) (t : TenantState S) (w : World)
+    (before after : List (Option Record)) (records : List Record) (n : ℕ) → after ≡ before ++ map Some (take n records)
     → AreOf name records n → bytes_eq other name ≡ false → Stands M other t w before → Stands M other t w after
-appended_beside M name other t w before after records n logged of_name differs s = stands_beside M other t w before after (take n records) (appended_grows before after (take n records) logged) same s
+appended_beside M name other t w before after records n logged of_name differs s =
+    stands_beside M other t w before after (take n records) (appended_grows before after (take n records) logged) same s
   where
     not_own : (i : ℕ) (r : Record) → slice_get (take n records) i ≡ Some r → r.tenant ≡ other → ⊥
     not_own i r e own =
         let f = get_take records n i r e in
         let within = slice_get_within (take n records) i r e in
         let long = length-take n records in
-        let is_name : r.tenant ≡ name = (bytes_eq-Decides r.tenant name).0 (of_name i r (omega (arith, within, long)) f.0) in
+        let is_name : r.tenant ≡ name =
+        (bytes_eq-Decides r.tenant name).0 (of_name i r (omega (arith, within, long)) f.0) in
         let is : bytes_eq other name ≡ true = (bytes_eq-Decides other name).1 (sym own ∙ is_name) in
         cc (is, differs)
 
@@ -51,18 +59,25 @@ appended_beside M name other t w before after records n logged of_name differs s
     same u =
         ap (places_from other u 0) logged
         ∙ places_behind other u 0 before (map Some (take n records))
-        ∙ ap (λ ps. places_from other u 0 before ++ ps) (other_places other u (0 + length before) (take n records) (λ i r e. owns_not other u r (λ own unit. not_own i r e own)))
+        ∙ ap (λ ps. places_from other u 0 before ++ ps) (other_places other
+        u (0 + length before) (take n records) (λ i r e. owns_not other u r (λ own unit. not_own i r e own)))
         ∙ append-nil (places_from other u 0 before)
 
 -- A unit's records that go are of no other tenant.
-pub returned_beside : {S : Type 0} (M : Meaning S) (name other : List ℕ) (u : ℕ) (t : TenantState S) (w : World) (before after : Logged) → Grows before.records [] after.records × OthersKept name u before after → bytes_eq other name ≡ false
+pub returned_beside : {S : Type 0}
+    (M : Meaning S) (name other : List ℕ) (u : ℕ) (t : TenantState S) (w : World) (before after : Logged)
+    → Grows before.records [] after.records × OthersKept name u before after → bytes_eq other name ≡ false
     → Stands M other t w before.records → Stands M other t w after.records
 returned_beside M name other u t w before after kept differs s =
     stands_beside M other t w before.records after.records [] kept.0
-    (λ v. live_same before after other v (kept.1 other v (λ h. let is : bytes_eq other name ≡ true = (bytes_eq-Decides other name).1 h.0 in cc (is, differs)))) s
+    (λ v. live_same before after other v (kept.1 other v (λ h. let is : bytes_eq other name ≡ true =
+    (bytes_eq-Decides other name).1 h.0 in cc (is, differs)))) s
 
 -- So it is whether or not the call succeeded.
-pub either_beside : {T E : Type 0} (r : Result T E) (name : List ℕ) (u : ℕ) (before after : Logged) → IfOk r (λ _. Grows before.records [] after.records × OthersKept name u before after) → OnErr r (after.records ≡ before.records)
+pub either_beside : {T E : Type 0} (r : Result T E) (name : List ℕ) (u : ℕ) (before after : Logged)
+    → IfOk r (λ _. Grows before.records [] after.records × OthersKept name u before after)
+    → OnErr r (after.records ≡ before.records)
     → Grows before.records [] after.records × OthersKept name u before after
 either_beside (Ok x) name u before after h e = h
-either_beside (Err x) name u before after h e = (same_grows before.records after.records e, λ n v other. places_same before after e n v)
+either_beside (Err x) name u before after h e =
+    (same_grows before.records after.records e, λ n v other. places_same before after e n v)

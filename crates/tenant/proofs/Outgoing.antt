@@ -18,26 +18,32 @@ use Rattle.output_commit.specs.Holds.{held_below}
 use Rattle.compact.specs.Compact.{Compact}
 use Rattle.compact.specs.Steps.{Done, release_of, released_unit}
 use Rattle.compact.proofs.Releases.{releases_follow}
-use Rattle.tenant.specs.Kept.{TenantState, Member, firm_of, firm_texts, released_member, unfirm, up_refusal, with_firm_out}
+use Rattle.tenant.specs.Kept.{TenantState, Member, firm_of, firm_texts, released_member, unfirm, up_refusal}
+use Rattle.tenant.specs.Kept.{with_firm_out}
 use Rattle.tenant.specs.Represents.{IsCompact, IsMember, Leaves, StandsFor}
 use Rattle.tenant.proofs.Follow.{is_up, keeps, leaves, not_up, with_one_out}
 
-module _ {S : Type 0} (M : Meaning S) (name : List ℕ) (live : ℕ → List ℕ) (t : TenantState S) (w : World) (log : List Record) (s : StandsFor M name live t w log) (u : ℕ) where
+module _ {S : Type 0} (M : Meaning S) (name : List ℕ) (live : ℕ → List ℕ)
+    (t : TenantState S) (w : World) (log : List Record) (s : StandsFor M name live t w log) (u : ℕ) where
   abbrev k : Compact S
   k = s.0
 
   reach : (z : World) → (release M w u).world ≡ Some z → Reachable M z
   reach z f = stepped (record { step = Release u; said = record { appended = 0; end = Whole } }) s.2.reached f
 
-  pub release_refused : (r : Refusal) → up_refusal (slice_get t.members u) ≡ Some r → Leaves M name live (release M w u) (Refused r) t log
-  release_refused r e = leaves M name live log (release M w u) reach _ (record { reply = Refused r; state = k }) (releases_follow M name k w log s.2 u) (not_up t live k s.1 u (release_of k u) r e) t s.1
+  pub release_refused : (r : Refusal)
+      → up_refusal (slice_get t.members u) ≡ Some r → Leaves M name live (release M w u) (Refused r) t log
+  release_refused r e = leaves M name live log (release M w u) reach _ (record { reply = Refused r; state = k })
+      (releases_follow M name k w log s.2 u) (not_up t live k s.1 u (release_of k u) r e) t s.1
 
   module _ (m : Member S) (found : slice_get t.members u ≡ Some m) (up : is_some m.recovering.progress ≡ true) where
     abbrev after : ℕ → List (List ℕ) → TenantState S
-    after frontier texts = record t { members = with_firm_out t.members u m frontier; released = firm_of t.released u m frontier texts }
+    after frontier texts =
+        record t { members = with_firm_out t.members u m frontier; released = firm_of t.released u m frontier texts }
 
     pub release_done : (v : TenantState S) (texts : List (List ℕ))
-        → ((frontier : ℕ) (had : List (List ℕ)) → m.unit ≡ u → slice_get t.frontiers u ≡ Some frontier → slice_get t.released u ≡ Some had → v ≡ after frontier had)
+        → ((frontier : ℕ) (had : List (List ℕ)) → m.unit ≡ u
+        → slice_get t.frontiers u ≡ Some frontier → slice_get t.released u ≡ Some had → v ≡ after frontier had)
         → ((frontier : ℕ) → slice_get t.frontiers u ≡ Some frontier → texts ≡ firm_texts m.outputs frontier)
         → Leaves M name live (release M w u) (Released texts) v log
     release_done v texts is are =
@@ -50,10 +56,21 @@ module _ {S : Type 0} (M : Meaning S) (name : List ℕ) (live : ℕ → List ℕ
         let all : List (List ℕ) = had ++ firm_texts m.outputs f in
         let put : slice_get (firm_of t.released u m f had) u ≡ Some all = set_get_same t.released u all had out.3 in
         let given : Done S = record { reply = Released texts; state = (release_of k u x.unit).state } in
-        let reply : map (λ (h : Held). h.text) (held_below x.unit.hold f) ≡ texts = ap (λ os. firm_texts os f) i.outputs ∙ sym (are f i.frontier) in
+        let reply : map (λ (h : Held). h.text) (held_below x.unit.hold f) ≡ texts =
+        ap (λ os. firm_texts os f) i.outputs ∙ sym (are f i.frontier) in
         let one : IsMember (after f had) live u (released_member m f) (released_unit x.unit) = record {
           kept = i.kept;
-          seen = record { seat = i.seen.seat; up = i.seen.up; now = i.seen.now; stable = i.seen.stable; outside = i.seen.outside; base = i.seen.base; shelf = i.seen.shelf; intervals = i.seen.intervals; volatile = i.seen.volatile };
+          seen = record {
+            seat = i.seen.seat;
+            up = i.seen.up;
+            now = i.seen.now;
+            stable = i.seen.stable;
+            outside = i.seen.outside;
+            base = i.seen.base;
+            shelf = i.seen.shelf;
+            intervals = i.seen.intervals;
+            volatile = i.seen.volatile;
+          };
           own = i.own;
           outputs = ap (λ os. unfirm os f) i.outputs;
           known = i.known;
@@ -69,5 +86,7 @@ module _ {S : Type 0} (M : Meaning S) (name : List ℕ) (live : ℕ → List ℕ
           places = i.places;
         } in
         leaves M name live log (release M w u) reach _ given (releases_follow M name k w log s.2 u)
-        (is_up t live k s.1 u (release_of k u) m x up ∙ (λ j. record { reply = Released (reply j); state = (release_of k u x.unit).state }))
-        v (subst (λ (q : TenantState S). IsCompact q live (release_of k u x.unit).state) (sym same) (with_one_out t live k s.1 u (released_member m f) (released_unit x.unit) all one))
+        (is_up t live k s.1 u (release_of k u) m x up
+        ∙ (λ j. record { reply = Released (reply j); state = (release_of k u x.unit).state }))
+        v (subst (λ (q : TenantState S). IsCompact q live (release_of k u x.unit).state)
+        (sym same) (with_one_out t live k s.1 u (released_member m f) (released_unit x.unit) all one))

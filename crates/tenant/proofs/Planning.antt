@@ -19,8 +19,10 @@ use Rattle.tenant.specs.Plans.{IsPlan, IsPlanned}
 use Rattle.tenant.proofs.Asking.{asked_up}
 use Rattle.tenant.proofs.Keeping.{letters_whole}
 
-module _ {S : Type 0} (name : List ℕ) (t : TenantState S) (u : ℕ) (m : Member S) (q : Receipt) (turn : Turn S) (plan : Plan) (planned : IsPlanned name t u m q turn (Ok plan))
-    (refusal : Option Refusal) (source : Source) (text : List ℕ) (input : Input S) (is : IsAsking refusal m.recovering source text input) where
+module _ {S : Type 0} (name : List ℕ) (t : TenantState S)
+    (u : ℕ) (m : Member S) (q : Receipt) (turn : Turn S) (plan : Plan) (planned : IsPlanned name t u m q turn (Ok plan))
+    (refusal : Option Refusal)
+    (source : Source) (text : List ℕ) (input : Input S) (is : IsAsking refusal m.recovering source text input) where
   up : (p : Progress S) × (m.recovering.progress ≡ Some p)
   up = let a = asked_up m.recovering source text input is.asked in (a.0, a.1)
 
@@ -34,15 +36,18 @@ module _ {S : Type 0} (name : List ℕ) (t : TenantState S) (u : ℕ) (m : Membe
   planned_plain = plan_is.plain
 
   -- the record is of the unit's next interval
-  pub planned_next : q.source ≡ source → q.text ≡ text → slice_get t.members u ≡ Some m → (n : Member S) → slice_get t.members u ≡ Some n → IsNext n plan.logged input
+  pub planned_next : q.source ≡ source → q.text ≡ text
+      → slice_get t.members u ≡ Some m → (n : Member S) → slice_get t.members u ≡ Some n → IsNext n plan.logged input
   planned_next from said at n there =
       let same : m ≡ n = same_Some m n (sym at ∙ there) in
       rw (← same) (record {
         room = is.room;
         mark = ap (λ (r : Record). r.mark.index) plan_is.logged;
-        asked = (λ i. asking m.recovering ((ap (λ (r : Record). r.source) plan_is.logged ∙ from) i) ((ap (λ (r : Record). r.text) plan_is.logged ∙ said) i)) ∙ is.asked;
+        asked = (λ i. asking m.recovering ((ap (λ (r : Record). r.source) plan_is.logged ∙ from) i)
+            ((ap (λ (r : Record). r.text) plan_is.logged ∙ said) i)) ∙ is.asked;
       })
 
   -- each letter has its content
   pub planned_whole : (i : ℕ) (c : Letter) → slice_get plan.made.items i ≡ Some c → is_none c.content ≡ false
-  planned_whole i c e = letters_whole u (next_vector_of t u m q) (advanced up.0.sessions q.source) (sends_within (length t.members) turn) i c (ap (λ ls. slice_get ls i) (sym plan_is.made) ∙ e)
+  planned_whole i c e = letters_whole u (next_vector_of t u m q) (advanced up.0.sessions q.source)
+      (sends_within (length t.members) turn) i c (ap (λ ls. slice_get ls i) (sym plan_is.made) ∙ e)

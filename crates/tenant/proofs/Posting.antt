@@ -18,13 +18,15 @@ use Rattle.model.specs.Alone.Reachable.{stepped}
 use Rattle.model.proofs.Places.{at_unit_found}
 use Rattle.handler.specs.Inputs.{Input, turn_upon_input}
 use Rattle.compact.specs.Compact.{Compact, Progress}
-use Rattle.compact.specs.Steps.{Done, Receipt, accepted_of, at_unit_of, or_next, or_refused, post_front, post_of, post_refusal, posted, receiving_state}
+use Rattle.compact.specs.Steps.{Done, Receipt, accepted_of, at_unit_of, or_next, or_refused, post_front, post_of}
+use Rattle.compact.specs.Steps.{post_refusal, posted, receiving_state}
 use Rattle.compact.proofs.Receipts.{posts_follow}
 use Rattle.compact.proofs.Tests.{posts_are_tested}
 use Rattle.rollback.specs.Units.{asking}
 use Rattle.unit_steps.specs.Receipts.{arrival_refusal, post_refused}
 use Rattle.unit_steps.proofs.Seen.{posts_are_refused}
-use Rattle.tenant.specs.Kept.{IsAsking, TenantState, Member, next_letters_of, next_record_of, next_reply_of, received_kept, turn_refusal_of}
+use Rattle.tenant.specs.Kept.{IsAsking, TenantState, Member, next_letters_of, next_record_of, next_reply_of}
+use Rattle.tenant.specs.Kept.{received_kept, turn_refusal_of}
 use Rattle.tenant.specs.Needs.{IsAsked, input_unless, post_needs, post_to_needs}
 use Rattle.tenant.specs.declared.receipts.Plan.{Plan}
 use Rattle.tenant.specs.Plans.{IsPlanned}
@@ -33,7 +35,8 @@ use Rattle.tenant.proofs.Asking.{Shown, asked_up, input_is, none_shown, refused_
 use Rattle.tenant.proofs.Follow.{KeepsUnit, keeps, leaves}
 use Rattle.tenant.proofs.Receiving.{received_is, reply_is, turn_refusal_is}
 
-module _ {S : Type 0} (M : Meaning S) (name : List ℕ) (live : ℕ → List ℕ) (t : TenantState S) (w : World) (log : List Record) (s : StandsFor M name live t w log) (u number : ℕ) (text : List ℕ) where
+module _ {S : Type 0} (M : Meaning S) (name : List ℕ) (live : ℕ → List ℕ) (t : TenantState S)
+    (w : World) (log : List Record) (s : StandsFor M name live t w log) (u number : ℕ) (text : List ℕ) where
   abbrev k : Compact S
   k = s.0
 
@@ -42,7 +45,8 @@ module _ {S : Type 0} (M : Meaning S) (name : List ℕ) (live : ℕ → List ℕ
 
   -- ---- before the turn
 
-  pub post_none : slice_get t.members u ≡ None → IsAsked (post_needs M w u number text) (post M w u number text) w (Err NoUnit)
+  pub post_none : slice_get t.members u ≡ None
+      → IsAsked (post_needs M w u number text) (post M w u number text) w (Err NoUnit)
   unfolding post_needs
   post_none e =
       let none = none_shown M name live t w log s u e in
@@ -56,45 +60,63 @@ module _ {S : Type 0} (M : Meaning S) (name : List ℕ) (live : ℕ → List ℕ
     f = shown M name live t w log s u m x
 
     refusal_of : post_refusal k x.unit number text ≡ post_refused t.quota.volatile m.recovering number text
-    refusal_of = posts_are_refused M m.recovering x.unit x.is.kept x.is.seen k number text ∙ ap (λ q. post_refused q.volatile m.recovering number text) s.1.quota
+    refusal_of = posts_are_refused M m.recovering x.unit x.is.kept x.is.seen k number text
+        ∙ ap (λ q. post_refused q.volatile m.recovering number text) s.1.quota
 
     before : first_refusal (post_front w f.member number text) ≡ post_refused t.quota.volatile m.recovering number text
     before = sym (posts_are_tested M name k w log s.2 u f.member x.unit f.at x.at number text) ∙ refusal_of
 
-    pub post_refused_first : (r : Refusal) → post_refused t.quota.volatile m.recovering number text ≡ Some r → IsAsked (post_needs M w u number text) (post M w u number text) w (Err r)
+    pub post_refused_first : (r : Refusal) → post_refused t.quota.volatile m.recovering number text ≡ Some r
+        → IsAsked (post_needs M w u number text) (post M w u number text) w (Err r)
     unfolding post_needs
     post_refused_first r e =
         let first : first_refusal (post_front w f.member number text) ≡ Some r = before ∙ e in (
           ap (post_to_needs M w number text) f.at ∙ ap (input_unless _) first,
           at_unit_found w u (post_to M w u number text) f.member f.at
-              ∙ refused_first w (accepted M w u f.member (outside number text)) (post_front w f.member number text) (turn_tests M w f.member (turn_upon_receipt M w u f.member (outside number text))) r first,
+              ∙ refused_first w (accepted M w u f.member (outside number text)) (post_front w f.member number text)
+              (turn_tests M w f.member (turn_upon_receipt M w u f.member (outside number text))) r first,
         )
 
-    asked_by : post_refused t.quota.volatile m.recovering number text ≡ None → (input : Input S) → asking m.recovering Outside text ≡ Some input → post_needs M w u number text ≡ Some input
+    asked_by : post_refused t.quota.volatile m.recovering number text ≡ None
+        → (input : Input S) → asking m.recovering Outside text ≡ Some input → post_needs M w u number text ≡ Some input
     unfolding post_needs
-    asked_by passes input asked = ap (post_to_needs M w number text) f.at ∙ (λ i. input_unless (input_is M name live t w log s u m x f Outside text input asked i) ((before ∙ passes) i))
+    asked_by passes input asked = ap (post_to_needs M w number text) f.at
+        ∙ (λ i. input_unless (input_is M name live t w log s u m x f Outside text input asked i) ((before ∙ passes) i))
 
-    pub post_asked : post_refused t.quota.volatile m.recovering number text ≡ None → (r : Result (Input S) Refusal) → IfOk r (λ input. asking m.recovering Outside text ≡ Some input) → IfErr r (λ refusal. (refusal ≡ Down) × (m.recovering.progress ≡ None))
+    pub post_asked : post_refused t.quota.volatile m.recovering number text ≡ None
+        → (r : Result (Input S) Refusal) → IfOk r (λ input. asking m.recovering Outside text ≡ Some input)
+        → IfErr r (λ refusal. (refusal ≡ Down) × (m.recovering.progress ≡ None))
         → IsAsked (post_needs M w u number text) (post M w u number text) w r
     post_asked passes (Ok input) a b = asked_by passes input a
     post_asked passes (Err refusal) a b =
-        let down : post_refused t.quota.volatile m.recovering number text ≡ Some Down = ap (arrival_refusal t.quota.volatile m.recovering Outside number text) b.1 in
+        let down : post_refused t.quota.volatile m.recovering number text ≡ Some Down =
+        ap (arrival_refusal t.quota.volatile m.recovering Outside number text) b.1 in
         absurd (cc (sym passes ∙ down))
 
     -- ---- upon the turn
 
-    module _ (input : Input S) (is : IsAsking (post_refused t.quota.volatile m.recovering number text) m.recovering Outside text input) where
-      turned : (o : Option Refusal) → turn_refusal_of t m (turn_upon_input M input) ≡ o → at_unit_of k (post_of M name k u number text) (slice_get k.units u) ≡ or_refused k (accepted_of M name k u (posted number text) x.unit) o
+    module _ (input : Input S)
+        (is : IsAsking (post_refused t.quota.volatile m.recovering number text) m.recovering Outside text input) where
+      turned : (o : Option Refusal) → turn_refusal_of t m (turn_upon_input M input) ≡ o → at_unit_of k (post_of M name
+          k u number text) (slice_get k.units u) ≡ or_refused k (accepted_of M name k u (posted number text) x.unit) o
       turned o e =
           let after = turn_refusal_is M name live t w log s u m x (posted number text) input is.asked ∙ e in
           ap (at_unit_of k (post_of M name k u number text)) x.at
-          ∙ (λ i. or_refused k (accepted_of M name k u (posted number text) x.unit) (or_next ((refusal_of ∙ is.passes) i) (after i)))
+          ∙ (λ i. or_refused k
+          (accepted_of M name k u (posted number text) x.unit) (or_next ((refusal_of ∙ is.passes) i) (after i)))
 
-      pub post_refused_then : (r : Refusal) → turn_refusal_of t m (turn_upon_input M input) ≡ Some r → Leaves M name live (post M w u number text) (Refused r) t log
-      post_refused_then r e = leaves M name live log (post M w u number text) reach _ (record { reply = Refused r; state = k }) (posts_follow M name k w log s.2 u number text) (turned (Some r) e) t s.1
+      pub post_refused_then : (r : Refusal) → turn_refusal_of t m (turn_upon_input M input) ≡ Some r
+          → Leaves M name live (post M w u number text) (Refused r) t log
+      post_refused_then r e = leaves M name live log (post M w u number text) reach _ (record {
+        reply = Refused r;
+        state = k;
+      }) (posts_follow M name k w log s.2 u number text) (turned (Some r) e) t s.1
 
-      pub post_done : turn_refusal_of t m (turn_upon_input M input) ≡ None → (p : Progress S) → m.recovering.progress ≡ Some p → (reply : Reply) → reply ≡ next_reply_of t u m (turn_upon_input M input)
-          → (v : TenantState S) → v ≡ received_kept M t u m (next_record_of name t u m (posted number text)) (turn_upon_input M input).outputs (next_letters_of t u m (posted number text) (turn_upon_input M input) p.sessions)
+      pub post_done : turn_refusal_of t m (turn_upon_input M input) ≡ None → (p : Progress S)
+          → m.recovering.progress ≡ Some p → (reply : Reply) → reply ≡ next_reply_of t u m (turn_upon_input M input)
+          → (v : TenantState S)
+          → v ≡ received_kept M t u m (next_record_of name t u m (posted number text)) (turn_upon_input M input).outputs
+          (next_letters_of t u m (posted number text) (turn_upon_input M input) p.sessions)
           → Leaves M name live (post M w u number text) reply v log
       post_done none p up reply answer v new =
           let q = posted number text in
@@ -102,14 +124,20 @@ module _ {S : Type 0} (M : Meaning S) (name : List ℕ) (live : ℕ → List ℕ
           let kept = received_is M name live t w log s u m x q input is.asked p up is.room in
           let given : Done S = record { reply = reply; state = receiving_state M name k u q x.unit } in
           leaves M name live log (post M w u number text) reach _ given (posts_follow M name k w log s.2 u number text)
-          (turned None none ∙ (λ i. record { reply = (told ∙ sym answer) i; state = receiving_state M name k u q x.unit }))
+          (turned None none
+          ∙ (λ i. record { reply = (told ∙ sym answer) i; state = receiving_state M name k u q x.unit }))
           v (subst (λ (v : TenantState S). IsCompact v live (receiving_state M name k u q x.unit)) (sym new) kept)
 
       -- so it is of what was planned
-      pub post_planned : (turn : Turn S) → turn ≡ turn_upon_input M input → (q : Receipt) → q ≡ posted number text → (plan : Plan) → IsPlanned name t u m q turn (Ok plan) → (reply : Reply) → reply ≡ plan.answer.reply
-          → (v : TenantState S) → v ≡ received_kept M t u m plan.logged (turn_upon_input M input).outputs plan.made.items → Leaves M name live (post M w u number text) reply v log
+      pub post_planned : (turn : Turn S) → turn ≡ turn_upon_input M input → (q : Receipt) → q ≡ posted number text
+          → (plan : Plan) → IsPlanned name t u m q turn (Ok plan) → (reply : Reply) → reply ≡ plan.answer.reply
+          → (v : TenantState S)
+          → v ≡ received_kept M t u m plan.logged (turn_upon_input M input).outputs plan.made.items
+          → Leaves M name live (post M w u number text) reply v log
       post_planned turn e q same plan planned reply told v new =
           let p = asked_up m.recovering Outside text input is.asked in
           let made = planned.1 p.0 p.1 in
-          post_done (ap (turn_refusal_of t m) (sym e) ∙ planned.0) p.0 p.1 reply (told ∙ made.reply ∙ ap (next_reply_of t u m) e) v
-          (new ∙ (λ i. received_kept M t u m ((made.logged ∙ ap (next_record_of name t u m) same) i) (turn_upon_input M input).outputs ((made.made ∙ (λ j. next_letters_of t u m (same j) (e j) p.0.sessions)) i)))
+          post_done (ap (turn_refusal_of t m) (sym e)
+          ∙ planned.0) p.0 p.1 reply (told ∙ made.reply ∙ ap (next_reply_of t u m) e) v
+          (new ∙ (λ i. received_kept M t u m ((made.logged ∙ ap (next_record_of name t u m) same) i) (turn_upon_input
+          M input).outputs ((made.made ∙ (λ j. next_letters_of t u m (same j) (e j) p.0.sessions)) i)))

@@ -3,7 +3,8 @@ use Rattle.std.specs.Prelude.{All}
 use Rattle.std.proofs.lemmas.List.{nil_from_length}
 use Rattle.std.proofs.lemmas.List.Elements.{All-get_or}
 use Rattle.std.proofs.lemmas.Option.{get_or_from_slice_get}
-use Rattle.std.proofs.Common.{◌≡◌, refl, subst, sym, ◌∙◌, ap, ℕ, ◌+◌, ◌<◌, List, [], ◌∷◌, ◌++◌, length, take, drop, map, get_or, add-one, append_assoc, arith}
+use Rattle.std.proofs.Common.{◌≡◌, refl, subst, sym, ◌∙◌, ap, ℕ, ◌+◌, ◌<◌, List, [], ◌∷◌, ◌++◌, length, take, drop, map}
+use Rattle.std.proofs.Common.{get_or, add-one, append_assoc, arith}
 use Rattle.std.specs.Prelude.{Some, option_map, slice_get}
 use Rattle.std.proofs.Math.Seq.{drop-cons}
 use Rattle.std.proofs.lemmas.Option.{slice_get_past, slice_get_within}
@@ -28,8 +29,10 @@ units_opened [] = refl
 units_opened (m ∷ members) = refl
 
 -- one seat more of the front
-pub more_seats : {S : Type 0} (members : List (Member S)) (i : ℕ) (m : Member S) (before after : List Seat) (seat : Seat) → i < length members → m ≡ get_or members i m → before ++ seats_of (drop i members) ≡ seats_of members
-    → seat ≡ m.recovering.seat → after ≡ before ++ seat ∷ [] → after ++ seats_of (drop (i + 1) members) ≡ seats_of members
+pub more_seats : {S : Type 0} (members : List (Member S)) (i : ℕ) (m : Member S) (before after : List Seat)
+    (seat : Seat) → i < length members → m ≡ get_or members i m → before ++ seats_of (drop i members) ≡ seats_of members
+    → seat ≡ m.recovering.seat
+    → after ≡ before ++ seat ∷ [] → after ++ seats_of (drop (i + 1) members) ≡ seats_of members
 more_seats {S} members i m before after seat within at so_far is made =
     let rest : List Seat = seats_of (drop (i + 1) members) in
     let here : seat ≡ (get_or members i m).recovering.seat = is ∙ ap (λ (n : Member S). n.recovering.seat) at in
@@ -42,9 +45,11 @@ more_seats {S} members i m before after seat within at so_far is made =
 
 -- what holds of each element holds of this one
 All-at : {X : Type 0} (P : X → Type 0) (xs : List X) (u : ℕ) (x : X) → All P xs → slice_get xs u ≡ Some x → P x
-All-at P xs u x all at = subst P (get_or_from_slice_get xs u x x at) (All-get_or P xs u x (slice_get_within xs u x at) all)
+All-at P xs u x all at =
+    subst P (get_or_from_slice_get xs u x x at) (All-get_or P xs u x (slice_get_within xs u x at) all)
 
-module _ {S : Type 0} (M : Meaning S) (name : List ℕ) (live : ℕ → List ℕ) (t : TenantState S) (w : World) (log : List Record) (s : StandsFor M name live t w log) where
+module _ {S : Type 0} (M : Meaning S) (name : List ℕ)
+    (live : ℕ → List ℕ) (t : TenantState S) (w : World) (log : List Record) (s : StandsFor M name live t w log) where
   -- the unit of the tenant, and that of the compact state, which stand for a member of the world
   pub record StandsAt (u : ℕ) (m : InWorld) : Type 0 where
     pub member : Member S
@@ -61,7 +66,13 @@ module _ {S : Type 0} (M : Meaning S) (name : List ℕ) (live : ℕ → List ℕ
       let width = s.1.width in
       let x = get_below s.0.units u (omega (arith, within, units)) in
       let n = get_below t.members u (omega (arith, within, units, width)) in
-      record { member = n.0; unit = x.0; found = n.1; kept = s.1.members u n.0 x.0 n.1 x.1; stands = represents.units u m x.0 at x.1 }
+      record {
+        member = n.0;
+        unit = x.0;
+        found = n.1;
+        kept = s.1.members u n.0 x.0 n.1 x.1;
+        stands = represents.units u m x.0 at x.1;
+      }
 
   pub table_same : t.table ≡ w.table
   table_same = sym s.1.table ∙ s.2.represents.table
@@ -73,20 +84,26 @@ module _ {S : Type 0} (M : Meaning S) (name : List ℕ) (live : ℕ → List ℕ
         let m = get_below w.members u q in
         let x = stands_at u m.0 m.1 in
         let out = x.kept.released in
-        out.3 ∙ ap (λ (r : List (List ℕ)). Some r) (ap (λ (r : List (List ℕ)). r ++ out.1) (sym (nil_from_length out.0 (All-at (λ n. n ≡ 0) t.gone u (length out.0) none out.2))) ∙ sym out.4 ∙ x.stands.released) ∙ ap (option_map (λ (m : InWorld). m.released)) (sym m.1)
+        out.3 ∙ ap (λ (r : List (List ℕ)). Some r) (ap (λ (r : List (List ℕ)). r ++ out.1)
+        (sym (nil_from_length out.0 (All-at (λ n. n ≡ 0) t.gone u (length out.0) none out.2)))
+        ∙ sym out.4 ∙ x.stands.released) ∙ ap (option_map (λ (m : InWorld). m.released)) (sym m.1)
     | no q ↦
         let units = s.2.represents.width in
         let lines = s.1.lines in
-        slice_get_past t.released u (omega (arith, q, units, lines)) ∙ ap (option_map (λ (m : InWorld). m.released)) (sym (slice_get_past w.members u (omega (arith, q))))
+        slice_get_past t.released u (omega (arith, q, units, lines))
+        ∙ ap (option_map (λ (m : InWorld). m.released)) (sym (slice_get_past w.members u (omega (arith, q))))
   ]
 
   seats_same : seats_of t.members ≡ map (λ m. m.seat) w.members
-  seats_same = maps_same (λ (n : Member S). n.recovering.seat) (λ (m : InWorld). m.seat) t.members w.members (s.1.width ∙ s.2.represents.width) (λ u n m a b.
-      let x = get_below s.0.units u (let within = slice_get_within t.members u n a in let width = s.1.width in omega (arith, within, width)) in
+  seats_same = maps_same (λ (n : Member S). n.recovering.seat)
+      (λ (m : InWorld). m.seat) t.members w.members (s.1.width ∙ s.2.represents.width) (λ u n m a b.
+      let x = get_below s.0.units u (let within = slice_get_within t.members u n a in
+      let width = s.1.width in omega (arith, within, width)) in
       sym (s.1.members u n x.0 a x.1).seen.seat ∙ (s.2.represents.units u m x.0 b x.1).seat)
 
   pub opening_same : opening_of (seats_of t.members) ≡ opening_seats w
-  opening_same = ap opening_of seats_same ∙ ap (λ n. take n (map (λ (m : InWorld). m.seat) w.members)) (sym (units_opened w.members))
+  opening_same = ap opening_of seats_same
+      ∙ ap (λ n. take n (map (λ (m : InWorld). m.seat) w.members)) (sym (units_opened w.members))
 
   -- whom the letter is to
   pub receiver_same : (l : ℕ) → option_map (λ (c : Letter). c.receiver) (slice_get t.letters l) ≡ receiver_in M w l
@@ -98,8 +115,10 @@ module _ {S : Type 0} (M : Meaning S) (name : List ℕ) (live : ℕ → List ℕ
             let c = get_below t.letters l q in
             let received = get_below (executed M w).letters l (omega (arith, q, sent)) in
             let is = represents.letters l received.0 c.0 received.1 (ap (λ ls. slice_get ls l) s.1.letters ∙ c.1) in
-            ap (option_map (λ (c : Letter). c.receiver)) c.1 ∙ ap Some is.receiver ∙ sym (ap (option_map (λ (m : Message). m.receiver)) received.1)
+            ap (option_map (λ (c : Letter). c.receiver)) c.1
+            ∙ ap Some is.receiver ∙ sym (ap (option_map (λ (m : Message). m.receiver)) received.1)
         | no q ↦
             ap (option_map (λ (c : Letter). c.receiver)) (slice_get_past t.letters l (omega (arith, q)))
-            ∙ sym (ap (option_map (λ (m : Message). m.receiver)) (slice_get_past (executed M w).letters l (omega (arith, q, sent))))
+            ∙ sym (ap (option_map
+            (λ (m : Message). m.receiver)) (slice_get_past (executed M w).letters l (omega (arith, q, sent))))
       ]

@@ -13,7 +13,8 @@ use Rattle.handler.specs.Inputs.{Input, turn_upon_input}
 use Rattle.session.specs.Counts.{advanced}
 use Rattle.output_commit.specs.Holds.{held_of}
 use Rattle.compact.specs.Compact.{Compact, Letter, Progress}
-use Rattle.compact.specs.Steps.{Receipt, accepted_of, letters_by, new_letters, next_mark, next_record, next_vector, receiving_state, receiving_unit, tests_of_turn, turn_of_receipt, with_unit_at}
+use Rattle.compact.specs.Steps.{Receipt, accepted_of, letters_by, new_letters, next_mark, next_record, next_vector}
+use Rattle.compact.specs.Steps.{receiving_state, receiving_unit, tests_of_turn, turn_of_receipt, with_unit_at}
 use Rattle.rollback.specs.Units.{IsKept, asking, places, took}
 use Rattle.rollback.proofs.Keeping.{kept_took}
 use Rattle.rollback_laws.specs.Seen.{IsSeen}
@@ -21,14 +22,17 @@ use Rattle.rollback_laws.proofs.Receipts.{receipts_are_seen, turns_are_seen}
 use Rattle.unit_steps.specs.Laws.{AreMade}
 use Rattle.unit_steps.specs.Receipts.{mark_upon, turn_refused, vector_upon}
 use Rattle.unit_steps.proofs.Seen.{vectors_are_made}
-use Rattle.tenant.specs.Kept.{TenantState, Member, next_letters_of, next_mark_of, next_record_of, next_reply_of, next_vector_of, received_kept, received_member, turn_refusal_of}
+use Rattle.tenant.specs.Kept.{TenantState, Member, next_letters_of, next_mark_of, next_record_of, next_reply_of}
+use Rattle.tenant.specs.Kept.{next_vector_of, received_kept, received_member, turn_refusal_of}
 use Rattle.tenant.specs.Represents.{IsCompact, IsMember, StandsFor}
 use Rattle.tenant.proofs.Follow.{KeepsUnit, with_one}
 
 -- ---- more letters
 
 -- the same letters on both sides
-pub with_letters : {S : Type 0} (t : TenantState S) (live : ℕ → List ℕ) (k : Compact S) → IsCompact t live k → (letters others : List Letter) → others ≡ letters → IsCompact (record t { letters = letters }) live (record k { letters = others })
+pub with_letters : {S : Type 0} (t : TenantState S) (live : ℕ → List ℕ) (k : Compact S)
+    → IsCompact t live k → (letters others : List Letter)
+    → others ≡ letters → IsCompact (record t { letters = letters }) live (record k { letters = others })
 with_letters t live k is letters others same = record {
   quota = is.quota;
   optimism = is.optimism;
@@ -38,12 +42,25 @@ with_letters t live k is letters others same = record {
   fronts = is.fronts;
   counts = is.counts;
   lines = is.lines;
-  members = λ u m x e f. let i = is.members u m x e f in record { kept = i.kept; seen = i.seen; own = i.own; outputs = i.outputs; known = i.known; stable = i.stable; frontier = i.frontier; released = i.released; places = i.places };
+  members = λ u m x e f. let i = is.members u m x e f in
+      record {
+        kept = i.kept;
+        seen = i.seen;
+        own = i.own;
+        outputs = i.outputs;
+        known = i.known;
+        stable = i.stable;
+        frontier = i.frontier;
+        released = i.released;
+        places = i.places;
+      };
   letters = same;
 }
 
-module _ {S : Type 0} (M : Meaning S) (name : List ℕ) (live : ℕ → List ℕ) (t : TenantState S) (w : World) (log : List Record) (s : StandsFor M name live t w log) (u : ℕ)
-    (m : Member S) (x : KeepsUnit t live s.0 u m) (q : Receipt) (input : Input S) (asked : asking m.recovering q.source q.text ≡ Some input) where
+module _ {S : Type 0} (M : Meaning S) (name : List ℕ)
+    (live : ℕ → List ℕ) (t : TenantState S) (w : World) (log : List Record) (s : StandsFor M name live t w log) (u : ℕ)
+    (m : Member S) (x : KeepsUnit t live s.0 u m)
+    (q : Receipt) (input : Input S) (asked : asking m.recovering q.source q.text ≡ Some input) where
   abbrev k : Compact S
   k = s.0
 
@@ -63,32 +80,47 @@ module _ {S : Type 0} (M : Meaning S) (name : List ℕ) (live : ℕ → List ℕ
   vector_is = made.vector ∙ (λ i. vector_upon (s.1.table i) (sym s.1.width i) u m.recovering q.vector)
 
   record_is : next_record name k u x.unit q ≡ next_record_of name t u m q
-  record_is = λ i. record { tenant = name; unit = u; mark = mark_is i; source = q.source; letter = q.letter; number = q.number; text = q.text; vector = vector_is i }
+  record_is = λ i. record {
+    tenant = name;
+    unit = u;
+    mark = mark_is i;
+    source = q.source;
+    letter = q.letter;
+    number = q.number;
+    text = q.text;
+    vector = vector_is i;
+  }
 
   sends_are : sends_within (length k.units) (turn_of_receipt M x.unit q) ≡ sends_within (length t.members) turn
   sends_are = λ i. sends_within (sym s.1.width i) (turn_is i)
 
   -- it is refused for what its turn makes as the compact state says
   pub turn_refusal_is : first_refusal (tests_of_turn k x.unit (turn_of_receipt M x.unit q)) ≡ turn_refusal_of t m turn
-  turn_refusal_is = λ i. turn_refused (s.1.quota i) (length (x.is.outputs i)) (length (s.1.letters i)) (sym s.1.width i) (turn_is i)
+  turn_refusal_is =
+      λ i. turn_refused (s.1.quota i) (length (x.is.outputs i)) (length (s.1.letters i)) (sym s.1.width i) (turn_is i)
 
   -- and answered as it says
   pub reply_is : (accepted_of M name k u q x.unit).reply ≡ next_reply_of t u m turn
-  reply_is = λ i. Accepted (mark_is i) (length (x.is.outputs i) + length (turn_is i).outputs) (numbers_from (length (s.1.letters i)) (length (sends_are i)))
+  reply_is = λ i. Accepted (mark_is i) (length (x.is.outputs i) + length (turn_is i).outputs)
+      (numbers_from (length (s.1.letters i)) (length (sends_are i)))
 
   module _ (p : Progress S) (up : m.recovering.progress ≡ Some p) (room : places m.recovering < 2 ^ 32) where
     letters_are : k.letters ++ new_letters M k u q x.unit ≡ t.letters ++ next_letters_of t u m q turn p.sessions
-    letters_are = λ i. s.1.letters i ++ letters_by u (vector_is i) (advanced (x.is.seen.now p up i).sessions q.source) (sends_are i)
+    letters_are = λ i. s.1.letters i
+        ++ letters_by u (vector_is i) (advanced (x.is.seen.now p up i).sessions q.source) (sends_are i)
 
     abbrev one : Member S
     one = received_member M m (next_record_of name t u m q) turn.outputs
 
     one_kept : IsKept one.recovering
-    one_kept = kept_took m.recovering one.recovering.progress one.recovering.outside one.recovering.intervals one.recovering.volatile
-        (record { vector = next_vector_of t u m q; letter = q.letter }) (next_record_of name t u m q) x.is.kept room refl refl refl refl
+    one_kept = kept_took m.recovering
+        one.recovering.progress one.recovering.outside one.recovering.intervals one.recovering.volatile
+        (record { vector = next_vector_of t u m q; letter = q.letter })
+        (next_record_of name t u m q) x.is.kept room refl refl refl refl
 
     one_seen : IsSeen one.recovering (receiving_unit M name k u q x.unit)
-    one_seen = subst (λ (r : Record). IsSeen (took M m.recovering r) (receiving_unit M name k u q x.unit)) record_is (receipts_are_seen M m.recovering x.unit x.is.kept x.is.seen name k u q)
+    one_seen = subst (λ (r : Record). IsSeen (took M m.recovering r) (receiving_unit M name k u q x.unit))
+        record_is (receipts_are_seen M m.recovering x.unit x.is.kept x.is.seen name k u q)
 
     one_is : IsMember t live u one (receiving_unit M name k u q x.unit)
     one_is = record {
@@ -104,6 +136,8 @@ module _ {S : Type 0} (M : Meaning S) (name : List ℕ) (live : ℕ → List ℕ
     }
 
     -- the tenant with one more interval keeps the compact state with one
-    pub received_is : IsCompact (received_kept M t u m (next_record_of name t u m q) turn.outputs (next_letters_of t u m q turn p.sessions)) live (receiving_state M name k u q x.unit)
-    received_is = with_letters (record t { members = slice_set t.members u one }) live (with_unit_at k u (receiving_unit M name k u q x.unit)) (with_one t live k s.1 u one (receiving_unit M name k u q x.unit) one_is)
+    pub received_is : IsCompact (received_kept M t u m (next_record_of name t u m q)
+        turn.outputs (next_letters_of t u m q turn p.sessions)) live (receiving_state M name k u q x.unit)
+    received_is = with_letters (record t { members = slice_set t.members u one }) live (with_unit_at k u (receiving_unit
+        M name k u q x.unit)) (with_one t live k s.1 u one (receiving_unit M name k u q x.unit) one_is)
         (t.letters ++ next_letters_of t u m q turn p.sessions) (k.letters ++ new_letters M k u q x.unit) letters_are

@@ -1,4 +1,7 @@
 -- What holds whatever a call gave.
+use Rattle.std.proofs.Common.{◌≡◌, ◌⊎◌, inl, inr, refl}
+use Rattle.model.specs.declared.replies.End.{End}
+use Rattle.model.specs.declared.replies.End.TheVariants.{Whole, Device, Memory}
 use Rattle.std.specs.Prelude.{IfOk, IfSome, None, OnErr, Option, Result, Err, Ok, Some}
 
 pub whatever : {T E P : Type 0} (r : Result T E) → P → OnErr r P
@@ -13,3 +16,9 @@ if_some P Q (Some x) h e = h x e
 pub if_ok : {T E : Type 0} (P Q : T → Type 0) (r : Result T E) → ((x : T) → P x → Q x) → IfOk r P → IfOk r Q
 if_ok P Q (Ok x) h e = h x e
 if_ok P Q (Err x) h e = tt
+
+-- what holds unless the end is the device's
+pub unless_device : {P : Type 0} (d : End) → ((d ≡ Device → ⊥) → P) → P ⊎ (d ≡ Device)
+unless_device Whole h = inl (h (λ e. absurd (cc e)))
+unless_device Device h = inr refl
+unless_device Memory h = inl (h (λ e. absurd (cc e)))

@@ -1,5 +1,6 @@
 -- The checkpoints of a unit by their indices.
-use Rattle.std.proofs.Common.{◌≡◌, inl, inr, refl, sym, ◌∙◌, ap, ℕ, suc, ◌+◌, ◌-◌, ◌<◌, ◌≤◌, Bool, true, false, cond, not, ◌||◌, min, List, [], ◌∷◌, ◌++◌, length, drop, map, arith}
+use Rattle.std.proofs.Common.{◌≡◌, inl, inr, refl, sym, ◌∙◌, ap, ℕ, suc, ◌+◌, ◌-◌, ◌<◌, ◌≤◌, Bool, true, false, cond}
+use Rattle.std.proofs.Common.{not, ◌||◌, min, List, [], ◌∷◌, ◌++◌, length, drop, map, arith}
 use Rattle.std.specs.Prelude.{Option, Some, None, slice_get, nat_lt, nat_le, option_and_then, option_map, ◌==◌}
 use Rattle.std.specs.List.{filter, fold, list_any, position_or_len, prefix_len, remove, take_while}
 use Rattle.std.specs.Option.{option_map_or}
@@ -36,7 +37,8 @@ has_indices : {P : Type 0} (xs : List (Snapshot P)) (n : ℕ) → list_any (is_a
 has_indices [] n = refl
 has_indices (x ∷ xs) n = ap (λ b. (x.index == n) || b) (has_indices xs n)
 
-map_cond : {P : Type 0} (b : Bool) (xs ys : List (Snapshot P)) → indices (cond b xs ys) ≡ cond b (indices xs) (indices ys)
+map_cond : {P : Type 0} (b : Bool) (xs ys : List (Snapshot P))
+    → indices (cond b xs ys) ≡ cond b (indices xs) (indices ys)
 map_cond true xs ys = refl
 map_cond false xs ys = refl
 
@@ -50,7 +52,8 @@ room_is {P} xs =
     ∙ ap (λ ys. cond (nat_lt (length xs) 64) (indices xs) ys) (without_first xs)
     ∙ ap (λ n. cond (nat_lt n 64) (indices xs) (drop 1 (indices xs))) (sym (length-map xs (index_of {P = P})))
 
-front_is : {P : Type 0} (n : ℕ) (xs : List (Snapshot P)) → indices (take_while (λ x. nat_lt x.index n) xs) ≡ take_while (λ i. nat_lt i n) (indices xs)
+front_is : {P : Type 0} (n : ℕ) (xs : List (Snapshot P))
+    → indices (take_while (λ x. nat_lt x.index n) xs) ≡ take_while (λ i. nat_lt i n) (indices xs)
 front_is n [] = refl
 front_is {P} n (x ∷ xs) =
     ap indices (take_while-cons (λ (y : Snapshot P). nat_lt y.index n) x xs)
@@ -59,26 +62,33 @@ front_is {P} n (x ∷ xs) =
     ∙ sym (take_while-cons (λ i. nat_lt i n) x.index (indices xs))
 
 -- where each is above, none goes
-all_above : {P : Type 0} (n : ℕ) (xs : List (Snapshot P)) → ((i : ℕ) (x : Snapshot P) → slice_get xs i ≡ Some x → n < x.index) → filter (nat_lt n) (indices xs) ≡ indices xs
+all_above : {P : Type 0} (n : ℕ) (xs : List (Snapshot P))
+    → ((i : ℕ) (x : Snapshot P) → slice_get xs i ≡ Some x → n < x.index) → filter (nat_lt n) (indices xs) ≡ indices xs
 all_above n [] h = refl
 all_above n (x ∷ xs) h =
-    ap (λ b. cond b (x.index ∷ filter (nat_lt n) (indices xs)) (filter (nat_lt n) (indices xs))) (true_lt n x.index (h 0 x refl))
+    ap (λ b. cond b (x.index ∷ filter (nat_lt n) (indices xs)) (filter (nat_lt n) (indices xs)))
+    (true_lt n x.index (h 0 x refl))
     ∙ ap (λ is. x.index ∷ is) (all_above n xs (λ i y e. h (suc i) y e))
 
 one : (n : ℕ) → (1 + n) + 1 ≡ suc (n + 1)
 one n = omega arith
 
 -- those behind the one that is found are those above it
-behind_is : {P : Type 0} (n : ℕ) (xs : List (Snapshot P)) → ((i j : ℕ) (x y : Snapshot P) → i < j → slice_get xs i ≡ Some x → slice_get xs j ≡ Some y → x.index < y.index) → list_any (is_at n) xs ≡ true
+behind_is : {P : Type 0} (n : ℕ) (xs : List (Snapshot P)) → ((i j : ℕ) (x y : Snapshot P)
+    → i < j → slice_get xs i ≡ Some x → slice_get xs j ≡ Some y → x.index < y.index) → list_any (is_at n) xs ≡ true
     → indices (drop (position_or_len (is_at n) xs + 1) xs) ≡ filter (nat_lt n) (indices xs)
 behind_is n [] rising e = absurd (cc e)
-behind_is {P} n (z ∷ xs) rising e = go (z.index == n) refl e (λ h. behind_is n xs (λ i j x y lt f g. rising (suc i) (suc j) x y (omega (arith, lt)) f g) h)
+behind_is {P} n (z ∷ xs) rising e = go
+    (z.index == n) refl e (λ h. behind_is n xs (λ i j x y lt f g. rising (suc i) (suc j) x y (omega (arith, lt)) f g) h)
   where
     goes : z.index ≤ n → filter (nat_lt n) (indices (z ∷ xs)) ≡ filter (nat_lt n) (indices xs)
-    goes low = ap (λ b. cond b (z.index ∷ filter (nat_lt n) (indices xs)) (filter (nat_lt n) (indices xs))) (false_lt n z.index low)
+    goes low = ap (λ b. cond b (z.index ∷ filter (nat_lt n) (indices xs)) (filter (nat_lt n) (indices xs)))
+        (false_lt n z.index low)
 
-    go : (b : Bool) → (z.index == n) ≡ b → (b || list_any (is_at n) xs) ≡ true → (list_any (is_at n) xs ≡ true → indices (drop (position_or_len (is_at n) xs + 1) xs) ≡ filter (nat_lt n) (indices xs))
-        → indices (drop (cond (not b) (1 + prefix_len (λ y. not (is_at n y)) xs) 0 + 1) (z ∷ xs)) ≡ filter (nat_lt n) (indices (z ∷ xs))
+    go : (b : Bool) → (z.index == n) ≡ b → (b || list_any (is_at n) xs) ≡ true → (list_any (is_at n) xs ≡ true
+        → indices (drop (position_or_len (is_at n) xs + 1) xs) ≡ filter (nat_lt n) (indices xs))
+        → indices (drop (cond (not b) (1 + prefix_len (λ y. not (is_at n y)) xs) 0 + 1) (z ∷ xs))
+        ≡ filter (nat_lt n) (indices (z ∷ xs))
     go true t h rest =
         let is = eq_true z.index n t in
         sym (all_above n xs (λ i y g. let lt = rising 0 (suc i) z y (omega arith) refl g in omega (arith, lt, is)))
@@ -93,24 +103,30 @@ behind_is {P} n (z ∷ xs) rising e = go (z.index == n) refl e (λ h. behind_is 
 
 -- ---- the last one below
 
-later_is : {P : Type 0} (t f : ℕ) (xs : List (Snapshot P)) → ((i : ℕ) (x : Snapshot P) → slice_get xs i ≡ Some x → nat_le x.index t ≡ nat_lt x.index f) → (b : Snapshot P)
+later_is : {P : Type 0} (t f : ℕ) (xs : List (Snapshot P))
+    → ((i : ℕ) (x : Snapshot P) → slice_get xs i ≡ Some x → nat_le x.index t ≡ nat_lt x.index f) → (b : Snapshot P)
     → option_map index_of (fold (later_of t) (Some b) xs) ≡ Some (fold (later f) b.index (indices xs))
 later_is t f [] h b = refl
 later_is {P} t f (z ∷ xs) h b =
     go (nat_le z.index t) (λ c. later_is t f xs (λ i x e. h (suc i) x e) c)
     ∙ ap (λ q. Some (fold (later f) (cond q z.index b.index) (indices xs))) (h 0 z refl)
   where
-    go : (q : Bool) → ((c : Snapshot P) → option_map index_of (fold (later_of t) (Some c) xs) ≡ Some (fold (later f) c.index (indices xs)))
-        → option_map index_of (fold (later_of t) (cond q (Some z) (Some b)) xs) ≡ Some (fold (later f) (cond q z.index b.index) (indices xs))
+    go : (q : Bool) → ((c : Snapshot P)
+        → option_map index_of (fold (later_of t) (Some c) xs) ≡ Some (fold (later f) c.index (indices xs)))
+        → option_map index_of (fold (later_of t) (cond q (Some z) (Some b)) xs)
+        ≡ Some (fold (later f) (cond q z.index b.index) (indices xs))
     go true rest = rest z
     go false rest = rest b
 
-last_is : {P : Type 0} (t f m : ℕ) (o : Option (Snapshot P)) (xs : List (Snapshot P)) → ((i : ℕ) (x : Snapshot P) → slice_get xs i ≡ Some x → nat_le x.index t ≡ nat_lt x.index f)
-    → m ≤ t → option_map (λ (x : Snapshot P). x.index) o ≡ Some m → option_map index_of (fold (later_of t) (option_and_then (later_of t None) o) xs) ≡ Some (fold (later f) m (indices xs))
+last_is : {P : Type 0} (t f m : ℕ) (o : Option (Snapshot P)) (xs : List (Snapshot P))
+    → ((i : ℕ) (x : Snapshot P) → slice_get xs i ≡ Some x → nat_le x.index t ≡ nat_lt x.index f)
+    → m ≤ t → option_map (λ (x : Snapshot P). x.index) o ≡ Some m → option_map
+    index_of (fold (later_of t) (option_and_then (later_of t None) o) xs) ≡ Some (fold (later f) m (indices xs))
 last_is t f m None xs h low e = absurd (cc e)
 last_is t f m (Some b) xs h low e =
     let is : b.index ≡ m = same_Some b.index m e in
-    ap (λ q. option_map index_of (fold (later_of t) (cond q (Some b) None) xs)) (true_le b.index t (omega (arith, is, low)))
+    ap (λ q. option_map index_of (fold (later_of t) (cond q (Some b) None) xs))
+    (true_le b.index t (omega (arith, is, low)))
     ∙ later_is t f xs h b
     ∙ ap (λ k. Some (fold (later f) k (indices xs))) is
 
@@ -120,13 +136,17 @@ tests_agree i f top low some = elim (bool_cases (nat_lt i f)) [
   | inl h ↦ true_le i (min (f - 1) top) (let a = lt_true i f h in omega (arith, a, low)) ∙ sym h
   | inr h ↦ elim (bool_cases (nat_le i (min (f - 1) top))) [
     | inr g ↦ g ∙ sym h
-    | inl g ↦ absurd (let a = le_true i (min (f - 1) top) g in let b = true_lt i f (omega (arith, a, some)) in cc (b, h))
+    | inl g ↦
+        absurd (let a = le_true i (min (f - 1) top) g in let b = true_lt i f (omega (arith, a, some)) in cc (b, h))
   ]
 ]
 
-above_base : {P : Type 0} (o : Option (Snapshot P)) (others : List (Snapshot P)) (m : ℕ) → option_map (λ (x : Snapshot P). x.index) o ≡ Some m → Rises o others → (i : ℕ) (x : Snapshot P) → slice_get others i ≡ Some x → m < x.index
+above_base : {P : Type 0} (o : Option (Snapshot P)) (others : List (Snapshot P)) (m : ℕ)
+    → option_map (λ (x : Snapshot P). x.index) o ≡ Some m
+    → Rises o others → (i : ℕ) (x : Snapshot P) → slice_get others i ≡ Some x → m < x.index
 above_base None others m e rises i x g = absurd (cc e)
-above_base (Some b) others m e rises i x g = let is : b.index ≡ m = same_Some b.index m e in let h = rises.above b i x refl g in omega (arith, is, h)
+above_base (Some b) others m e rises i x g = let is : b.index ≡ m = same_Some b.index m e in
+    let h = rises.above b i x refl g in omega (arith, is, h)
 
 module _ {S : Type 0} (r : Recovering S) where
   abbrev others : List (Snapshot (Progress S))
@@ -140,16 +160,25 @@ module _ {S : Type 0} (r : Recovering S) where
   has_is : IsKept r → (n : ℕ) → has_index r.shelf n ≡ ((r.base == n) || has (indices others) n)
   has_is k n = at_base r.shelf.base k.base ∙ ap (λ b. (r.base == n) || b) (has_indices others n)
     where
-      at_base : (o : Option (Snapshot (Progress S))) → option_map (λ (x : Snapshot (Progress S)). x.index) o ≡ Some r.base → (option_map_or (is_at n) o false || list_any (is_at n) others) ≡ ((r.base == n) || list_any (is_at n) others)
+      at_base : (o : Option (Snapshot (Progress S)))
+          → option_map (λ (x : Snapshot (Progress S)). x.index) o ≡ Some r.base → (option_map_or (is_at n) o false
+          || list_any (is_at n) others) ≡ ((r.base == n) || list_any (is_at n) others)
       at_base None e = absurd (cc e)
       at_base (Some b) e = ap (λ m. (m == n) || list_any (is_at n) others) (same_Some b.index r.base e)
 
-  pub put_is : IsKept r → (index : ℕ) (p : Progress S) → shelf_of (record r { shelf = put_on r.shelf (record { index = index; state = p }) }) ≡ put index (shelf_of r)
-  put_is k index p = go (has_index r.shelf index) ∙ ap (λ b. cond b (shelf_of r) (shelf r.base (room_of (indices others) ++ index ∷ []))) (has_is k index)
+  pub put_is : IsKept r → (index : ℕ) (p : Progress S)
+      → shelf_of (record r { shelf = put_on r.shelf (record { index = index; state = p }) }) ≡ put index (shelf_of r)
+  put_is k index p = go (has_index r.shelf index)
+      ∙ ap (λ b. cond b (shelf_of r) (shelf r.base (room_of (indices others) ++ index ∷ []))) (has_is k index)
     where
-      go : (b : Bool) → shelf_of (record r { shelf = cond b r.shelf (record r.shelf { others = making_room others ++ snapshot index p ∷ [] }) }) ≡ cond b (shelf_of r) (shelf r.base (room_of (indices others) ++ index ∷ []))
+      go : (b : Bool) → shelf_of (record r {
+        shelf =
+            cond b r.shelf (record r.shelf { others = making_room others ++ snapshot index p ∷ [] });
+      })
+          ≡ cond b (shelf_of r) (shelf r.base (room_of (indices others) ++ index ∷ []))
       go true = refl
-      go false = ap (shelf r.base) (map-append index_of (making_room others) (snapshot index p ∷ []) ∙ ap (λ is. is ++ index ∷ []) (room_is others))
+      go false = ap (shelf r.base) (map-append index_of (making_room others) (snapshot index p ∷ [])
+          ∙ ap (λ is. is ++ index ∷ []) (room_is others))
 
   -- ---- a path is cut
 
@@ -170,7 +199,8 @@ module _ {S : Type 0} (r : Recovering S) where
       base_low : r.base ≤ min (f - 1) ((r.base + length r.intervals) - 1)
       base_low = omega (arith, low, some)
 
-      agree : (i : ℕ) (x : Snapshot (Progress S)) → slice_get others i ≡ Some x → nat_le x.index (min (f - 1) (places r - 1)) ≡ nat_lt x.index f
+      agree : (i : ℕ) (x : Snapshot (Progress S))
+          → slice_get others i ≡ Some x → nat_le x.index (min (f - 1) (places r - 1)) ≡ nat_lt x.index f
       agree i x e =
           let top : x.index ≤ (r.base + length r.intervals) - length r.volatile - 1 = k.top x (inr (i, e)) in
           tests_agree x.index f (places r - 1) (omega (arith, top)) (omega (arith, low))
@@ -179,17 +209,22 @@ module _ {S : Type 0} (r : Recovering S) where
   next_there k f low e = let h = next_last k f low in cc (e, h)
 
   -- those above the new base stay
-  forgotten_is : IsKept r → (base : ℕ) → has_index r.shelf base ≡ true → shelf_of (forgotten r base) ≡ shelf base (filter (nat_lt base) (indices others))
+  forgotten_is : IsKept r → (base : ℕ)
+      → has_index r.shelf base ≡ true → shelf_of (forgotten r base) ≡ shelf base (filter (nat_lt base) (indices others))
   forgotten_is k base there = go (base == r.base) refl
     where
-      go : (q : Bool) → (base == r.base) ≡ q → shelf_of (cond q r (based_on r base)) ≡ shelf base (filter (nat_lt base) (indices others))
+      go : (q : Bool) → (base == r.base) ≡ q
+          → shelf_of (cond q r (based_on r base)) ≡ shelf base (filter (nat_lt base) (indices others))
       go true t =
           let is = eq_true base r.base t in
           same_shelf r.base base (indices others) (filter (nat_lt base) (indices others)) (sym is)
-          (sym (all_above base others (λ i x e. let h = above_base r.shelf.base others r.base k.base k.rises i x e in omega (arith, is, h))))
-      go false t = ap (shelf base) (behind_is base others (λ i j x y lt f g. k.rises.rising i j x y lt f g) (others_have r.shelf r.base base k.base t there))
+          (sym (all_above base others (λ i x e. let h = above_base r.shelf.base others r.base k.base k.rises i x e in
+          omega (arith, is, h))))
+      go false t = ap (shelf base) (behind_is base
+          others (λ i j x y lt f g. k.rises.rising i j x y lt f g) (others_have r.shelf r.base base k.base t there))
 
-  pub based_is : IsKept r → (f : ℕ) → r.base < f → (base : ℕ) → next_base r f ≡ Some base → shelf_of (forgotten r base) ≡ based f (shelf_of r)
+  pub based_is : IsKept r → (f : ℕ)
+      → r.base < f → (base : ℕ) → next_base r f ≡ Some base → shelf_of (forgotten r base) ≡ based f (shelf_of r)
   based_is k f low base e =
       forgotten_is k base (next_is r f base e).0
       ∙ ap (λ n. shelf n (filter (nat_lt n) (indices others))) (same_Some base (last f) (sym e ∙ next_last k f low))

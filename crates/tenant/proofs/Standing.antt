@@ -7,10 +7,12 @@ use Rattle.model.specs.World.{World}
 use Rattle.tenant.specs.Kept.{TenantState}
 use Rattle.tenant.specs.Stands.{IsStanding, Stands}
 
-pub opened : {S : Type 0} {M : Meaning S} {name : List ℕ} {t : TenantState S} {w : World} {records : List (Option Record)} → Stands M name t w records → IsStanding M name t w records
+pub opened : {S : Type 0} {M : Meaning S} {name : List ℕ} {t : TenantState S}
+    {w : World} {records : List (Option Record)} → Stands M name t w records → IsStanding M name t w records
 unfolding Stands
 opened s = s
 
-pub closed : {S : Type 0} {M : Meaning S} {name : List ℕ} {t : TenantState S} {w : World} {records : List (Option Record)} → IsStanding M name t w records → Stands M name t w records
+pub closed : {S : Type 0} {M : Meaning S} {name : List ℕ} {t : TenantState S}
+    {w : World} {records : List (Option Record)} → IsStanding M name t w records → Stands M name t w records
 unfolding Stands
 closed s = s

@@ -22,17 +22,26 @@ use Rattle.tenant.specs.Kept.{TenantState, Member}
 use Rattle.tenant.specs.Represents.{Leaves, StandsFor}
 use Rattle.tenant.proofs.Follow.{keeps, leaves, no_unit}
 
-module _ {S : Type 0} (M : Meaning S) (name : List ℕ) (live : ℕ → List ℕ) (t : TenantState S) (w : World) (log : List Record) (s : StandsFor M name live t w log) (u : ℕ) where
+module _ {S : Type 0} (M : Meaning S) (name : List ℕ) (live : ℕ → List ℕ)
+    (t : TenantState S) (w : World) (log : List Record) (s : StandsFor M name live t w log) (u : ℕ) where
   abbrev k : Compact S
   k = s.0
 
   pub status_refused : slice_get t.members u ≡ None → Leaves M name live (status M w u) (Refused NoUnit) t log
-  status_refused e = leaves M name live log (status M w u) (λ z f. stepped (record { step = StatusStep u; said = record { appended = 0; end = Whole } }) s.2.reached f) _ (record { reply = Refused NoUnit; state = k })
+  status_refused e = leaves M name live log (status M w u) (λ z f. stepped (record {
+    step = StatusStep u;
+    said =
+        record { appended = 0; end = Whole };
+  }) s.2.reached f) _ (record { reply = Refused NoUnit; state = k })
       (statuses_follow M name k w log s.2 u) (no_unit t live k s.1 u (status_of k u) e) t s.1
 
-  pub status_done : (m : Member S) → slice_get t.members u ≡ Some m → (at : Mark) (held known outside released rows stable : ℕ) (up : Bool) (volatile : ℕ)
-      → ((x : Unit S) → IsKept m.recovering → IsSeen m.recovering x → at ≡ last_mark u x) → held ≡ length m.outputs → known ≡ m.known → outside ≡ m.recovering.outside
-      → ((gone : ℕ) (texts : List (List ℕ)) → slice_get t.gone u ≡ Some gone → slice_get t.released u ≡ Some texts → released ≡ gone + length texts) → rows ≡ length t.table → stable ≡ stable_places m.recovering - 1 → up ≡ is_some m.recovering.progress → volatile ≡ length m.recovering.volatile
+  pub status_done : (m : Member S) → slice_get t.members u ≡ Some m
+      → (at : Mark) (held known outside released rows stable : ℕ) (up : Bool) (volatile : ℕ)
+      → ((x : Unit S) → IsKept m.recovering → IsSeen m.recovering x → at ≡ last_mark u x)
+      → held ≡ length m.outputs → known ≡ m.known → outside ≡ m.recovering.outside
+      → ((gone : ℕ) (texts : List (List ℕ)) → slice_get t.gone u ≡ Some gone → slice_get t.released u ≡ Some texts
+      → released ≡ gone + length texts) → rows ≡ length t.table → stable ≡ stable_places m.recovering - 1
+      → up ≡ is_some m.recovering.progress → volatile ≡ length m.recovering.volatile
       → Leaves M name live (status M w u) (Status up at held known outside released rows stable volatile) t log
   status_done m found at held known outside released rows stable up volatile a b c d e f g h v =
       let x = keeps t live k s.1 u m found in
@@ -43,12 +52,18 @@ module _ {S : Type 0} (M : Meaning S) (name : List ℕ) (live : ℕ → List ℕ
       let c' : x.unit.known ≡ known = i.known ∙ sym c in
       let d' : x.unit.outside ≡ outside = i.seen.outside ∙ sym d in
       let out = i.released in
-      let e' : length x.unit.released ≡ released = ap length out.4 ∙ length-append out.0 out.1 ∙ sym (e (length out.0) out.1 out.2 out.3) in
+      let e' : length x.unit.released ≡ released =
+      ap length out.4 ∙ length-append out.0 out.1 ∙ sym (e (length out.0) out.1 out.2 out.3) in
       let f' : length k.table ≡ rows = ap length s.1.table ∙ sym f in
       let g' : x.unit.stable - 1 ≡ stable = ap (λ n. n - 1) i.seen.stable ∙ sym g in
       let h' : x.unit.up ≡ up = i.seen.up ∙ sym h in
-      leaves M name live log (status M w u) (λ z f. stepped (record { step = StatusStep u; said = record { appended = 0; end = Whole } }) s.2.reached f) _
+      leaves M name live log (status M w u)
+      (λ z f. stepped (record { step = StatusStep u; said = record { appended = 0; end = Whole } }) s.2.reached f) _
       (record { reply = Status up at held known outside released rows stable volatile; state = k })
       (statuses_follow M name k w log s.2 u)
-      (ap (at_unit_of k (status_of k u)) x.at ∙ (λ j. record { reply = Status (h' j) (a' j) (b' j) (c' j) (d' j) (e' j) (f' j) (g' j) ((all.unstable ∙ sym v) j); state = k }))
+      (ap (at_unit_of k (status_of k u)) x.at ∙ (λ j. record {
+        reply =
+            Status (h' j) (a' j) (b' j) (c' j) (d' j) (e' j) (f' j) (g' j) ((all.unstable ∙ sym v) j);
+        state = k;
+      }))
       t s.1

@@ -5,7 +5,8 @@ use Rattle.model.specs.declared.refusals.Refusal.TheVariants.{Down, Limit, Store
 use Rattle.model.specs.declared.replies.Reply.TheVariants.{Refused}
 use Rattle.model.specs.declared.replies.Said.{Said}
 use Rattle.model.specs.Records.{IsFetching, notice_fetches, restart_fetches, quiet}
-use Rattle.model.specs.Steps.{Outcome, at_unit, at_up, first_refusal, going_back_tests, if_unit, is_device, is_down, notice, notice_orphan, notice_rows, outcome_or, path_kept, restart, unless}
+use Rattle.model.specs.Steps.{Outcome, at_unit, at_up, first_refusal, going_back_tests, if_unit, is_device, is_down}
+use Rattle.model.specs.Steps.{notice, notice_orphan, notice_rows, outcome_or, path_kept, restart, unless}
 use Rattle.model.specs.World.{Member, World, incarnation_of}
 use Rattle.tenant.specs.Outcomes.{failing}
 
@@ -19,13 +20,16 @@ failing_asked asked is = record { nothing = (refl, refl); whole = λ e. absurd (
 
 -- A step that is refused for the store has asked it.
 
-restart_by : (w : World) (o : Outcome) (up limit device : Bool) → (outcome_or w o (cond up (Some Up) (cond limit (Some Limit) (cond device (Some Store) None)))).reply ≡ Refused Store → (not up && not limit) ≡ true
+restart_by : (w : World) (o : Outcome) (up limit device : Bool)
+    → (outcome_or w o (cond up (Some Up) (cond limit (Some Limit) (cond device (Some Store) None)))).reply
+    ≡ Refused Store → (not up && not limit) ≡ true
 restart_by w o true limit device e = absurd (cc e)
 restart_by w o false true device e = absurd (cc e)
 restart_by w o false false device e = refl
 
 notice_by : (w : World) (o rows : Outcome) (up orphan limit device : Bool) → (rows.reply ≡ Refused Store → ⊥)
-    → (outcome_or w (if orphan then outcome_or w o (cond limit (Some Limit) (cond device (Some Store) None)) else rows) (cond (not up) (Some Down) None)).reply ≡ Refused Store → (up && (orphan && not limit)) ≡ true
+    → (outcome_or w (if orphan then outcome_or w o (cond limit (Some Limit) (cond device (Some Store) None)) else rows)
+    (cond (not up) (Some Down) None)).reply ≡ Refused Store → (up && (orphan && not limit)) ≡ true
 notice_by w o rows false orphan limit device never e = absurd (cc e)
 notice_by w o rows true false limit device never e = absurd (never e)
 notice_by w o rows true true true device never e = absurd (cc e)
@@ -35,11 +39,15 @@ module _ (w : World) (u : ℕ) (said : Said) where
   abbrev limit : Bool
   limit = nat_le 65535 (incarnation_of w.table u)
 
-  restart_at : (back : Member → Outcome) (m : Member) → (unless w ((m.up, Up) ∷ going_back_tests w u said) (back m)).reply ≡ Refused Store → restart_fetches w u (Some m) ≡ true
+  restart_at : (back : Member → Outcome) (m : Member)
+      → (unless w ((m.up, Up) ∷ going_back_tests w u said) (back m)).reply ≡ Refused Store
+      → restart_fetches w u (Some m) ≡ true
   unfolding first_refusal
   restart_at back m e = restart_by w (back m) m.up limit (is_device said.end) e
 
-  restart_of : (back : Member → Outcome) (o : Option Member) → (if_unit w (λ m. unless w ((m.up, Up) ∷ going_back_tests w u said) (back m)) o).reply ≡ Refused Store → restart_fetches w u o ≡ true
+  restart_of : (back : Member → Outcome) (o : Option Member)
+      → (if_unit w (λ m. unless w ((m.up, Up) ∷ going_back_tests w u said) (back m)) o).reply ≡ Refused Store
+      → restart_fetches w u o ≡ true
   restart_of back None e = absurd (cc e)
   restart_of back (Some m) e = restart_at back m e
 
@@ -47,11 +55,15 @@ module _ (w : World) (u : ℕ) (said : Said) where
   unfolding at_unit
   restart_asked e = restart_of _ (slice_get w.members u) e
 
-  notice_at : (m : Member) → (unless w (is_down m ∷ []) (if nat_lt (length (path_kept w m)) (length m.path) then notice_orphan w u said m else notice_rows w u m)).reply ≡ Refused Store → notice_fetches w u (Some m) ≡ true
+  notice_at : (m : Member) → (unless w (is_down m ∷ []) (if nat_lt (length (path_kept w m)) (length m.path) then
+      notice_orphan w u said m else notice_rows w u m)).reply ≡ Refused Store → notice_fetches w u (Some m) ≡ true
   unfolding first_refusal
-  notice_at m e = notice_by w _ (notice_rows w u m) m.up (nat_lt (length (path_kept w m)) (length m.path)) limit (is_device said.end) (λ f. cc f) e
+  notice_at m e = notice_by w _ (notice_rows w u m)
+      m.up (nat_lt (length (path_kept w m)) (length m.path)) limit (is_device said.end) (λ f. cc f) e
 
-  notice_of : (o : Option Member) → (if_unit w (λ m. unless w (is_down m ∷ []) (if nat_lt (length (path_kept w m)) (length m.path) then notice_orphan w u said m else notice_rows w u m)) o).reply ≡ Refused Store → notice_fetches w u o ≡ true
+  notice_of : (o : Option Member)
+      → (if_unit w (λ m. unless w (is_down m ∷ []) (if nat_lt (length (path_kept w m)) (length m.path) then
+      notice_orphan w u said m else notice_rows w u m)) o).reply ≡ Refused Store → notice_fetches w u o ≡ true
   notice_of None e = absurd (cc e)
   notice_of (Some m) e = notice_at m e
 

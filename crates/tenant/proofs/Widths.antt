@@ -16,17 +16,21 @@ use Rattle.unit_steps.specs.Receipts.{NoLonger}
 use Rattle.layer_laws.proofs.Made.{length-vector_of}
 
 -- the vector of a node has no more entries than there are units
-pub vector_within : {S : Type 0} (M : Meaning S) (w : World) (g : Invariant M w) (n x : ℕ) → x < length w.nodes → length w.members ≡ n → length (vector_of w.nodes x) ≤ n
-vector_within M w g n x h e = let a = length-vector_of w.nodes x in let b = units_within M w g x h in omega (arith, a, b, e)
+pub vector_within : {S : Type 0} (M : Meaning S) (w : World) (g : Invariant M w) (n x : ℕ)
+    → x < length w.nodes → length w.members ≡ n → length (vector_of w.nodes x) ≤ n
+vector_within M w g n x h e = let a = length-vector_of w.nodes x in
+    let b = units_within M w g x h in omega (arith, a, b, e)
 
-pub widths : {S : Type 0} (M : Meaning S) (name : List ℕ) (k : Compact S) (w : World) (log : List Record) → StandsCompact M name k w log → (u : ℕ) (x : Unit S) → slice_get k.units u ≡ Some x
+pub widths : {S : Type 0} (M : Meaning S) (name : List ℕ) (k : Compact S) (w : World) (log : List Record)
+    → StandsCompact M name k w log → (u : ℕ) (x : Unit S) → slice_get k.units u ≡ Some x
     → (intervals : List Interval) → x.intervals ≡ intervals → (n : ℕ) → length k.units ≡ n → NoLonger n intervals
 widths M name k w log stands u x at intervals same n long i v e =
     let width = stands.represents.width in
     let g = reachable_invariant M stands.reached in
     let m = get_below w.members u (let a = slice_get_within k.units u x at in omega (arith, a, width)) in
     let here = stands.represents.units u m.0 x m.1 at in
-    let f = map_at (interval_of w.nodes) (drop x.base.index m.0.path) i v (ap (λ vs. slice_get vs i) (sym here.intervals ∙ same) ∙ e) in
+    let f = map_at (interval_of w.nodes)
+    (drop x.base.index m.0.path) i v (ap (λ vs. slice_get vs i) (sym here.intervals ∙ same) ∙ e) in
     let made = (g.chain.sound.units u m.0 m.1).made (x.base.index + i) f.0 (get_drop m.0.path x.base.index i f.0 f.1) in
     let long_of : length v.vector ≡ length (vector_of w.nodes f.0) = ap (λ (z : Interval). length z.vector) f.2 in
     let within = vector_within M w g n f.0 made (sym width ∙ long) in

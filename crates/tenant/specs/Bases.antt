@@ -1,5 +1,6 @@
 -- What a tenant gives up once a unit's base moves on.
-use Rattle.std.specs.Prelude.{◌≡◌, ℕ, ◌-◌, false, List, [], drop, min, take, Option, Some, None, option_map, slice_get, slice_set, bytes_eq}
+use Rattle.std.specs.Prelude.{◌≡◌, ℕ, ◌-◌, false, List, [], drop, min, take, Option, Some, None, option_map, slice_get}
+use Rattle.std.specs.Prelude.{slice_set, bytes_eq}
 use Rattle.std.specs.List.{fold}
 use Rattle.checkpoint.specs.Shelves.{nearest_of}
 use Rattle.compact.specs.Compact.{Interval, Letter}

@@ -1,5 +1,6 @@
 -- What a tenant keeps of its world's past.
-use Rattle.std.specs.Prelude.{◌≡◌, ℕ, ◌+◌, ◌++◌, ◌==◌, ◌&&◌, Bool, false, cond, List, length, map, Option, Some, None, option_map, slice_get, is_none}
+use Rattle.std.specs.Prelude.{◌≡◌, ℕ, ◌+◌, ◌++◌, ◌==◌, ◌&&◌, Bool, false, cond, List, length, map, Option, Some, None}
+use Rattle.std.specs.Prelude.{option_map, slice_get, is_none}
 use Rattle.std.specs.List.{filter}
 use Rattle.std.specs.Option.{is_some}
 use Rattle.model.specs.declared.kept.Kept.{Kept as Amount}
@@ -9,7 +10,8 @@ use Rattle.model.specs.declared.steps.TenantStep.{TenantStep}
 use Rattle.model.specs.declared.records.Record.{Record}
 use Rattle.model.specs.Alone.{step_open}
 use Rattle.model.specs.Handler.{Meaning}
-use Rattle.model.specs.Keeping.{Shelf, after_open, all_based, based, changed, firm_length, received_for_good, shelves_after}
+use Rattle.model.specs.Keeping.{Shelf, after_open, all_based, based, changed, firm_length, received_for_good}
+use Rattle.model.specs.Keeping.{shelves_after}
 use Rattle.model.specs.World.{Member as MemberOf, World}
 use Rattle.compact.specs.Compact.{Letter}
 use Rattle.rollback.specs.Units.{Recovering}
@@ -24,7 +26,8 @@ shelf_of r = record { base = r.base; others = map (λ s. s.index) r.shelf.others
 abbrev pub shelves_of : {S : Type 0} → TenantState S → List Shelf
 shelves_of t = map (λ m. shelf_of m.recovering) t.members
 
--- The tenant's units have these checkpoints, and a letter is without content just where an interval up to its receiver's base received it.
+-- The tenant's units have these checkpoints, and a letter is without content just where an interval up to its
+-- receiver's base received it.
 pub record IsKeeping {S : Type 0} (t : TenantState S) (w : World) (shelves : List Shelf) : Type 0 where
   pub shelved : shelves_of t ≡ shelves
   pub letters : (l : ℕ) (c : Letter) (m : MemberOf) (s : Shelf) → slice_get t.letters l ≡ Some c

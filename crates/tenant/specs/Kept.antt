@@ -1,5 +1,6 @@
 -- What a tenant keeps, by lists.
-use Rattle.std.specs.Prelude.{◌≡◌, All, [], ◌∷◌, replicate, length, ◌++◌, ◌-◌, min, option_map, drop, map, slice_get, slice_set, ℕ, cond, nat_le, nat_lt, List, Option, Some, None, ◌+◌, take, ◌<◌, ◌^◌}
+use Rattle.std.specs.Prelude.{◌≡◌, All, [], ◌∷◌, replicate, length, ◌++◌, ◌-◌, min, option_map, drop, map, slice_get}
+use Rattle.std.specs.Prelude.{slice_set, ℕ, cond, nat_le, nat_lt, List, Option, Some, None, ◌+◌, take, ◌<◌, ◌^◌}
 use Rattle.std.specs.List.{fold, position}
 use Rattle.std.specs.Option.{is_some}
 use Rattle.model.specs.declared.limits.TheConstants.{MAX_INCARNATION}
@@ -27,8 +28,10 @@ use Rattle.checkpoint.specs.declared.snapshot.Snapshot.{Snapshot}
 use Rattle.checkpoint.specs.Shelves.{nearest_of}
 use Rattle.orphan.specs.Tests.{is_orphan_by}
 use Rattle.compact.specs.Compact.{Letter, Progress, Content}
-use Rattle.rollback.specs.Units.{Recovering, begun_unit, checkpointed, cut_behind, killed_recovering, marked_stable, places, restored, stable_places, widened_to, asking, took}
-use Rattle.unit_steps.specs.Receipts.{IsFrontier, frontier_of, Known, letter_refused, mark_upon, turn_refused, vector_upon}
+use Rattle.rollback.specs.Units.{Recovering, begun_unit, checkpointed, cut_behind, killed_recovering, marked_stable}
+use Rattle.rollback.specs.Units.{places, restored, stable_places, widened_to, asking, took}
+use Rattle.unit_steps.specs.Receipts.{IsFrontier, frontier_of, Known, letter_refused, mark_upon, turn_refused}
+use Rattle.unit_steps.specs.Receipts.{vector_upon}
 use Rattle.compact.specs.Steps.{Receipt, letters_by}
 
 -- One unit: what it needs to go on and to go back, its held outputs, and how many rows it knows.
@@ -38,7 +41,8 @@ pub record Member (S : Type 0) : Type 0 where
   pub outputs : List Held
   pub known : ℕ
 
--- An open tenant. For each unit it keeps how many of its intervals are stable and how many are firm, how many of the texts that it released were given up, and those behind them.
+-- An open tenant. For each unit it keeps how many of its intervals are stable and how many are firm, how many of the
+-- texts that it released were given up, and those behind them.
 pub record TenantState (S : Type 0) : Type 0 where
   pub quota : Quota
   pub optimism : ℕ

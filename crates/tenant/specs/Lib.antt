@@ -8,3 +8,4 @@ pub mod Reads
 pub mod Represents
 pub mod Stands
 pub mod Keeping
+pub mod Footprint

@@ -10,7 +10,8 @@ use Rattle.model.specs.declared.names.Source.TheVariants.{Outside, Unit as FromU
 use Rattle.model.specs.declared.refusals.Refusal.{Refusal}
 use Rattle.model.specs.declared.replies.Reply.TheVariants.{Refused}
 use Rattle.model.specs.declared.steps.TenantStep.{TenantStep}
-use Rattle.model.specs.declared.steps.TenantStep.TheVariants.{Open, Join, Post, Deliver, Flush, Checkpoint, Kill, Restart, Notice, Release, Status}
+use Rattle.model.specs.declared.steps.TenantStep.TheVariants.{Open, Join, Post, Deliver, Flush, Checkpoint, Kill}
+use Rattle.model.specs.declared.steps.TenantStep.TheVariants.{Restart, Notice, Release, Status}
 use Rattle.tenant.specs.Outcomes.{done}
 use Rattle.compact.specs.Steps.{post_front, deliver_front}
 
@@ -50,7 +51,8 @@ letter_needs M w (Some received) = deliver_to_needs M w received (slice_get w.me
 unfoldable pub deliver_needs : {S : Type 0} → Meaning S → World → ℕ → Option (Input S)
 deliver_needs M w l = letter_needs M w (slice_get (executed M w).letters l)
 
--- the whole input of the turn that a step now needs: a post or a delivery that no test before the turn refuses needs one
+-- the whole input of the turn that a step now needs: a post or a delivery that no test before the turn refuses needs
+-- one
 abbrev pub needs : {S : Type 0} → Meaning S → World → TenantStep → Option (Input S)
 needs M w (Open kinds quota optimism) = None
 needs M w (Join kind) = None

@@ -22,7 +22,8 @@ IsReleased gone kept all =
     (front : List (List ℕ)) × (texts : List (List ℕ)) × (gone ≡ Some (length front)) × (kept ≡ Some texts)
     × (all ≡ front ++ texts)
 
--- The tenant keeps this unit of the compact state as its u-th. `live` tells the places in the log of each unit's live records.
+-- The tenant keeps this unit of the compact state as its u-th. `live` tells the places in the log of each unit's live
+-- records.
 pub record IsMember {S : Type 0} (t : TenantState S) (live : ℕ → List ℕ) (u : ℕ) (m : Member S)
     (x : Unit S) : Type 0 where
   pub kept : IsKept m.recovering
@@ -59,7 +60,8 @@ abbrev pub Leaves : {S : Type 0} → Meaning S → List ℕ → (ℕ → List �
 Leaves M name live outcome reply t log =
     (z : World) × (outcome ≡ record { reply = reply; world = Some z }) × StandsFor M name live t z log
 
--- For each world that the tenant of this name stands for, the reply is that of the step of the definitions, and the tenant then stands for the world after it.
+-- For each world that the tenant of this name stands for, the reply is that of the step of the definitions, and the
+-- tenant then stands for the world after it.
 abbrev pub DoesAs : {S : Type 0} → Meaning S → List ℕ → (World → Outcome) → TenantState S → Reply → TenantState S
     → Type 0
 DoesAs M name step before reply after =

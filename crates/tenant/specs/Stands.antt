@@ -49,7 +49,8 @@ pub record Logs {S : Type 0} (M : Meaning S) (name : List ℕ) (w : World) (step
   pub honest : (grown : List Record) × Grows before.records grown after.records × IsHonest M name w step said grown
   pub device : said.end ≡ Device → HasRisen before.failures after.failures
 
--- the reply to a step of this world is that of the definitions for what the store said, and the tenant stands for the world after it
+-- the reply to a step of this world is that of the definitions for what the store said, and the tenant stands for the
+-- world after it
 abbrev pub Steps : {S : Type 0} → Meaning S → List ℕ → World → TenantState S → TenantStep → Said → Reply
     → List (Option Record) → Type 0
 Steps M name w k step said answer records =

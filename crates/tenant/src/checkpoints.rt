@@ -77,6 +77,7 @@ impl<H: Handler> Tenant<H> {
         ensures others { (k : TenantState H.State) (w : World) (other : List ℕ) → bytes_eq other tenant.now ≡ false
             → Stands H.meaning other k w log.old.records → Stands H.meaning other k w log.new.records }
         ensures up { log.old.failures ≤ log.new.failures }
+        ensures failures { log.new.failures ≡ log.old.failures }
         ensures err { OnErr result (self.new ≡ self.old) }
         ensures err_log { OnErr result (log.new.records ≡ log.old.records) }
         ensures gone { self.new.gone ≡ self.old.gone }

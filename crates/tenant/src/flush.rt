@@ -1,6 +1,6 @@
 //! The step `flush`.
 
-ghost use Rattle.std.specs.Prelude.{◌≡◌, ◌⊎◌, ◌<◌, ◌≤◌, ◌++◌, ◌∷◌, [], ◌↔◌, All, IfOk, IfErr, IsTrue, MatchOption, None, OnOk, OnErr, length, map, take, slice_get, slice_set, Some, true, false, List, ℕ, ◌+◌, bytes_eq};
+ghost use Rattle.std.specs.Prelude.{◌≡◌, ◌≢◌, ◌⊎◌, ◌<◌, ◌≤◌, ◌++◌, ◌∷◌, [], ◌↔◌, All, IfOk, IfErr, IsOkAnd, IsTrue, MatchOption, None, OnOk, OnErr, length, map, take, slice_get, slice_set, Some, true, false, List, ℕ, ◌+◌, bytes_eq};
 ghost use Rattle.model.specs.Failures.{HasRisen};
 ghost use Rattle.model.specs.Steps.{flush_reply as flush_reply_of};
 ghost use Rattle.model.specs.World.{World};
@@ -53,6 +53,8 @@ fn append_at<H: Handler, S: Store>(
     ensures end { IfErr result (λ e. e ≡ Whole → ⊥) }
     ensures device { IfErr result (λ e. e ≡ Device → HasRisen log.old.failures log.new.failures) }
     ensures up { log.old.failures ≤ log.new.failures }
+    ensures steady { result ≢ Err Device → log.new.failures ≡ log.old.failures }
+    ensures once { log.new.failures ≤ log.old.failures + 1 }
 {
     let logged = recovering.volatile_record(place);
     if logged.tenant != *tenant {
@@ -78,6 +80,8 @@ fn append_all<H: Handler, S: Store>(
     ensures whole { (result.end ≡ Whole) ↔ (result.appended ≡ length recovering.now.volatile) }
     ensures device { result.end ≡ Device → HasRisen log.old.failures log.new.failures }
     ensures up { log.old.failures ≤ log.new.failures }
+    ensures steady { result.end ≢ Device → log.new.failures ≡ log.old.failures }
+    ensures once { log.new.failures ≤ log.old.failures + 1 }
 {
     for i in 0..recovering.volatile_count() {
         match append_at(tenant, recovering, i, log) {
@@ -99,6 +103,7 @@ fn append_all<H: Handler, S: Store>(
 /// Whether there was no memory for the first record.
 fn is_forgone(said: Said) -> bool
     ensures none { IsTrue result → said.appended ≡ 0 }
+    ensures memory { IsTrue result → said.end ≡ Memory }
     ensures some { result ≡ false → said.end ≡ Memory → 0 < said.appended }
 {
     match said.end {
@@ -218,6 +223,8 @@ impl<H: Handler> Tenant<H> {
         ensures others { (k : TenantState H.State) (w : World) (other : List ℕ) → bytes_eq other tenant.now ≡ false
             → Stands H.meaning other k w log.old.records → Stands H.meaning other k w log.new.records }
         ensures up { log.old.failures ≤ log.new.failures }
+        ensures steady { (log.new.failures ≡ log.old.failures) ⊎ IsOkAnd result (λ a. a.said.end ≡ Device) }
+        ensures once { log.new.failures ≤ log.old.failures + 1 }
         ensures err { OnErr result (self.new ≡ self.old) }
         ensures err_log { OnErr result (log.new.records ≡ log.old.records) }
         ensures gone { self.new.gone ≡ self.old.gone }

@@ -3,7 +3,7 @@
 //! They speak of the worlds that a tenant can come to by the definitions that the contract of
 //! `Tenant::step` cites. Their statements stand in `theory/specs/Laws`.
 
-ghost use Rattle.theory.specs.Laws.{FirmStays, PathsKept, ChainLaw, ForksAreLost, CertificateLaw, ReleasedAreFirm, ReleasedGrow, ReleaseIsWhole, HeldCanGo, LaxCanGo, VectorsTell, VectorsJoin, FirmByVector, UnstableByVector, StatesAreFolds, NumbersAlongPaths, NoOrphans, NoNoticeAppends, CoursesReach, StaysOpen, ReleasedStay};
+ghost use Rattle.theory.specs.Laws.{FirmStays, PathsKept, ChainLaw, ForksAreLost, CertificateLaw, ReleasedAreFirm, ReleasedGrow, ReleaseIsWhole, HeldCanGo, LaxCanGo, VectorsTell, VectorsJoin, FirmByVector, UnstableByVector, StatesAreFolds, NumbersAlongPaths, NoOrphans, NoNoticeAppends, CoursesReach, StaysOpen, ReleasedStay, StaysWithin};
 
 use handler::Handler;
 
@@ -110,4 +110,9 @@ pub fn stays_open<H: Handler>()
 /// What is released and what is firm stays so over all further steps.
 pub fn released_stay<H: Handler>()
     ensures { ReleasedStay H.meaning }
+{}
+
+/// Of each unit a tenant has no more than its quotas and the limits allow.
+pub fn stays_within<H: Handler>()
+    ensures { StaysWithin H.meaning }
 {}

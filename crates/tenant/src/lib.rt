@@ -23,7 +23,7 @@
 //! - `step`: which of these a step is, also by a turn that was worked elsewhere; `prepare`: the input of that turn.
 //! - `receipts`: what a receipt makes (what refuses one: `unit_steps`, `refusals`); `returning`: a unit goes back;
 //!   `forgetting`: what is firm for good is given up; `releasing`: outputs on their way out.
-//! - `reads`, `certifies`, `kept`: what whoever stands above reads off a tenant.
+//! - `reads`, `certifies`, `kept`, `footprint`: what whoever stands above reads off a tenant.
 //! - `laws`: what holds over time of the worlds that a tenant stands for.
 //! - `TenantStep`, `Reply` and `Kept` are those of `model`.
 //!
@@ -59,6 +59,7 @@ mod certifies;
 mod checkpoints;
 mod deliver;
 mod flush;
+mod footprint;
 mod forgetting;
 mod join;
 mod kept;
@@ -80,5 +81,6 @@ mod step;
 mod tenant;
 
 pub use answer::Answer;
+pub use footprint::Footprint;
 pub use model::{Kept, Reply, TenantStep};
 pub use tenant::Tenant;

@@ -137,6 +137,14 @@ impl<H: Handler> Member<H> {
         self.recovering.outside()
     }
 
+    /// How many of its intervals are kept: those from the base on.
+    pub(crate) fn interval_count(&self) -> u64
+        ensures { result ≡ length self.now.recovering.intervals }
+    {
+        let base = u64::from(self.recovering.base());
+        self.recovering.places().saturating_sub(base)
+    }
+
     /// How many of its intervals are not stable.
     pub(crate) fn volatile_count(&self) -> usize
         ensures { result ≡ length self.now.recovering.volatile }

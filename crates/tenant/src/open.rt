@@ -93,7 +93,7 @@ fn begin_all<H: Handler>(
         ms.items ≡ fold (λ ms n.
         with_begun H.meaning (length names.now) ms (kind_or_0 (H.meaning.kind n))) [] names.now) }
 {
-    let mut members = Vec::new(alloc);
+    let mut members = Vec::with_capacity(alloc, names.len())?;
     let home = names.len() as u8;
     for name in names {
         begin_one(alloc, handler, &mut members, kind_of(handler, name), home)?;

@@ -1,6 +1,6 @@
 //! What is read off a tenant by whoever stands above it.
 
-ghost use Rattle.std.specs.Prelude.{◌≡◌, ℕ, List, Option, IfOk, MatchOption, None, Some, slice_get};
+ghost use Rattle.std.specs.Prelude.{◌≡◌, ℕ, List, Option, IfOk, MatchOption, None, Some, length, slice_get};
 ghost use Rattle.model.specs.FailureFree.{opening_seats as opening_seats_of};
 ghost use Rattle.model.specs.World.{World};
 ghost use Rattle.model.specs.declared.records.Record.{Record};
@@ -47,6 +47,16 @@ fn first_seats<H: Handler>(alloc: Global, members: &[Member<H>]) -> Result<Vec<S
 }
 
 impl<H: Handler> Tenant<H> {
+    /// How many texts of what the unit released are kept.
+    pub(crate) fn text_count(&self, unit: Unit) -> usize
+        ensures { (texts : List (List ℕ)) → slice_get self.now.released unit ≡ Some texts → result ≡ length texts }
+    {
+        match self.released_texts(unit) {
+            Some(texts) => texts.len(),
+            None => 0,
+        }
+    }
+
     /// What is kept of what the unit released.
     fn released_texts(&self, unit: Unit) -> Option<&[Text]>
         ensures { MatchOption result (slice_get self.now.released unit ≡ None) (λ texts.

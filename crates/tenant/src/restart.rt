@@ -1,7 +1,8 @@
 //! The step `restart`.
 
-ghost use Rattle.std.specs.Prelude.{◌≡◌, ◌≤◌, ◌<◌, IfNone, IfOk, OnErr, List, ℕ, false, bytes_eq, length, slice_get};
+ghost use Rattle.std.specs.Prelude.{◌≡◌, ◌⊎◌, ◌≤◌, ◌<◌, ◌+◌, IfNone, IfOk, IsOkAnd, OnErr, List, ℕ, false, bytes_eq, length, slice_get};
 ghost use Rattle.model.specs.World.{World, incarnation_of};
+ghost use Rattle.model.specs.declared.replies.End.TheVariants.{Device};
 ghost use Rattle.model.specs.declared.steps.TenantStep.TheVariants.{Restart};
 ghost use Rattle.model.specs.Keeping.{after_return};
 ghost use Rattle.tenant.specs.Keeping.{Shelves};
@@ -57,6 +58,8 @@ impl<H: Handler> Tenant<H> {
         ensures others { (k : TenantState H.State) (w : World) (other : List ℕ) → bytes_eq other tenant.now ≡ false
             → Stands H.meaning other k w log.old.records → Stands H.meaning other k w log.new.records }
         ensures up { log.old.failures ≤ log.new.failures }
+        ensures steady { (log.new.failures ≡ log.old.failures) ⊎ IsOkAnd result (λ a. a.said.end ≡ Device) }
+        ensures once { log.new.failures ≤ log.old.failures + 1 }
         ensures err { OnErr result (self.new ≡ self.old) }
         ensures err_log { OnErr result (log.new.records ≡ log.old.records) }
         ensures gone { self.new.gone ≡ self.old.gone }

@@ -1,8 +1,9 @@
 //! A unit goes back: what a restart, and a notice that cuts, have in common.
 
-ghost use Rattle.std.specs.Prelude.{◌≡◌, ◌⊎◌, ◌<◌, ◌≤◌, ◌+◌, ◌-◌, ◌∷◌, [], ◌++◌, IfOk, IfNone, IfSome, OnOk, OnErr, Err, MatchOption, None, Option, Some, List, ℕ, drop, length, nat_le, slice_get, slice_set, take};
+ghost use Rattle.std.specs.Prelude.{◌≡◌, ◌≢◌, ◌⊎◌, ◌<◌, ◌≤◌, ◌+◌, ◌-◌, ◌∷◌, [], ◌++◌, IfOk, IfNone, IfSome, IsOkAnd, OnOk, OnErr, Err, MatchOption, None, Option, Some, List, ℕ, drop, length, nat_le, slice_get, slice_set, take};
 ghost use Rattle.model.specs.Failures.{HasRisen};
 ghost use Rattle.model.specs.World.{incarnation_of};
+ghost use Rattle.model.specs.declared.replies.End.TheVariants.{Device};
 ghost use Rattle.rollback.specs.Units.{IsTarget, OrphansAreTail, stable_places};
 ghost use Rattle.shared_log.specs.Logged.{Grows, OthersKept, places_of};
 ghost use Rattle.tenant.specs.Kept.{AreFetched, IsReplayed, Member as MemberOf, returned_kept, kept_length, returned, returned_member};
@@ -48,6 +49,8 @@ fn fetch_at<S: Store>(
         × (slice_get log.old.records p ≡ Some (Some r)))) }
     ensures device { result ≡ Err StoreFault.Device → HasRisen log.old.failures log.new.failures }
     ensures up { log.old.failures ≤ log.new.failures }
+    ensures steady { result ≢ Err StoreFault.Device → log.new.failures ≡ log.old.failures }
+    ensures once { log.new.failures ≤ log.old.failures + 1 }
 {
     let places = log.of(tenant, unit);
     if position >= places.len().saturating_sub(skipped) {
@@ -102,6 +105,8 @@ fn fetch_some<S: Store>(
         AreFetched log.old.records (drop skipped (places_of tenant.now unit log.old)) first last rs.items) }
     ensures device { result ≡ Err StoreFault.Device → HasRisen log.old.failures log.new.failures }
     ensures up { log.old.failures ≤ log.new.failures }
+    ensures steady { result ≢ Err StoreFault.Device → log.new.failures ≡ log.old.failures }
+    ensures once { log.new.failures ≤ log.old.failures + 1 }
 {
     let mut fetched = Vec::new(alloc);
     for position in first..last {
@@ -170,6 +175,8 @@ impl<H: Handler> Tenant<H> {
             (length self.now.members) p) }
         ensures device { result ≡ Err StoreFault.Device → HasRisen log.old.failures log.new.failures }
         ensures up { log.old.failures ≤ log.new.failures }
+        ensures steady { result ≢ Err StoreFault.Device → log.new.failures ≡ log.old.failures }
+        ensures once { log.new.failures ≤ log.old.failures + 1 }
     {
         let (first, last) = member.needed(target);
         let skipped = count_before(tenant, unit, member.live_count(), log);
@@ -242,6 +249,8 @@ impl<H: Handler> Tenant<H> {
         ensures beside { IfOk result (λ _. Grows log.old.records [] log.new.records
             × OthersKept tenant.now unit log.old log.new) }
         ensures up { log.old.failures ≤ log.new.failures }
+        ensures steady { (log.new.failures ≡ log.old.failures) ⊎ IsOkAnd result (λ a. a.said.end ≡ Device) }
+        ensures once { log.new.failures ≤ log.old.failures + 1 }
         ensures err { OnErr result (self.new ≡ self.old) }
         ensures err_log { OnErr result (log.new.records ≡ log.old.records) }
         ensures gone { self.new.gone ≡ self.old.gone }

@@ -1,7 +1,8 @@
 //! One step of an open tenant.
 
-ghost use Rattle.std.specs.Prelude.{◌≡◌, ◌≤◌, IfNone, IfOk, IfSome, OnErr, List, ℕ, false, bytes_eq};
+ghost use Rattle.std.specs.Prelude.{◌≡◌, ◌⊎◌, ◌≤◌, ◌+◌, IfNone, IfOk, IfSome, IsOk, IsOkAnd, IsSomeAnd, OnErr, List, ℕ, false, bytes_eq};
 ghost use Rattle.model.specs.World.{World};
+ghost use Rattle.model.specs.declared.replies.End.TheVariants.{Device};
 ghost use Rattle.tenant.specs.Keeping.{KeepsOn};
 ghost use Rattle.tenant.specs.Kept.{KeepsTexts, TenantState};
 ghost use Rattle.tenant.specs.Needs.{WasFresh, needs};
@@ -36,6 +37,11 @@ impl<H: Handler> Tenant<H> {
             → Stands H.meaning other k w log.old.records → Stands H.meaning other k w log.new.records }
         // The count of the device's failures never falls.
         ensures up { log.old.failures ≤ log.new.failures }
+        // It stays, unless the answer says that the device failed: a call of it that did isn't made again.
+        ensures steady { (log.new.failures ≡ log.old.failures) ⊎ IsOkAnd result (λ a. a.said.end ≡ Device) }
+        ensures once { log.new.failures ≤ log.old.failures + 1 }
+        // A kill takes no memory.
+        ensures kill { (unit : ℕ) → step ≡ TenantStep.Kill unit → IsOk result }
         ensures err { OnErr result (self.new ≡ self.old) }
         ensures err_log { OnErr result (log.new.records ≡ log.old.records) }
         // A unit that gave up no text still has all of them.
@@ -85,6 +91,10 @@ impl<H: Handler> Tenant<H> {
             → Stands H.meaning other k w log.old.records → Stands H.meaning other k w log.new.records }
         // The count of the device's failures never falls.
         ensures up { log.old.failures ≤ log.new.failures }
+        // It stays, unless the answer says that the device failed: a call of it that did isn't made again.
+        ensures steady { (log.new.failures ≡ log.old.failures)
+            ⊎ IsOkAnd result (λ o. IsSomeAnd o (λ a. a.said.end ≡ Device)) }
+        ensures once { log.new.failures ≤ log.old.failures + 1 }
         ensures err { OnErr result (self.new ≡ self.old) }
         ensures err_log { OnErr result (log.new.records ≡ log.old.records) }
         // A unit that gave up no text still has all of them.

@@ -31,8 +31,6 @@ pub fn input_size<R: Files>(rt: &R) -> Option<u64> {
 pub struct Progress {
     /// The work, in bytes or in steps, where a bar is drawn.
     pub work: Option<u64>,
-    /// After how many seconds each a line is written, where any is.
-    pub report: Option<u64>,
     /// Whether bytes and lines are counted whatever is drawn or written.
     pub counts: bool,
 }
@@ -47,8 +45,6 @@ pub struct Bar<'a, R> {
     lines: AtomicU64,
     /// After how many milliseconds it was drawn last; 0 where it wasn't.
     drawn: AtomicU64,
-    /// After how many milliseconds a line was written last.
-    reported: AtomicU64,
 }
 
 impl<'a, R: Eprint + Clock> Bar<'a, R> {
@@ -56,7 +52,6 @@ impl<'a, R: Eprint + Clock> Bar<'a, R> {
     pub fn new(rt: &'a R, work: Option<u64>) -> Bar<'a, R> {
         let told = Progress {
             work,
-            report: None,
             counts: false,
         };
         Bar::telling(rt, told)
@@ -71,13 +66,12 @@ impl<'a, R: Eprint + Clock> Bar<'a, R> {
             done: AtomicU64::new(0),
             lines: AtomicU64::new(0),
             drawn: AtomicU64::new(0),
-            reported: AtomicU64::new(0),
         }
     }
 
     /// Whether anything is told or counted.
     fn is_wanted(&self) -> bool {
-        self.told.work.is_some() || self.told.report.is_some() || self.told.counts
+        self.told.work.is_some() || self.told.counts
     }
 
     /// So much more is done, and so many lines with it.
@@ -87,9 +81,7 @@ impl<'a, R: Eprint + Clock> Bar<'a, R> {
         }
         add(&self.done, done);
         add(&self.lines, lines);
-        let now = self.millis();
-        self.draw(now);
-        self.report(now);
+        self.draw(self.millis());
     }
 
     /// Draws it, where it is drawn and was not just before.
@@ -108,21 +100,14 @@ impl<'a, R: Eprint + Clock> Bar<'a, R> {
         }
     }
 
-    /// Writes a line, where it is time.
-    fn report(&self, now: u64) {
-        let Some(seconds) = self.told.report else {
-            return;
-        };
-        let pause = seconds.saturating_mul(1000);
-        if now.saturating_sub(self.reported.load(Ordering::SeqCst)) >= pause {
-            self.reported.store(now, Ordering::SeqCst);
-            self.clear();
-            let _ = eprintln!(self.rt;
-                "progress {} bytes={}",
-                Words(self.pace(now)),
-                self.done.load(Ordering::SeqCst)
-            );
-        }
+    /// Writes a line of how far the run is.
+    pub(crate) fn report(&self) {
+        self.clear();
+        let _ = eprintln!(self.rt;
+            "progress {} bytes={}",
+            Words(self.pace_so_far()),
+            self.done.load(Ordering::SeqCst)
+        );
     }
 
     /// How many lines there were, and in what time.

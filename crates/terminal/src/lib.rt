@@ -1,7 +1,8 @@
 //! What a program tells people, and how it waits for its streams.
 //!
 //! - `Diagnostics`: what is logged goes to standard error, line by line;
-//! - `Bar` and `Watched` (`bar`): how far a run is, where standard error is a terminal, or line by line;
+//! - `Bar` and `Watched` (`bar`): how far a run is, where standard error is a terminal;
+//! - `report_each` (`ticking`): a line of it after each so many seconds;
 //! - `Patient`: a stream that is non-blocking is waited for; `BLOCK`: how much of one is read or written at once;
 //! - `Plural`: a number with its noun.
 //!
@@ -16,8 +17,10 @@ mod bar;
 mod diagnostics;
 mod patient;
 mod plural;
+mod ticking;
 
 pub use bar::{Bar, Pace, Progress, Watched, input_size};
 pub use diagnostics::Diagnostics;
 pub use patient::{BLOCK, Patient};
 pub use plural::Plural;
+pub use ticking::report_each;

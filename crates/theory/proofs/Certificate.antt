@@ -1,5 +1,6 @@
 -- What holds of every world that a tenant can come to, and that the certificate holds of each.
-use Rattle.std.proofs.Common.{◌≡◌, refl, sym, ◌∙◌, ap, subst, ℕ, zero, suc, ◌+◌, ◌<◌, ◌≤◌, Bool, true, false, cond, ◌&&◌, List, [], ◌∷◌, ◌++◌, length, take, arith, map, length-take}
+use Rattle.std.proofs.Common.{◌≡◌, refl, sym, ◌∙◌, ap, subst, ℕ, zero, suc, ◌+◌, ◌<◌, ◌≤◌, Bool, true, false, cond}
+use Rattle.std.proofs.Common.{◌&&◌, List, [], ◌∷◌, ◌++◌, length, take, arith, map, length-take}
 use Rattle.std.specs.Prelude.{Some, Result, Ok, Err, slice_get, nat_lt}
 use Rattle.std.specs.List.{flat_map, take_while}
 use Rattle.std.proofs.lemmas.List.Sums.{take_while-cons}
@@ -15,7 +16,8 @@ use Rattle.model.specs.Handler.{Meaning}
 use Rattle.model.specs.Lists.{from_end, numbers_from}
 use Rattle.model.specs.Nodes.{node_at, begun, sender_of}
 use Rattle.model.specs.World.{World, Member, executed, is_firm, stable_path}
-use Rattle.model.specs.FailureFree.{Worker, Network, new_worker, moved, if_moved, run_from, move_at, opening_seats, certificate, failure_free, logged, FitsAll, BeginWith, CertificateHolds}
+use Rattle.model.specs.FailureFree.{Worker, Network, new_worker, moved, if_moved, run_from, move_at, opening_seats}
+use Rattle.model.specs.FailureFree.{certificate, failure_free, logged, FitsAll, BeginWith, CertificateHolds}
 use Rattle.model.specs.Alone.{step, step_unopened, Reachable}
 use Rattle.model.specs.Alone.Reachable.{opened, stepped}
 use Rattle.model.proofs.Places.{get_below}
@@ -28,10 +30,12 @@ use Rattle.theory.proofs.Simulation.{worker, receipt}
 use Rattle.theory.proofs.Fronts.{front, same_front}
 use Rattle.theory.proofs.Counts.{Counted, counted_change, first_counted, Begun}
 use Rattle.theory.proofs.Numbers.{Numbered, numbered_change}
-use Rattle.theory.proofs.CertificateRun.{seat_in, turn_in, path_of, done_in, MatchesAt, seat_of, place_step, began_alone, receipts_in}
+use Rattle.theory.proofs.CertificateRun.{seat_in, turn_in, path_of, done_in, MatchesAt, seat_of, place_step}
+use Rattle.theory.proofs.CertificateRun.{began_alone, receipts_in}
 use Rattle.theory.proofs.Pasts.{parent_within}
 use Rattle.theory.proofs.Vectors.{Linked, linked_change}
-use Rattle.theory.proofs.Released.{AllReleased, released_change, prefix_at, prefix_flat, flat_same, firm_on, from_end_default}
+use Rattle.theory.proofs.Released.{AllReleased, released_change, prefix_at, prefix_flat, flat_same, firm_on}
+use Rattle.theory.proofs.Released.{from_end_default}
 use Rattle.theory.proofs.Sending.{turns_length}
 
 -- what holds of every world that a tenant can come to
@@ -53,11 +57,13 @@ no_front w (x ∷ xs) = take_while-cons (λ y. is_firm w y && nat_lt y 0) x xs �
     go true = let t : nat_lt x 0 ≡ false = grind (arith, nat_tests) in rw t refl
     go false = refl
 
-run_append : {S : Type 0} (M : Meaning S) (xs ys : List Move) (net next : Network S) → run_from M net xs ≡ Ok next → run_from M net (xs ++ ys) ≡ run_from M next ys
+run_append : {S : Type 0} (M : Meaning S) (xs ys : List Move) (net next : Network S)
+    → run_from M net xs ≡ Ok next → run_from M net (xs ++ ys) ≡ run_from M next ys
 run_append M [] ys net next e = let q : net ≡ next = cc in ap (λ z. run_from M z ys) q
 run_append {S} M (x ∷ xs) ys net next e = go (moved M net x) (λ n f. run_append M xs ys n next f) e
   where
-    go : (r : Result (Network S) Flaw) → ((n : Network S) → run_from M n xs ≡ Ok next → run_from M n (xs ++ ys) ≡ run_from M next ys)
+    go : (r : Result (Network S) Flaw)
+        → ((n : Network S) → run_from M n xs ≡ Ok next → run_from M n (xs ++ ys) ≡ run_from M next ys)
         → if_moved r (λ n. run_from M n xs) ≡ Ok next → if_moved r (λ n. run_from M n (xs ++ ys)) ≡ run_from M next ys
     go (Err flaw) rest f = cc
     go (Ok n) rest f = rest n f
@@ -67,12 +73,21 @@ seats_length o ss h = let t = length-take o ss in omega arith
 
 module _ {S : Type 0} (M : Meaning S) (w : World) (g : Invariant M w) where
   run_all : (n x : ℕ) → x + n ≡ length w.nodes → (net : Network S) → MatchesAt M w g.opening x (done_in w x) net
-      → (final : Network S) × (run_from M net (flat_map (move_at w) (numbers_from x n)) ≡ Ok final) × MatchesAt M w g.opening (length w.nodes) (done_in w (length w.nodes)) final
-  run_all zero x e net m = (net, refl, let q : x ≡ length w.nodes = omega arith in subst (λ z. MatchesAt M w g.opening z (done_in w z) net) q m)
+      → (final : Network S) × (run_from M net (flat_map (move_at w) (numbers_from x n)) ≡ Ok final)
+      × MatchesAt M w g.opening (length w.nodes) (done_in w (length w.nodes)) final
+  run_all zero x e net m = (
+    net,
+    refl,
+    let q : x ≡ length w.nodes = omega arith in
+        subst (λ z. MatchesAt M w g.opening z (done_in w z) net) q m,
+  )
   run_all (suc n) x e net m =
       let first = place_step M w g.chain g.opening g.counted g.numbered x (omega arith) net m in
-      let rest = run_all n (suc x) (omega arith) first.0 first.2 in
-      (rest.0, run_append M (move_at w x) (flat_map (move_at w) (numbers_from (suc x) n)) net first.0 first.1 ∙ rest.1, rest.2)
+      let rest = run_all n (suc x) (omega arith) first.0 first.2 in (
+        rest.0,
+        run_append M (move_at w x) (flat_map (move_at w) (numbers_from (suc x) n)) net first.0 first.1 ∙ rest.1,
+        rest.2,
+      )
 
   abbrev start : Network S
   start = record { workers = map (new_worker M) (opening_seats w); packets = [] }
@@ -82,9 +97,12 @@ module _ {S : Type 0} (M : Meaning S) (w : World) (g : Invariant M w) where
 
   starts : MatchesAt M w g.opening 0 (done_in w 0) start
   starts = record {
-    count = length-map (opening_seats w) (new_worker M) ∙ ap length opens ∙ seats_length g.opening (map (λ m. m.seat) w.members) enough;
-    work = λ u h. rw (no_front w (path_of (slice_get w.members u))) (at_map (new_worker M) (opening_seats w) u (seat_in w u)
-        (ap (λ z. slice_get z u) opens ∙ take_get (map (λ m. m.seat) w.members) g.opening u (seat_in w u) h (seat_get u (let t = g.counted.within in omega arith))));
+    count = length-map (opening_seats w) (new_worker M)
+        ∙ ap length opens ∙ seats_length g.opening (map (λ m. m.seat) w.members) enough;
+    work = λ u h. rw (no_front w (path_of (slice_get w.members u)))
+        (at_map (new_worker M) (opening_seats w) u (seat_in w u)
+        (ap (λ z. slice_get z u) opens ∙ take_get (map (λ m. m.seat) w.members)
+        g.opening u (seat_in w u) h (seat_get u (let t = g.counted.within in omega arith))));
     queue = λ v u. rw (no_front w (path_of (slice_get w.members u)), no_front w (path_of (slice_get w.members v))) refl;
     enough = λ v u. rw (no_front w (path_of (slice_get w.members u))) (omega arith);
   }
@@ -93,29 +111,36 @@ module _ {S : Type 0} (M : Meaning S) (w : World) (g : Invariant M w) where
       enough = let t = g.counted.within in let z = length-map w.members (λ m. m.seat) in omega arith
 
       seat_get : (u : ℕ) → u < length w.members → slice_get (map (λ m. m.seat) w.members) u ≡ Some (seat_in w u)
-      seat_get u h = let m = get_below w.members u h in at_map (λ m. m.seat) w.members u m.0 m.1 ∙ ap (λ z. Some (seat_of z)) (sym m.1)
+      seat_get u h = let m = get_below w.members u h in
+          at_map (λ m. m.seat) w.members u m.0 m.1 ∙ ap (λ z. Some (seat_of z)) (sym m.1)
 
-  ran : (final : Network S) × (failure_free M (opening_seats w) (certificate w) ≡ Ok final) × MatchesAt M w g.opening (length w.nodes) (done_in w (length w.nodes)) final
+  ran : (final : Network S) × (failure_free M (opening_seats w) (certificate w) ≡ Ok final)
+      × MatchesAt M w g.opening (length w.nodes) (done_in w (length w.nodes)) final
   ran = run_all (length w.nodes) 0 (omega arith) start starts
 
   -- ---- what the run leaves
 
-  done_all : (u : ℕ) (m : Member) → slice_get w.members u ≡ Some m → done_in w (length w.nodes) u ≡ take_while (is_firm w) m.path
+  done_all : (u : ℕ) (m : Member)
+      → slice_get w.members u ≡ Some m → done_in w (length w.nodes) u ≡ take_while (is_firm w) m.path
   done_all u m found = ap (λ z. front w (length w.nodes) (path_of z)) found
-      ∙ same_front _ _ m.path (λ j y e. let h = (g.chain.sound.units u m found).made j y e in rw (true_lt y (length w.nodes) h) (both_true (is_firm w y)))
+      ∙ same_front _ _ m.path (λ j y e. let h = (g.chain.sound.units u m found).made j y e in
+      rw (true_lt y (length w.nodes) h) (both_true (is_firm w y)))
     where
       both_true : (b : Bool) → (b && true) ≡ b
       both_true true = refl
       both_true false = refl
 
-  front_stable : (u : ℕ) (m : Member) → slice_get w.members u ≡ Some m → IsPrefix (take_while (is_firm w) m.path) (stable_path m)
+  front_stable : (u : ℕ) (m : Member)
+      → slice_get w.members u ≡ Some m → IsPrefix (take_while (is_firm w) m.path) (stable_path m)
   front_stable u m found = prefix_at _ _ (λ i x e.
       let s = g.chain.sound.units u m found in
       let t = get_take_while (is_firm w) m.path i x e in
-      let k = firm_on w g.chain.sound u i x m found (s.made i x t.0) (take_while_passes (is_firm w) m.path i x e) (s.own i x t.0) (s.indexed i x t.0) in
+      let k = firm_on w g.chain.sound u i
+      x m found (s.made i x t.0) (take_while_passes (is_firm w) m.path i x e) (s.own i x t.0) (s.indexed i x t.0) in
       take_get m.path m.stable i x k.1 t.0)
 
-  one_fits : (u : ℕ) (m : Member) (a : Worker S) → slice_get w.members u ≡ Some m → slice_get ran.0.workers u ≡ Some a → IsPrefix a.received (logged M w m) × IsPrefix m.released a.outputs
+  one_fits : (u : ℕ) (m : Member) (a : Worker S) → slice_get w.members u ≡ Some m
+      → slice_get ran.0.workers u ≡ Some a → IsPrefix a.received (logged M w m) × IsPrefix m.released a.outputs
   one_fits u m a found has_a =
       let within = slice_get_within w.members u m found in
       let is : worker M (receipts_in M w) u (done_in w (length w.nodes) u) ≡ a =
@@ -123,18 +148,22 @@ module _ {S : Type 0} (M : Meaning S) (w : World) (g : Invariant M w) where
       let done = done_all u m found in (
         subst (λ z. IsPrefix z.received (logged M w m)) is
             (subst (λ z. IsPrefix (flat_map (receipt M (receipts_in M w)) z) (logged M w m)) (sym done)
-            (prefix_flat (receipt M (receipts_in M w)) (take_while (is_firm w) m.path) (stable_path m) (front_stable u m found))),
+            (prefix_flat (receipt M (receipts_in M w))
+            (take_while (is_firm w) m.path) (stable_path m) (front_stable u m found))),
         subst (λ z. IsPrefix m.released z.outputs) is
             (subst (λ z. IsPrefix m.released (flat_map (λ x. (turn_in M w x).outputs) z)) (sym done)
-            (subst (IsPrefix m.released) (flat_same (λ x. (from_end (executed M w).turns x (begun M m.seat)).outputs) (λ x. (turn_in M w x).outputs) (take_while (is_firm w) m.path)
+            (subst (IsPrefix m.released) (flat_same (λ x. (from_end (executed M w).turns x (begun M m.seat)).outputs)
+            (λ x. (turn_in M w x).outputs) (take_while (is_firm w) m.path)
             (λ i x e. let h = (g.chain.sound.units u m found).made i x (get_take_while (is_firm w) m.path i x e).0 in
             let size = turns_length M w.nodes in
-            ap (λ z. z.outputs) (from_end_default (executed M w).turns x (begun M m.seat) (begun M (seat_in w (node_at w.nodes x).unit)) (omega arith))))
+            ap (λ z. z.outputs) (from_end_default (executed M w).turns
+            x (begun M m.seat) (begun M (seat_in w (node_at w.nodes x).unit)) (omega arith))))
             (g.released u m found))),
       )
 
   fits_all : (workers : List (Worker S)) (members : List Member) → length workers ≡ length members
-      → ((u : ℕ) (m : Member) (a : Worker S) → slice_get members u ≡ Some m → slice_get workers u ≡ Some a → IsPrefix a.received (logged M w m) × IsPrefix m.released a.outputs)
+      → ((u : ℕ) (m : Member) (a : Worker S) → slice_get members u ≡ Some m
+      → slice_get workers u ≡ Some a → IsPrefix a.received (logged M w m) × IsPrefix m.released a.outputs)
       → FitsAll M w workers members × BeginWith workers (map (λ m. m.released) members)
   fits_all [] [] e h = (tt, tt)
   fits_all (a ∷ workers) [] e h = absurd (omega arith)
@@ -166,17 +195,18 @@ module _ {S : Type 0} (M : Meaning S) where
 
   -- it holds of a world just opened
   pub first_invariant : (step : TenantStep) (w : World) → (step_unopened M step).world ≡ Some w → Invariant M w
-  first_invariant step w e = let k = first_counted M step w e in let c = first_chain M step w e in let r = no_letters k in record {
-    chain = c;
-    opening = k.units;
-    counted = k.counted;
-    numbered = r;
-    released = λ u m f. rw (k.unreleased u m f) (firm_outputs M w m, refl);
-    linked = λ x p f. absurd (
-        let has_p = has_before (node_at w.nodes x).before (sender_of (node_at w.nodes x).cause) p f in
-        let h = parent_within w.nodes x p has_p in
-        let z = rw (began_alone M w c k.units k.counted r x h (k.all_began x h)) at has_p in cc z);
-  }
+  first_invariant step w e = let k = first_counted M step w e in
+      let c = first_chain M step w e in let r = no_letters k in record {
+        chain = c;
+        opening = k.units;
+        counted = k.counted;
+        numbered = r;
+        released = λ u m f. rw (k.unreleased u m f) (firm_outputs M w m, refl);
+        linked = λ x p f. absurd (
+            let has_p = has_before (node_at w.nodes x).before (sender_of (node_at w.nodes x).cause) p f in
+            let h = parent_within w.nodes x p has_p in
+            let z = rw (began_alone M w c k.units k.counted r x h (k.all_began x h)) at has_p in cc z);
+      }
     where
       no_letters : Begun w → Numbered (executed M w).letters w.nodes
       no_letters k x l s h f = let t = k.all_began x h in absurd (let q = rw f at t in cc q)
@@ -184,7 +214,8 @@ module _ {S : Type 0} (M : Meaning S) where
   -- it holds of every world that the tenant can come to
   pub reachable_invariant : {w : World} → Reachable M w → Invariant M w
   reachable_invariant {w} (opened e h) = first_invariant e.step w h
-  reachable_invariant {w} (stepped {v = v} e r h) = invariant_change (reachable_invariant r) (step_changes M v w e.step e.said h)
+  reachable_invariant {w} (stepped {v = v} e r h) =
+      invariant_change (reachable_invariant r) (step_changes M v w e.step e.said h)
 
   -- the certificate holds of every world
   pub certificate_law : CertificateLaw M

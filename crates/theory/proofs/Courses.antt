@@ -1,5 +1,6 @@
 -- The laws over whole courses of steps.
-use Rattle.std.proofs.Common.{◌≡◌, refl, sym, ◌∙◌, ap, subst, ℕ, ◌<◌, Bool, true, false, cond, List, [], ◌∷◌, ◌++◌, length}
+use Rattle.std.proofs.Common.{◌≡◌, refl, sym, ◌∙◌, ap, subst, ℕ, ◌<◌, Bool, true, false, cond, List, [], ◌∷◌, ◌++◌}
+use Rattle.std.proofs.Common.{length}
 use Rattle.std.specs.Prelude.{Option, Some, None, slice_get, nat_lt}
 use Rattle.std.proofs.lemmas.List.{append-nil}
 use Rattle.std.proofs.lemmas.Option.{same_Some}
@@ -7,11 +8,13 @@ use mathlib.Core.List.{IsPrefix}
 use Rattle.model.specs.declared.refusals.Refusal.{Refusal}
 use Rattle.model.specs.declared.replies.Said.{Said}
 use Rattle.model.specs.declared.steps.TenantStep.{TenantStep}
-use Rattle.model.specs.declared.steps.TenantStep.TheVariants.{Open, Join, Post, Deliver, Flush, Checkpoint, Kill, Restart, Notice, Release, Status}
+use Rattle.model.specs.declared.steps.TenantStep.TheVariants.{Open, Join, Post, Deliver, Flush, Checkpoint, Kill}
+use Rattle.model.specs.declared.steps.TenantStep.TheVariants.{Restart, Notice, Release, Status}
 use Rattle.model.specs.Handler.{Meaning}
 use Rattle.model.specs.Nodes.{Message}
 use Rattle.model.specs.World.{World, Member, executed, is_firm}
-use Rattle.model.specs.Steps.{Outcome, first_refusal, outcome_or, unless, if_unit, at_unit, at_up, if_letter, notice_orphan, notice_rows, path_kept, join_kind}
+use Rattle.model.specs.Steps.{Outcome, first_refusal, outcome_or, unless, if_unit, at_unit, at_up, if_letter}
+use Rattle.model.specs.Steps.{notice_orphan, notice_rows, path_kept, join_kind}
 use Rattle.model.specs.Alone.{Event, step, step_open, course_from, Reachable}
 use Rattle.model.specs.Alone.Reachable.{opened, stepped}
 use Rattle.theory.specs.Laws.{CoursesReach, StaysOpen, ReleasedStay}
@@ -84,11 +87,13 @@ module _ {S : Type 0} (M : Meaning S) where
       let rest = open_after events o.0 in
       (rest.0, ap (λ z. (course_from M z events).world) o.1 ∙ rest.1)
 
-  step_reaches : (o : Option World) → ((v : World) → o ≡ Some v → Reachable M v) → (e : Event) (w : World) → (step M o e).world ≡ Some w → Reachable M w
+  step_reaches : (o : Option World) → ((v : World) → o ≡ Some v → Reachable M v)
+      → (e : Event) (w : World) → (step M o e).world ≡ Some w → Reachable M w
   step_reaches None h e w k = opened e k
   step_reaches (Some v) h e w k = stepped e (h v refl) k
 
-  course_reaches : (events : List Event) (o : Option World) → ((v : World) → o ≡ Some v → Reachable M v) → (w : World) → (course_from M o events).world ≡ Some w → Reachable M w
+  course_reaches : (events : List Event) (o : Option World) → ((v : World) → o ≡ Some v → Reachable M v)
+      → (w : World) → (course_from M o events).world ≡ Some w → Reachable M w
   course_reaches [] o h w k = h w k
   course_reaches (e ∷ events) o h w k = course_reaches events (step M o e).world (λ v f. step_reaches o h e v f) w k
 
@@ -96,16 +101,20 @@ module _ {S : Type 0} (M : Meaning S) where
   pub courses_reach : CoursesReach M
   courses_reach events w k = course_reaches events None (λ v e. absurd (cc e)) w k
 
-  course_append : (a b : List Event) (o : Option World) → (course_from M o (a ++ b)).world ≡ (course_from M (course_from M o a).world b).world
+  course_append : (a b : List Event) (o : Option World)
+      → (course_from M o (a ++ b)).world ≡ (course_from M (course_from M o a).world b).world
   course_append [] b o = refl
   course_append (e ∷ a) b o = course_append a b (step M o e).world
 
   abbrev Later : World → World → Type 0
-  Later v w = ((u : ℕ) (m : Member) → slice_get v.members u ≡ Some m → (n : Member) × (slice_get w.members u ≡ Some n) × IsPrefix m.released n.released)
+  Later v w = ((u : ℕ) (m : Member) → slice_get v.members u ≡ Some m
+      → (n : Member) × (slice_get w.members u ≡ Some n) × IsPrefix m.released n.released)
       × ((x : ℕ) → x < length v.nodes → (x < length w.nodes) × (is_firm v x ≡ true → is_firm w x ≡ true))
 
-  later : (events : List Event) (v w : World) → Reachable M v → (course_from M (Some v) events).world ≡ Some w → Later v w
-  later [] v w r k = let is : v ≡ w = same_Some v w k in subst (λ z. Later v z) is ((λ u m f. (m, f, ([], append-nil m.released))), (λ x h. (h, λ e. e)))
+  later : (events : List Event) (v w : World)
+      → Reachable M v → (course_from M (Some v) events).world ≡ Some w → Later v w
+  later [] v w r k = let is : v ≡ w = same_Some v w k in
+      subst (λ z. Later v z) is ((λ u m f. (m, f, ([], append-nil m.released))), (λ x h. (h, λ e. e)))
   later (e ∷ events) v w r k =
       let o = stays_open v e in
       let rest = later events o.0 w (stepped e r o.1) (ap (λ z. (course_from M z events).world) (sym o.1) ∙ k) in (
@@ -122,5 +131,6 @@ module _ {S : Type 0} (M : Meaning S) where
   -- what is released or firm stays so over all further steps
   pub released_stay : ReleasedStay M
   released_stay before after v w k h =
-      let l = later after v w (courses_reach before v k) (ap (λ z. (course_from M z after).world) (sym k) ∙ sym (course_append before after None) ∙ h) in
+      let l = later after v w (courses_reach before v k) (ap (λ z. (course_from M z after).world) (sym k)
+      ∙ sym (course_append before after None) ∙ h) in
       (l.0, λ x i firm. (l.1 x i).1 firm)

@@ -1,5 +1,6 @@
 -- The greatest marks of a past tell whether it is stable.
-use Rattle.std.proofs.Common.{◌≡◌, inl, inr, refl, sym, ◌∙◌, ap, subst, ℕ, zero, suc, ◌+◌, ◌<◌, ◌≤◌, Bool, true, false, not, length, arith, map}
+use Rattle.std.proofs.Common.{◌≡◌, inl, inr, refl, sym, ◌∙◌, ap, subst, ℕ, zero, suc, ◌+◌, ◌<◌, ◌≤◌, Bool, true, false}
+use Rattle.std.proofs.Common.{not, length, arith, map}
 use Rattle.std.proofs.lemmas.Option.{same_Some}
 use Rattle.std.specs.Prelude.{Some, slice_get, ◌==◌, nat_lt}
 use Rattle.std.specs.List.{list_any, filter}
@@ -11,7 +12,8 @@ use Rattle.model.specs.Nodes.{node_at, past, DependsOn}
 use Rattle.model.specs.World.{World, Member, is_firm, is_stable, mark_of, mark_lost, greatest_mark, past_nodes, no_mark}
 use Rattle.model.proofs.Places.{get_below}
 use Rattle.theory.specs.Laws.{any_mark, stable_of, mark_stable, FirmByVector, UnstableByVector}
-use Rattle.theory.proofs.ListLaws.{bool_cases, or_cases, any_at, has_at, at_has, map_at, and_both, both_and, true_lt, lt_true, true_eq, eq_true, has_all, all_has, not_true, filtered_at}
+use Rattle.theory.proofs.ListLaws.{bool_cases, or_cases, any_at, has_at, at_has, map_at, and_both, both_and, true_lt}
+use Rattle.theory.proofs.ListLaws.{lt_true, true_eq, eq_true, has_all, all_has, not_true, filtered_at}
 use Rattle.theory.proofs.Pasts.{depends_le, depends_past, past_depends}
 use Rattle.theory.proofs.Firm.{stable_stands, stands_stable}
 use Rattle.theory.proofs.RowLaws.{Loses, loses_absurd}
@@ -28,7 +30,8 @@ use Rattle.theory.proofs.Certificate.{Invariant, reachable_invariant}
 
 module _ (w : World) (c : Chain w) (linked : Linked w.nodes) where
   -- a node within its unit's stable length that no row loses is stable
-  index_stable : (y u : ℕ) (m : Member) → y < length w.nodes → (node_at w.nodes y).unit ≡ u → slice_get w.members u ≡ Some m → (node_at w.nodes y).index < m.stable → ¬ Loses w.table (node_at w.nodes y)
+  index_stable : (y u : ℕ) (m : Member) → y < length w.nodes → (node_at w.nodes y).unit ≡ u
+      → slice_get w.members u ≡ Some m → (node_at w.nodes y).index < m.stable → ¬ Loses w.table (node_at w.nodes y)
       → slice_get m.path (node_at w.nodes y).index ≡ Some y
   index_stable y u m yin own found low safe = elim ((c.units u m found).whereabouts y yin own) [
     | on_path e ↦ e
@@ -36,11 +39,14 @@ module _ (w : World) (c : Chain w) (linked : Linked w.nodes) where
     | cut_off dn high ↦ absurd (let t = (c.sound.units u m found).logged in omega arith)
   ]
 
-  at_stable : (u : ℕ) (m : Member) (i y : ℕ) → slice_get w.members u ≡ Some m → slice_get m.path i ≡ Some y → i < m.stable → is_stable w.members y ≡ true
-  at_stable u m i y found on low = stands_stable w.members y (record { unit = u; member = m; place = i; found = found; on_path = on; logged = low })
+  at_stable : (u : ℕ) (m : Member) (i y : ℕ)
+      → slice_get w.members u ≡ Some m → slice_get m.path i ≡ Some y → i < m.stable → is_stable w.members y ≡ true
+  at_stable u m i y found on low =
+      stands_stable w.members y (record { unit = u; member = m; place = i; found = found; on_path = on; logged = low })
 
   -- where the greatest mark of a unit is stable, all its nodes in the past are
-  mark_all : (x u y : ℕ) (m : Member) → x < length w.nodes → slice_get w.members u ≡ Some m → mark_stable w u (greatest_mark (past_nodes w.nodes x) u) ≡ true
+  mark_all : (x u y : ℕ) (m : Member) → x < length w.nodes
+      → slice_get w.members u ≡ Some m → mark_stable w u (greatest_mark (past_nodes w.nodes x) u) ≡ true
       → DependsOn w.nodes x y → (node_at w.nodes y).unit ≡ u → is_stable w.members y ≡ true
   mark_all x u y m xin found e d own =
       let g = greatest_mark (past_nodes w.nodes x) u in
@@ -50,12 +56,18 @@ module _ (w : World) (c : Chain w) (linked : Linked w.nodes) where
       let low : g.index < m.stable = (let t = rw found at b.0 in lt_true g.index m.stable t) in
       let kept : mark_lost w.table u g ≡ false = not_true (mark_lost w.table u g) b.1 in
       let under : MarkLe (mark_of (node_at w.nodes y)) g = greatest_above w.nodes c.sound.placed x u y xin d own in
-      let same_mark : (node_at w.nodes y).incarnation ≡ g.incarnation → (node_at w.nodes y).index ≡ g.index → is_stable w.members y ≡ true = λ p q.
+      let same_mark : (node_at w.nodes y).incarnation ≡ g.incarnation
+      → (node_at w.nodes y).index ≡ g.index → is_stable w.members y ≡ true = λ p q.
       at_stable u m (node_at w.nodes y).index y found
-      (index_stable y u m yin own found (omega arith) (λ l. let t = mark_is_lost w.table u g (l.at_place, (l.row, l.found, l.of_unit ∙ own, omega (arith, l.later, p), omega (arith, l.before, q))) in absurd (cc (t, kept))))
+      (index_stable y u m yin own found (omega arith) (λ l. let t = mark_is_lost w.table u g (
+        l.at_place,
+        (l.row, l.found, l.of_unit ∙ own, omega (arith, l.later, p), omega (arith, l.before, q)),
+      ) in
+      absurd (cc (t, kept))))
       (omega arith) in
       elim (greatest_attained (past_nodes w.nodes x) no_mark u) [
-        | inl is ↦ let p : g.incarnation ≡ 0 = ap (λ z. z.incarnation) is in let q : g.index ≡ 0 = ap (λ z. z.index) is in same_mark (omega (arith, under, p, q)) (omega (arith, under, p, q))
+        | inl is ↦ let p : g.incarnation ≡ 0 = ap (λ z. z.incarnation) is in let q : g.index ≡ 0 =
+            ap (λ z. z.index) is in same_mark (omega (arith, under, p, q)) (omega (arith, under, p, q))
         | inr t ↦
             let r = map_at (node_at w.nodes) (past w.nodes x) t.place t.node t.found in
             let y0 = r.0 in
@@ -67,20 +79,33 @@ module _ (w : World) (c : Chain w) (linked : Linked w.nodes) where
             let q : (node_at w.nodes y0).index ≡ g.index = ap (λ z. z.index) is in
             elim (chain_law w c x y0 y xin d0 d (own0 ∙ sym own)) [
               | inl l ↦
-                  let on = index_stable y0 u m (omega arith) own0 found (omega arith) (λ z. let k = mark_is_lost w.table u g (z.at_place, (z.row, z.found, z.of_unit ∙ own0, omega (arith, z.later, p), omega (arith, z.before, q))) in absurd (cc (k, kept))) in
+                  let on = index_stable y0 u m (omega arith) own0 found (omega arith) (λ z. let k =
+                  mark_is_lost w.table u g (
+                    z.at_place,
+                    (
+                      z.row,
+                      z.found,
+                      z.of_unit ∙ own0,
+                      omega (arith, z.later, p),
+                      omega (arith, z.before, q),
+                    ),
+                  ) in absurd (cc (k, kept))) in
                   let j = line_on_path (c.sound.units u m found) (node_at w.nodes y0).index on l in
                   at_stable u m j.0 y found j.2 (omega (arith, j.1))
               | inr l ↦
                   let k = line_rises linked l in
-                  same_mark (omega (arith, k.incarnation, under, p, q)) (omega (arith, k.incarnation, k.index, under, p, q))
+                  same_mark (omega (arith, k.incarnation, under, p, q))
+                  (omega (arith, k.incarnation, k.index, under, p, q))
             ]
       ]
 
   -- where all are, so is the greatest mark
-  all_mark : (x u : ℕ) (m : Member) → x < length w.nodes → slice_get w.members u ≡ Some m → ((y : ℕ) → DependsOn w.nodes x y → (node_at w.nodes y).unit ≡ u → is_stable w.members y ≡ true)
+  all_mark : (x u : ℕ) (m : Member) → x < length w.nodes → slice_get w.members u ≡ Some m
+      → ((y : ℕ) → DependsOn w.nodes x y → (node_at w.nodes y).unit ≡ u → is_stable w.members y ≡ true)
       → mark_stable w u (greatest_mark (past_nodes w.nodes x) u) ≡ true
   all_mark x u m xin found all = elim (greatest_attained (past_nodes w.nodes x) no_mark u) [
-    | inl is ↦ passes 0 0 (ap (λ z. z.incarnation) is) (ap (λ z. z.index) is) (let t = (c.sound.units u m found).begun in omega arith)
+    | inl is ↦ passes 0 0 (ap (λ z. z.incarnation) is) (ap (λ z. z.index) is) (let t =
+        (c.sound.units u m found).begun in omega arith)
         (λ l. let t = c.sound.starts l.0 l.1.0 l.1.1 in let z = l.1.4 in omega (arith, ap (λ z. z.index) is))
     | inr t ↦
         let r = map_at (node_at w.nodes) (past w.nodes x) t.place t.node t.found in
@@ -88,7 +113,8 @@ module _ (w : World) (c : Chain w) (linked : Linked w.nodes) where
         let d = past_depends w.nodes x y (at_has (past w.nodes x) t.place y r.1) in
         let own : (node_at w.nodes y).unit ≡ u = ap (λ z. z.unit) (sym r.2) ∙ t.own in
         let is : mark_of (node_at w.nodes y) ≡ greatest_mark (past_nodes w.nodes x) u = ap mark_of (sym r.2) ∙ t.is in
-        let p : (node_at w.nodes y).incarnation ≡ (greatest_mark (past_nodes w.nodes x) u).incarnation = ap (λ z. z.incarnation) is in
+        let p : (node_at w.nodes y).incarnation ≡ (greatest_mark (past_nodes w.nodes x) u).incarnation =
+        ap (λ z. z.incarnation) is in
         let q : (node_at w.nodes y).index ≡ (greatest_mark (past_nodes w.nodes x) u).index = ap (λ z. z.index) is in
         let st = stable_stands w.members y (all y d own) in
         let s = c.sound.units st.unit st.member st.found in
@@ -98,20 +124,31 @@ module _ (w : World) (c : Chain w) (linked : Linked w.nodes) where
         let low : st.place < m.stable = subst (λ z. st.place < z.stable) member st.logged in
         passes (node_at w.nodes y).incarnation (node_at w.nodes y).index (sym p) (sym q) (omega arith)
         (λ l. loses_absurd w.table (node_at w.nodes y) (s.kept st.place y st.on_path)
-        (record { at_place = l.0; row = l.1.0; found = l.1.1; of_unit = l.1.2 ∙ sym own; later = let a = l.1.3 in omega arith; before = let a = l.1.4 in omega arith }))
+        (record {
+          at_place = l.0;
+          row = l.1.0;
+          found = l.1.1;
+          of_unit = l.1.2 ∙ sym own;
+          later = let a = l.1.3 in omega arith;
+          before = let a = l.1.4 in omega arith;
+        }))
   ]
     where
-      passes : (a i : ℕ) → (greatest_mark (past_nodes w.nodes x) u).incarnation ≡ a → (greatest_mark (past_nodes w.nodes x) u).index ≡ i → i < m.stable → ¬ LosesMark w.table u (greatest_mark (past_nodes w.nodes x) u)
+      passes : (a i : ℕ) → (greatest_mark (past_nodes w.nodes x) u).incarnation ≡ a
+          → (greatest_mark (past_nodes w.nodes x) u).index ≡ i
+          → i < m.stable → ¬ LosesMark w.table u (greatest_mark (past_nodes w.nodes x) u)
           → mark_stable w u (greatest_mark (past_nodes w.nodes x) u) ≡ true
       passes a i p q low safe =
-          both_and (nat_lt (greatest_mark (past_nodes w.nodes x) u).index (stable_of (slice_get w.members u))) (not (mark_lost w.table u (greatest_mark (past_nodes w.nodes x) u)))
+          both_and (nat_lt (greatest_mark (past_nodes w.nodes x) u).index (stable_of (slice_get w.members u)))
+          (not (mark_lost w.table u (greatest_mark (past_nodes w.nodes x) u)))
           (rw found (true_lt (greatest_mark (past_nodes w.nodes x) u).index m.stable (omega arith)))
           (elim (bool_cases (mark_lost w.table u (greatest_mark (past_nodes w.nodes x) u))) [
             | inr e ↦ ap not e
             | inl e ↦ absurd (safe (lost_mark w.table u (greatest_mark (past_nodes w.nodes x) u) e))
           ])
 
-from_any_below : (p : ℕ → Mark → Bool) (f : ℕ → Mark) (n u : ℕ) → any_mark p u (map f (numbers_from u n)) ≡ true → (v : ℕ) × (v < u + n) × (p v (f v) ≡ true)
+from_any_below : (p : ℕ → Mark → Bool) (f : ℕ → Mark) (n u : ℕ)
+    → any_mark p u (map f (numbers_from u n)) ≡ true → (v : ℕ) × (v < u + n) × (p v (f v) ≡ true)
 from_any_below p f zero u e = absurd (cc e)
 from_any_below p f (suc n) u e = elim (or_cases (p u (f u)) (any_mark p (suc u) (map f (numbers_from (suc u) n))) e) [
   | inl h ↦ (u, omega arith, h)
@@ -120,11 +157,13 @@ from_any_below p f (suc n) u e = elim (or_cases (p u (f u)) (any_mark p (suc u) 
 
 module _ {S : Type 0} (M : Meaning S) where
   -- a node had no more units than there are
-  pub units_within : (w : World) (g : Invariant M w) (x : ℕ) → x < length w.nodes → (node_at w.nodes x).units ≤ length w.members
+  pub units_within : (w : World) (g : Invariant M w) (x : ℕ)
+      → x < length w.nodes → (node_at w.nodes x).units ≤ length w.members
   units_within w g x h =
       let k = g.counted in
       elim (bool_cases (is_began (node_at w.nodes x).cause)) [
-        | inr b ↦ let t = k.others x h b in let z = k.total in let le = units_step_le g.opening w.nodes x (length w.nodes) (omega arith) in omega arith
+        | inr b ↦ let t = k.others x h b in
+            let z = k.total in let le = units_step_le g.opening w.nodes x (length w.nodes) (omega arith) in omega arith
         | inl b ↦ elim (dec_lt x g.opening) [
           | yes low ↦ let t = k.first_units x low in let z = k.within in omega arith
           | no high ↦ let t = k.joined_units x h (omega arith) b in let z = g.chain.owned x h in omega arith
@@ -146,7 +185,9 @@ module _ {S : Type 0} (M : Meaning S) where
             let v = from_any_below test marks n 0 e in
             let within = units_within w g x h in
             let q = get_below w.members v.0 (omega (arith, v.1)) in
-            let all = all_mark w c g.linked x v.0 q.0 h q.1 (λ y d own. let le = depends_le c.sound.placed d in all_has (is_stable w.members) (past w.nodes x) firm y (depends_past w.nodes c.sound.placed x y d (omega arith))) in
+            let all = all_mark w c g.linked x v.0 q.0 h q.1 (λ y d own. let le = depends_le c.sound.placed d in
+            all_has (is_stable w.members) (past w.nodes x)
+            firm y (depends_past w.nodes c.sound.placed x y d (omega arith))) in
             let no = not_true (mark_stable w v.0 (marks v.0)) v.2 in
             absurd (cc (all, no))
       ])
@@ -190,7 +231,8 @@ module _ {S : Type 0} (M : Meaning S) where
               | inr k ↦ absurd (
                   let le = depends_le c.sound.placed d in
                   let at = has_at (past w.nodes x) y (depends_past w.nodes c.sound.placed x y d (omega arith)) in
-                  let some = any_filter lax of_unit (past w.nodes x) at.0 y at.1 (ap not k) (true_eq (node_at w.nodes y).unit u own) in cc (some, q))
+                  let some = any_filter lax of_unit
+                  (past w.nodes x) at.0 y at.1 (ap not k) (true_eq (node_at w.nodes y).unit u own) in cc (some, q))
             ]) in
             let no = not_true (mark_stable w u mark) e in cc (all, no))
       ])

@@ -25,3 +25,4 @@ pub mod Courses
 pub mod VectorJoin
 pub mod FirmVector
 pub mod States
+pub mod Limits

@@ -1,5 +1,6 @@
 -- The computed past is the least set: it is the relation.
-use Rattle.std.proofs.Common.{◌≡◌, ◌≢◌, ◌⊎◌, inl, inr, refl, ◌∙◌, ℕ, suc, ◌<◌, ◌≤◌, Bool, true, false, cond, List, [], ◌∷◌, ◌++◌, length, arith, ne_eqb}
+use Rattle.std.proofs.Common.{◌≡◌, ◌≢◌, ◌⊎◌, inl, inr, refl, ◌∙◌, ℕ, suc, ◌<◌, ◌≤◌, Bool, true, false, cond, List, []}
+use Rattle.std.proofs.Common.{◌∷◌, ◌++◌, length, arith, ne_eqb}
 use Rattle.std.specs.Prelude.{◌==◌}
 use native.Mathlib.Decide.{dec_lt}
 use Rattle.model.specs.Lists.{has}
@@ -46,7 +47,8 @@ placed_older n older placed x p e =
     placed x p (rw (node_older n older x (omega arith)) e)
 
 -- the first step of a dependence
-pub first_step : {nodes : List Node} {x y : ℕ} → DependsOn nodes x y → (x ≡ y) ⊎ ((p : ℕ) × (has (parents (node_at nodes x)) p ≡ true) × DependsOn nodes p y)
+pub first_step : {nodes : List Node} {x y : ℕ}
+    → DependsOn nodes x y → (x ≡ y) ⊎ ((p : ℕ) × (has (parents (node_at nodes x)) p ≡ true) × DependsOn nodes p y)
 first_step itself = inl refl
 first_step {nodes} {x} (through {y = y} {z = z} d h) = elim (first_step d) [
   | inl e ↦ inr (z, rw e h, itself)
@@ -54,7 +56,8 @@ first_step {nodes} {x} (through {y = y} {z = z} d h) = elim (first_step d) [
 ]
 
 -- what a parent depends on, the node does
-pub from_parent : {nodes : List Node} {x p y : ℕ} → has (parents (node_at nodes x)) p ≡ true → DependsOn nodes p y → DependsOn nodes x y
+pub from_parent : {nodes : List Node} {x p y : ℕ}
+    → has (parents (node_at nodes x)) p ≡ true → DependsOn nodes p y → DependsOn nodes x y
 from_parent h itself = through itself h
 from_parent h (through d k) = through (from_parent h d) k
 
@@ -76,7 +79,8 @@ depends_more {older} n (through {y = y} {z = z} d h) =
     through (depends_more n d) (rw (node_older n older y (omega arith)) h)
 
 -- an older node depends on older nodes alone
-pub depends_less : {older : List Node} (n : Node) {x y : ℕ} → Placed (n ∷ older) → x < length older → DependsOn (n ∷ older) x y → DependsOn older x y
+pub depends_less : {older : List Node} (n : Node) {x y : ℕ}
+    → Placed (n ∷ older) → x < length older → DependsOn (n ∷ older) x y → DependsOn older x y
 depends_less n placed h itself = itself
 depends_less {older} n placed h (through {y = y} {z = z} d k) =
     let below = depends_le placed d in
@@ -89,34 +93,43 @@ Found nodes wanted y = (w : ℕ) × (has wanted w ≡ true) × DependsOn nodes w
 abbrev AllFound : List Node → Type 0
 AllFound nodes = (wanted : List ℕ) (y : ℕ) → has (past_of_all nodes wanted) y ≡ true → Found nodes wanted y
 
-found_more : (n : Node) (older : List Node) (ps wanted : List ℕ) (y : ℕ) → ((p : ℕ) → has ps p ≡ true → Found (n ∷ older) wanted p) → Found older (ps ++ wanted) y → Found (n ∷ older) wanted y
+found_more : (n : Node) (older : List Node) (ps wanted : List ℕ) (y : ℕ) → ((p : ℕ)
+    → has ps p ≡ true → Found (n ∷ older) wanted p) → Found older (ps ++ wanted) y → Found (n ∷ older) wanted y
 found_more n older ps wanted y ok r =
     elim (has_append ps wanted r.0 r.1) [
       | inl q ↦ let t = ok r.0 q in (t.0, t.1, depends_trans t.2 (depends_more n r.2))
       | inr q ↦ (r.0, q, depends_more n r.2)
     ]
 
-found_step : (n : Node) (older : List Node) (wanted : List ℕ) (y : ℕ) → AllFound older → (b : Bool) → has wanted (length older) ≡ b → has (cond b (length older ∷ []) [] ++ past_of_all older (cond b (parents n) [] ++ wanted)) y ≡ true → Found (n ∷ older) wanted y
+found_step : (n : Node) (older : List Node) (wanted : List ℕ) (y : ℕ)
+    → AllFound older → (b : Bool) → has wanted (length older) ≡ b
+    → has (cond b (length older ∷ []) [] ++ past_of_all older (cond b (parents n) [] ++ wanted)) y ≡ true
+    → Found (n ∷ older) wanted y
 found_step n older wanted y sound false q h = found_more n older [] wanted y (λ p k. absurd (cc k)) (sound wanted y h)
-found_step n older wanted y sound true q h = elim (has_append (length older ∷ []) (past_of_all older (parents n ++ wanted)) y h) [
-  | inl k ↦ (length older, q, rw (← only y (length older) k) itself)
-  | inr k ↦ found_more n older (parents n) wanted y
-      (λ p t. (length older, q, from_parent (rw (node_newest n older (length older) refl) t) itself))
-      (sound (parents n ++ wanted) y k)
-]
+found_step n older wanted y sound true q h =
+    elim (has_append (length older ∷ []) (past_of_all older (parents n ++ wanted)) y h) [
+      | inl k ↦ (length older, q, rw (← only y (length older) k) itself)
+      | inr k ↦ found_more n older (parents n) wanted y
+          (λ p t. (length older, q, from_parent (rw (node_newest n older (length older) refl) t) itself))
+          (sound (parents n ++ wanted) y k)
+    ]
 
 computed_depends : (nodes : List Node) → AllFound nodes
 computed_depends [] wanted y e = absurd (cc e)
-computed_depends (n ∷ older) wanted y e = found_step n older wanted y (computed_depends older) (has wanted (length older)) refl e
+computed_depends (n ∷ older) wanted y e =
+    found_step n older wanted y (computed_depends older) (has wanted (length older)) refl e
 
 -- and each of those is computed
 abbrev AllComputed : List Node → Type 0
-AllComputed nodes = (wanted : List ℕ) (w y : ℕ) → has wanted w ≡ true → DependsOn nodes w y → y < length nodes → has (past_of_all nodes wanted) y ≡ true
+AllComputed nodes = (wanted : List ℕ) (w y : ℕ)
+    → has wanted w ≡ true → DependsOn nodes w y → y < length nodes → has (past_of_all nodes wanted) y ≡ true
 
-complete_at : (n : Node) (older : List Node) → Placed (n ∷ older) → AllComputed older → (wanted : List ℕ) (w y : ℕ) → w ≡ length older → DependsOn (n ∷ older) w y
+complete_at : (n : Node) (older : List Node) → Placed (n ∷ older)
+    → AllComputed older → (wanted : List ℕ) (w y : ℕ) → w ≡ length older → DependsOn (n ∷ older) w y
     → has ((length older ∷ []) ++ past_of_all older (parents n ++ wanted)) y ≡ true
 complete_at n older placed complete wanted w y e d = elim (first_step d) [
-  | inl q ↦ append_has (length older ∷ []) (past_of_all older (parents n ++ wanted)) y (inl (or_left (length older == y) false (let r : y ≡ length older = cc in rw r (eq_same (length older)))))
+  | inl q ↦ append_has (length older ∷ []) (past_of_all older (parents n ++ wanted))
+      y (inl (or_left (length older == y) false (let r : y ≡ length older = cc in rw r (eq_same (length older)))))
   | inr r ↦
       let before : r.0 < length older = rw e at (placed w r.0 r.1) in
       let rest : DependsOn older r.0 y = depends_less n placed before r.2 in
@@ -126,7 +139,8 @@ complete_at n older placed complete wanted w y e d = elim (first_step d) [
       (complete (parents n ++ wanted) r.0 y (append_has (parents n) wanted r.0 (inl hp)) rest (omega arith)))
 ]
 
-complete_below : (n : Node) (older : List Node) → Placed (n ∷ older) → AllComputed older → (front more wanted : List ℕ) (w y : ℕ) → has wanted w ≡ true → w < length older → DependsOn (n ∷ older) w y
+complete_below : (n : Node) (older : List Node) → Placed (n ∷ older) → AllComputed older
+    → (front more wanted : List ℕ) (w y : ℕ) → has wanted w ≡ true → w < length older → DependsOn (n ∷ older) w y
     → has (front ++ past_of_all older (more ++ wanted)) y ≡ true
 complete_below n older placed complete front more wanted w y hw below d =
     let le = depends_le placed d in
@@ -140,21 +154,25 @@ dependent_within {nodes} {x} {y} d h = elim (first_step d) [
   | inr r ↦ parent_within nodes x r.0 r.1
 ]
 
-complete_step : (n : Node) (older : List Node) → Placed (n ∷ older) → AllComputed older → (wanted : List ℕ) (w y : ℕ) → has wanted w ≡ true → DependsOn (n ∷ older) w y → y < suc (length older)
-    → (b : Bool) → has wanted (length older) ≡ b → has (cond b (length older ∷ []) [] ++ past_of_all older (cond b (parents n) [] ++ wanted)) y ≡ true
+complete_step : (n : Node) (older : List Node) → Placed (n ∷ older) → AllComputed older
+    → (wanted : List ℕ) (w y : ℕ) → has wanted w ≡ true → DependsOn (n ∷ older) w y → y < suc (length older)
+    → (b : Bool) → has wanted (length older) ≡ b
+    → has (cond b (length older ∷ []) [] ++ past_of_all older (cond b (parents n) [] ++ wanted)) y ≡ true
 complete_step n older placed complete wanted w y hw d within true q = elim (dec_lt w (length older)) [
   | yes h ↦ complete_below n older placed complete (length older ∷ []) (parents n) wanted w y hw h d
   | no h ↦ let top = dependent_within d within in complete_at n older placed complete wanted w y (omega arith) d
 ]
 complete_step n older placed complete wanted w y hw d within false q = elim (dec_lt w (length older)) [
   | yes h ↦ complete_below n older placed complete [] [] wanted w y hw h d
-  | no h ↦ let top = dependent_within d within in let e : w ≡ length older = omega arith in let k = rw e at hw in absurd (cc (q, k))
+  | no h ↦ let top = dependent_within d within in
+      let e : w ≡ length older = omega arith in let k = rw e at hw in absurd (cc (q, k))
 ]
 
 depends_computed : (nodes : List Node) → Placed nodes → AllComputed nodes
 depends_computed [] placed wanted w y hw d within = absurd (omega arith)
 depends_computed (n ∷ older) placed wanted w y hw d within =
-    complete_step n older placed (depends_computed older (placed_older n older placed)) wanted w y hw d within (has wanted (length older)) refl
+    complete_step n older placed
+    (depends_computed older (placed_older n older placed)) wanted w y hw d within (has wanted (length older)) refl
 
 -- the computed past of a node is just what it depends on
 pub past_depends : (nodes : List Node) (x y : ℕ) → has (past nodes x) y ≡ true → DependsOn nodes x y
@@ -163,6 +181,7 @@ past_depends nodes x y e =
     rw (only r.0 x r.1) r.2
 
 -- and all that a node depends on is in its past
-pub depends_past : (nodes : List Node) → Placed nodes → (x y : ℕ) → DependsOn nodes x y → y < length nodes → has (past nodes x) y ≡ true
+pub depends_past : (nodes : List Node)
+    → Placed nodes → (x y : ℕ) → DependsOn nodes x y → y < length nodes → has (past nodes x) y ≡ true
 depends_past nodes placed x y d within =
     depends_computed nodes placed (x ∷ []) x y (or_left (x == x) false (eq_same x)) d within

@@ -1,12 +1,14 @@
 -- Laws of the table of rows.
-use Rattle.std.proofs.Common.{◌≡◌, ◌⊎◌, inl, inr, refl, ℕ, zero, suc, ◌<◌, ◌≤◌, Bool, true, false, cond, max, ◌&&◌, List, [], ◌∷◌, ◌++◌, take, arith}
+use Rattle.std.proofs.Common.{◌≡◌, ◌⊎◌, inl, inr, refl, ℕ, zero, suc, ◌<◌, ◌≤◌, Bool, true, false, cond, max, ◌&&◌}
+use Rattle.std.proofs.Common.{List, [], ◌∷◌, ◌++◌, take, arith}
 use Rattle.std.proofs.lemmas.Option.{same_Some}
 use Rattle.std.specs.Prelude.{Some, slice_get, ◌==◌}
 use native.Mathlib.Decide.{dec_lt}
 use Rattle.model.specs.declared.names.Row.{Row}
 use Rattle.model.specs.Nodes.{Node}
 use Rattle.model.specs.World.{is_lost, is_told, incarnation_of, is_lost_by}
-use Rattle.theory.proofs.ListLaws.{get_take, any_at, at_any, and_both, or_cases, append_get, bool_cases, eq_true, true_eq, lt_true, true_lt, le_true, true_le, both_and, eq_same}
+use Rattle.theory.proofs.ListLaws.{get_take, any_at, at_any, and_both, or_cases, append_get, bool_cases, eq_true}
+use Rattle.theory.proofs.ListLaws.{true_eq, lt_true, true_lt, le_true, true_le, both_and, eq_same}
 
 -- the row that loses a node
 pub record Loses (rows : List Row) (n : Node) : Type 0 where
@@ -23,7 +25,14 @@ lost_row rows n e =
     let a = any_at (is_lost_by n) rows e in
     let b = and_both _ _ a.1.2 in
     let c = and_both _ _ b.1 in
-    record { at_place = a.0; row = a.1.0; found = a.1.1; of_unit = eq_true _ _ b.0; later = lt_true _ _ c.0; before = le_true _ _ c.1 }
+    record {
+      at_place = a.0;
+      row = a.1.0;
+      found = a.1.1;
+      of_unit = eq_true _ _ b.0;
+      later = lt_true _ _ c.0;
+      before = le_true _ _ c.1;
+    }
 
 -- a node with such a row is lost
 pub row_lost : (rows : List Row) (n : Node) → Loses rows n → is_lost rows n ≡ true
@@ -53,12 +62,14 @@ told_row rows n e = elim (or_cases (n.incarnation == 0) _ e) [
 ]
 
 -- no row is past its unit's greatest incarnation
-pub row_reached : (rows : List Row) (i : ℕ) (r : Row) → slice_get rows i ≡ Some r → r.incarnation ≤ incarnation_of rows r.unit
+pub row_reached : (rows : List Row) (i : ℕ) (r : Row)
+    → slice_get rows i ≡ Some r → r.incarnation ≤ incarnation_of rows r.unit
 row_reached [] i r e = cc
 row_reached (q ∷ rows) zero r e = let s : q ≡ r = same_Some q r e in rw s (rw (eq_same r.unit) (omega arith))
 row_reached (q ∷ rows) (suc i) r e = go (q.unit == r.unit) (row_reached rows i r e)
   where
-    go : (b : Bool) → r.incarnation ≤ incarnation_of rows r.unit → r.incarnation ≤ cond b (max q.incarnation (incarnation_of rows r.unit)) (incarnation_of rows r.unit)
+    go : (b : Bool) → r.incarnation ≤ incarnation_of rows r.unit
+        → r.incarnation ≤ cond b (max q.incarnation (incarnation_of rows r.unit)) (incarnation_of rows r.unit)
     go true h = omega arith
     go false h = h
 
@@ -77,20 +88,41 @@ greatest_told (q ∷ rows) n e = elim (bool_cases (q.unit == n.unit)) [
   where
     further : Told rows n → Told (q ∷ rows) n
     further (inl h) = inl h
-    further (inr t) = inr (record { at_place = suc t.at_place; row = t.row; found = t.found; of_unit = t.of_unit; same = t.same })
+    further (inr t) =
+        inr (record { at_place = suc t.at_place; row = t.row; found = t.found; of_unit = t.of_unit; same = t.same })
 
 -- more rows lose no less
 abbrev pub loses_more : {rows : List Row} {n : Node} (more : List Row) → Loses rows n → Loses (rows ++ more) n
-loses_more {rows} more l = record { at_place = l.at_place; row = l.row; found = append_get rows more l.at_place l.row l.found; of_unit = l.of_unit; later = l.later; before = l.before }
+loses_more {rows} more l = record {
+  at_place = l.at_place;
+  row = l.row;
+  found = append_get rows more l.at_place l.row l.found;
+  of_unit = l.of_unit;
+  later = l.later;
+  before = l.before;
+}
 
 -- and tell no less
 pub told_more : {rows : List Row} {n : Node} (more : List Row) → Told rows n → Told (rows ++ more) n
 told_more more (inl e) = inl e
-told_more {rows} more (inr t) = inr (record { at_place = t.at_place; row = t.row; found = append_get rows more t.at_place t.row t.found; of_unit = t.of_unit; same = t.same })
+told_more {rows} more (inr t) = inr (record {
+  at_place = t.at_place;
+  row = t.row;
+  found = append_get rows more t.at_place t.row t.found;
+  of_unit = t.of_unit;
+  same = t.same;
+})
 
 -- what only some of the rows lose, all of them lose
 pub loses_taken : (rows : List Row) (n : Node) (k : ℕ) → Loses (take k rows) n → Loses rows n
-loses_taken rows n k l = record { at_place = l.at_place; row = l.row; found = (get_take rows k l.at_place l.row l.found).0; of_unit = l.of_unit; later = l.later; before = l.before }
+loses_taken rows n k l = record {
+  at_place = l.at_place;
+  row = l.row;
+  found = (get_take rows k l.at_place l.row l.found).0;
+  of_unit = l.of_unit;
+  later = l.later;
+  before = l.before;
+}
 
 -- no row loses what is not lost
 pub loses_absurd : (rows : List Row) (n : Node) → is_lost rows n ≡ false → ¬ Loses rows n

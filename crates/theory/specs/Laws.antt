@@ -1,16 +1,22 @@
 -- The laws of one tenant, each of every world that it can come to.
-use Rattle.std.specs.Prelude.{◌≡◌, ◌≢◌, ◌⊎◌, ℕ, ◌-◌, ◌<◌, ◌≤◌, Bool, true, false, cond, not, ◌||◌, ◌&&◌, ◌==◌, nat_lt, take, List, [], ◌∷◌, ◌++◌, length, Option, Some, None, slice_get}
-use Rattle.std.specs.List.{take_while, flat_map, list_any, filter, fold}
+use Rattle.std.specs.Prelude.{◌≡◌, ◌≢◌, ◌⊎◌, ℕ, ◌-◌, ◌<◌, ◌≤◌, Bool, true, false, cond, not, ◌||◌, ◌&&◌, ◌==◌, nat_lt}
+use Rattle.std.specs.Prelude.{take, List, [], ◌∷◌, ◌++◌, length, Option, Some, None, slice_get}
+use Rattle.std.specs.List.{count_by, take_while, flat_map, list_any, filter, fold}
 use Rattle.model.specs.declared.limits.TheConstants.{MAX_INCARNATION}
 use Rattle.model.specs.declared.names.Mark.{Mark}
+use Rattle.model.specs.declared.names.Row.{Row}
 use Rattle.model.specs.Records.{vector_of}
 use mathlib.Core.List.{IsPrefix}
 use Rattle.model.specs.Handler.{Meaning}
 use Rattle.model.specs.Lists.{has, from_end}
 use Rattle.model.specs.Nodes.{Node, Cause, began, outside, letter, begun, node_at, line, past, turn_at, count_along}
-use Rattle.model.specs.World.{World, Member, executed, is_firm, is_stable, is_lost, is_blind, is_orphan, incarnation_of, held, mark_of, mark_told, mark_lost, greater_mark, greatest_mark, no_mark, past_nodes, receipts}
+use Rattle.model.specs.World.{World, Member, executed, is_firm, is_stable, is_lost, is_blind, is_orphan, incarnation_of}
+use Rattle.model.specs.World.{held, mark_of, mark_told, mark_lost, greater_mark, greatest_mark, no_mark, past_nodes}
+use Rattle.model.specs.World.{receipts}
 use Rattle.model.specs.FailureFree.{CertificateHolds}
-use Rattle.model.specs.declared.steps.TenantStep.TheVariants.{Open, Join, Post, Deliver, Flush, Checkpoint, Kill, Restart, Notice, Release, Status}
+use Rattle.model.specs.Steps.{is_quota}
+use Rattle.model.specs.declared.steps.TenantStep.TheVariants.{Open, Join, Post, Deliver, Flush, Checkpoint, Kill}
+use Rattle.model.specs.declared.steps.TenantStep.TheVariants.{Restart, Notice, Release, Status}
 use Rattle.model.specs.declared.steps.TenantStep.{TenantStep}
 use Rattle.model.specs.declared.replies.End.TheVariants.{Whole}
 use Rattle.model.specs.Alone.{Event, step, course_from, alone, Reachable}
@@ -93,7 +99,8 @@ pub record OnceEach (events : List Event) : Type 0 where
   pub restarts : how_many is_restart events ≤ 1
   pub notices : how_many is_notice events ≤ 1
 
--- at most one kill, one restart and one notice, and no other step, lead to a world where the node is off the unit's path
+-- at most one kill, one restart and one notice, and no other step, lead to a world where the node is off the unit's
+-- path
 abbrev pub CanGo : {S : Type 0} → Meaning S → World → ℕ → ℕ → Type 0
 CanGo M w u x = (events : List Event) × OnceEach events × AllRecover events
     × ((z : World) × ((course_from M (Some w) events).world ≡ Some z)
@@ -234,3 +241,20 @@ abbrev pub LaxCanGo : {S : Type 0} → Meaning S → Type 0
 LaxCanGo M = (w : World) → Reachable M w → ((y : ℕ) → y < length w.members → incarnation_of w.table y ≢ MAX_INCARNATION)
     → (u : ℕ) (m : Member) → slice_get w.members u ≡ Some m → m.up ≡ true → (x : ℕ) → has m.path x ≡ true
     → is_firm w x ≡ false → CanGo M w u x
+
+-- ---- how much a tenant has
+
+-- how many of the rows are this unit's
+abbrev pub rows_of : List Row → ℕ → ℕ
+rows_of rows u = count_by (λ r. r.unit == u) rows
+
+-- What a tenant has of each unit is within its quotas and the limits. The quotas themselves are within theirs.
+pub record IsWithin {S : Type 0} (M : Meaning S) (w : World) : Type 0 where
+  pub quota : is_quota w.quota ≡ true
+  pub volatile : (u : ℕ) (m : Member) → slice_get w.members u ≡ Some m → length m.path - m.stable ≤ w.quota.volatile
+  pub held : (u : ℕ) (m : Member) → slice_get w.members u ≡ Some m → length (held M w m) ≤ w.quota.held
+  pub letters : length (executed M w).letters ≤ w.quota.letters
+  pub rows : (u : ℕ) → rows_of w.table u ≤ MAX_INCARNATION
+
+abbrev pub StaysWithin : {S : Type 0} → Meaning S → Type 0
+StaysWithin M = (w : World) → Reachable M w → IsWithin M w

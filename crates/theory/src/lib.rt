@@ -32,4 +32,5 @@
 //! | `VectorJoin` | law `vectors_join` |
 //! | `FirmVector` | laws `firm_by_vector`, `unstable_by_vector` |
 //! | `States` | laws `states_are_folds`, `numbers_along_paths` |
+//! | `Limits` | law `stays_within` |
 #![tactic(auto)]

@@ -4,10 +4,12 @@ use Rattle.model.specs.declared.names.Row.{Row}
 use Rattle.model.specs.Handler.{Meaning, Turn}
 use Rattle.model.specs.Steps.{first_refusal}
 use Rattle.compact.specs.Compact.{Compact, Letter, Unit}
-use Rattle.compact.specs.Steps.{Receipt, going_on, lengths_of, letter_refusal, next_mark, next_vector, post_refusal, tests_of_turn}
+use Rattle.compact.specs.Steps.{Receipt, going_on, lengths_of, letter_refusal, next_mark, next_vector, post_refusal}
+use Rattle.compact.specs.Steps.{tests_of_turn}
 use Rattle.rollback.specs.Units.{IsKept, Recovering}
 use Rattle.rollback_laws.specs.Seen.{IsSeen}
-use Rattle.unit_steps.specs.Receipts.{Known, frontier_of, letter_refused, mark_upon, post_refused, turn_refused, vector_upon}
+use Rattle.unit_steps.specs.Receipts.{Known, frontier_of, letter_refused, mark_upon, post_refused, turn_refused}
+use Rattle.unit_steps.specs.Receipts.{vector_upon}
 
 -- what the tenant's other units and its table tell this one
 abbrev pub known_to : {S : Type 0} → Compact S → Unit S → Known

@@ -1,5 +1,6 @@
 -- What the steps of a tenant compute at one unit, by what its recovery unit keeps.
-use Rattle.std.specs.Prelude.{◌≡◌, ◌≤◌, ℕ, ◌+◌, ◌-◌, Bool, true, not, nat_lt, nat_le, List, [], ◌∷◌, ◌++◌, length, drop, take, map, slice_get, Option, Some, None, is_some, slice_set, slice_index_or}
+use Rattle.std.specs.Prelude.{◌≡◌, ◌≤◌, ℕ, ◌+◌, ◌-◌, Bool, true, not, nat_lt, nat_le, List, [], ◌∷◌, ◌++◌, length, drop}
+use Rattle.std.specs.Prelude.{take, map, slice_get, Option, Some, None, is_some, slice_set, slice_index_or}
 use Rattle.model.specs.declared.limits.TheConstants.{MAX_INDEX}
 use Rattle.model.specs.declared.names.Mark.{Mark}
 use Rattle.model.specs.declared.names.Quota.{Quota}
@@ -7,7 +8,8 @@ use Rattle.model.specs.declared.names.Row.{Row}
 use Rattle.model.specs.declared.names.Source.{Source}
 use Rattle.model.specs.declared.names.Source.TheVariants.{Outside, Unit as FromUnit}
 use Rattle.model.specs.declared.refusals.Refusal.{Refusal}
-use Rattle.model.specs.declared.refusals.Refusal.TheVariants.{Down, Wait, Orphan, Repeat, Pending, Limit, Quota as OverQuota, TooMuch}
+use Rattle.model.specs.declared.refusals.Refusal.TheVariants.{Down, Wait, Orphan, Repeat, Pending, Limit}
+use Rattle.model.specs.declared.refusals.Refusal.TheVariants.{Quota as OverQuota, TooMuch}
 use Rattle.model.specs.Handler.{Turn}
 use Rattle.model.specs.Nodes.{sends_within}
 use Rattle.model.specs.Steps.{first_refusal, is_large, is_long}

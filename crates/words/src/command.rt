@@ -244,9 +244,11 @@ fn explain_flag<'a>(alloc: Global) -> Arg<'a> {
 
 /// The option that has after how many seconds each progress is told.
 fn report_option<'a>(alloc: Global) -> Arg<'a> {
-    whole_number(alloc, REPORT).help(
-        "Writes a line of key=value words to standard error each N seconds in which lines come, which tells how far the run is",
-    )
+    whole_number(alloc, REPORT)
+        .value_parser(value_parser!(u64).range(1..))
+        .help(
+            "Writes a line of key=value words to standard error each N seconds, also while no line comes, which tells how far the run is",
+        )
 }
 
 /// The flag that asks for another status where a line was refused.

@@ -9,7 +9,8 @@ returns-clause-answered g c =
     let new = c.answer_unopened.new.tenants in
     let is = c.get_mut.follows.holds-at-none in
     let a = c.in_ok-answer.answer in
-    answered_unopened g.H.Handler.meaning c.args.step.now a.said a.reply (get bytes_eq old) (get bytes_eq new) (keys old) (keys new) c.args.log.now
+    answered_unopened g.H.Handler.meaning
+    c.args.step.now a.said a.reply (get bytes_eq old) (get bytes_eq new) (keys old) (keys new) c.args.log.now
     (rw c.tenant-name.ensures at c.in_default.ensures.value)
     (rw (c.tenant-name.ensures, c.in_ok-own_step.ensures, is) at (c.in_ok-answer.ensures.did c.args.log.now))
     (rw (c.tenant-name.ensures, is) at c.in_ok-answer.ensures.others)

@@ -7,5 +7,7 @@ use Rattle.checkpoint.proofs.shelf.nearest_among.Goals as goal
 
 pub returns-clause-greatest : goal.returns-clause-greatest
 returns-clause-greatest g c =
-    nearest_tells (record { base = c.args.base.now; others = c.args.others.now }) c.requires c.args.index (option_copied c.loop-x.best)
-    (ap (fold (later_of c.args.index) (option_copied c.loop-x.best)) (sym (drop_of_length-le c.args.others.now c.loop-x-test.false)) ∙ c.loop-x.invariant)
+    nearest_tells (record { base = c.args.base.now; others = c.args.others.now })
+    c.requires c.args.index (option_copied c.loop-x.best)
+    (ap (fold (later_of c.args.index) (option_copied c.loop-x.best))
+    (sym (drop_of_length-le c.args.others.now c.loop-x-test.false)) ∙ c.loop-x.invariant)

@@ -8,5 +8,6 @@ abbrev pub invariant-loop-x : goal.invariant-loop-x
 invariant-loop-x g l = record {
   at : l.place ≡ l.x-index;
   ahead : list_any (is_at l.index) (drop l.x-index l.others) ≡ true;
-  first : l.x-index + position_or_len (is_at l.index) (drop l.x-index l.others) ≡ position_or_len (is_at l.index) l.others;
+  first : l.x-index + position_or_len
+      (is_at l.index) (drop l.x-index l.others) ≡ position_or_len (is_at l.index) l.others;
 }

@@ -14,4 +14,5 @@ returns-in_err-do_chore g c =
 
 pub loop-chore-preserved : goal.loop-chore-preserved
 loop-chore-preserved g c =
-    drove_then (DoesBy g.F.Fn c.args.step.now) c.args.tenant.now {A = Unit {0}} (Ok tt) _ _ _ _ _ _ _ _ _ c.loop-chore.invariant c.in_ok-do_chore.ensures
+    drove_then (DoesBy g.F.Fn c.args.step.now) c.args.tenant.now {A =
+    Unit {0}} (Ok tt) _ _ _ _ _ _ _ _ _ c.loop-chore.invariant c.in_ok-do_chore.ensures

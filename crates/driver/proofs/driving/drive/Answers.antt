@@ -5,8 +5,10 @@ use Rattle.driver.proofs.driving.drive.Goals as goal
 
 pub returns-clause-all : goal.returns-clause-all
 returns-clause-all g c =
-    drove_all _ _ EntersStep (λ p q step reply is. is.1) BookDrives c.args.book.now c.drive_by.new.book (λ lines rounds p. p) c.drive_by.result _ _ _ c.drive_by.ensures.all
+    drove_all _ _ EntersStep (λ p q step reply is. is.1) BookDrives
+    c.args.book.now c.drive_by.new.book (λ lines rounds p. p) c.drive_by.result _ _ _ c.drive_by.ensures.all
 
 pub returns-clause-some : goal.returns-clause-some
 returns-clause-some g c =
-    drove_some _ _ EntersStep (λ p q step reply is. is.1) BookDrives c.args.book.now c.drive_by.new.book (λ lines rounds p. p) c.drive_by.result _ _ _ _ c.drive_by.ensures.some
+    drove_some _ _ EntersStep (λ p q step reply is. is.1) BookDrives
+    c.args.book.now c.drive_by.new.book (λ lines rounds p. p) c.drive_by.result _ _ _ _ c.drive_by.ensures.some

@@ -9,12 +9,15 @@ use Rattle.driver.proofs.driving.drive_by.Goals as goal
 pub returns-in_default-clause-some : goal.returns-in_default-clause-some
 returns-in_default-clause-some g c =
     let Does = DoesBy g.F.Fn c.args.step.now in
-    so_far_part Does _ _ _ _ _ _ _ _ _ (so_far_none Does (g.R.Read.remaining c.args.reader.now.inner) (g.W.Write.contents c.args.writer.now.inner) c.args.book.now) (TakesPart-none _ _ (Keeps-refl _)) (Keeps-refl _)
+    so_far_part Does _ _ _ _ _ _ _
+    _ _ (so_far_none Does (g.R.Read.remaining c.args.reader.now.inner) (g.W.Write.contents c.args.writer.now.inner)
+    c.args.book.now) (TakesPart-none _ _ (Keeps-refl _)) (Keeps-refl _)
 
 pub returns-in_err-drive_next-clause-some : goal.returns-in_err-drive_next-clause-some
 returns-in_err-drive_next-clause-some g c =
     let p = err_from_is_err_and c.from_residual.result c.from_residual.ensures.1 in
-    rw p.1 (so_far_broken (DoesBy g.F.Fn c.args.step.now) _ _ _ _ _ _ _ _ _ _ c.loop-text.invariant.driven c.in_err-drive_next.ensures.err)
+    rw p.1 (so_far_broken (DoesBy g.F.Fn c.args.step.now)
+    _ _ _ _ _ _ _ _ _ _ c.loop-text.invariant.driven c.in_err-drive_next.ensures.err)
 
 pub loop-text-init : goal.loop-text-init
 loop-text-init g c = record {

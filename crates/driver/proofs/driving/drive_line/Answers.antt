@@ -15,5 +15,6 @@ returns-in-Err g c =
     let Does = DoesBy g.F.Fn c.args.step.now in
     let x = c.put_reply.ensures in
     answered_round Does c.put_reply.result c.args.line.now c.fault_reply.result _ _ _ _ _
-    (line_answered Does c.args.line.now c.in-Err.fault c.fault_reply.result _ c.requires.short c.in-Err.ensures c.fault_reply.ensures)
+    (line_answered Does c.args.line.now
+    c.in-Err.fault c.fault_reply.result _ c.requires.short c.in-Err.ensures c.fault_reply.ensures)
     (wrote_by c.put_reply.result _ _ _ _ _ x.ok x.err x.write x.read x.same)

@@ -7,7 +7,8 @@ abbrev pub invariant-loop-span : goal.invariant-loop-span
 invariant-loop-span l = record {
   reach : l.end + l.span ≡ length l.lows + l.size;
   some : 0 < l.span;
-  below : (xs : List ℕ) → AreLows xs l.lows l.size → length xs ≡ length l.lows + 1 → IsBelowLast xs l.own l.size → IsBelowLast xs l.low l.span;
+  below : (xs : List ℕ) → AreLows xs l.lows l.size
+      → length xs ≡ length l.lows + 1 → IsBelowLast xs l.own l.size → IsBelowLast xs l.low l.span;
 }
 
 abbrev pub decreases-loop-span : goal.decreases-loop-span

@@ -4,4 +4,7 @@ use Rattle.incarnation.proofs.table.make_files.Given as goal
 
 -- what is filed stays
 abbrev pub invariant-loop : goal.invariant-loop
-invariant-loop l = record { long : length l.files.items ≡ l.counter; same : (u : ℕ) → filed_at l.files.items u ≡ filed_at l.initial.files.items u }
+invariant-loop l = record {
+  long : length l.files.items ≡ l.counter;
+  same : (u : ℕ) → filed_at l.files.items u ≡ filed_at l.initial.files.items u;
+}

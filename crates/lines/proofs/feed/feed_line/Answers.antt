@@ -10,7 +10,8 @@ returns-in-Ended-clause-heard g c =
     let before = c.loop-held.invariant.so_far in
     let now = rw c.in-Ended.is at c.in_ok-fill.ensures.takes in
     let part = IsPart-append before.0 now.0 before.1 now.1 in
-    let taken = subst (Consumes _ _) (sym (append_assoc before.0 now.0 (10 ∷ []))) (Consumes-trans _ _ _ _ _ before.2 now.2) in
+    let taken =
+    subst (Consumes _ _) (sym (append_assoc before.0 now.0 (10 ∷ []))) (Consumes-trans _ _ _ _ _ before.2 now.2) in
     rw c.line_kind.ensures (heard_line _ _ _ _ _ (now.3 before.0 before.3) (LinesRead-ended _ _ _ part taken))
 
 pub returns-in-AtEnd-clause-heard : goal.returns-in-AtEnd-clause-heard
@@ -28,5 +29,10 @@ loop-held-preserved g c =
       room = c.fill.ensures.room;
       same = omega (arith, c.loop-held.invariant.same, c.in_ok-fill.ensures.same);
       fewer = omega (arith, c.loop-held.invariant.fewer, c.in_ok-fill.ensures.fewer);
-      so_far = (before.0 ++ now.0, IsPart-append before.0 now.0 before.1 now.1, Consumes-trans _ _ _ _ _ before.2 now.2, now.3 before.0 before.3);
+      so_far = (
+        before.0 ++ now.0,
+        IsPart-append before.0 now.0 before.1 now.1,
+        Consumes-trans _ _ _ _ _ before.2 now.2,
+        now.3 before.0 before.3,
+      );
     }

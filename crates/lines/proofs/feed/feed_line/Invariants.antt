@@ -9,7 +9,8 @@ invariant-loop-held g l = record {
   room : MAX_LINE_BYTES ≤ vec_capacity l.held;
   same : l.reader.failed ≡ l.fn.reader.failed;
   fewer : l.reader.left ≤ l.fn.reader.left;
-  so_far : (text : List ℕ) × IsPart text × Consumes (g.R.Read.remaining l.fn.reader.inner) (g.R.Read.remaining l.reader.inner) text × Holds l.held.items l.is_long text;
+  so_far : (text : List ℕ) × IsPart text × Consumes (g.R.Read.remaining l.fn.reader.inner)
+      (g.R.Read.remaining l.reader.inner) text × Holds l.held.items l.is_long text;
 }
 
 -- each look at the reader is one of the calls that may still be made

@@ -13,10 +13,11 @@ loop-found-init g c = record {
 pub loop-found-preserved : goal.loop-found-preserved
 loop-found-preserved g c =
     let so_far = c.loop-found.invariant.read in
-    let grown : c.push.new.self.items ≡ c.loop-found.found.items ++ c.step_of-step.result ∷ [] = search rules in
-    let is = rw c.as_slice.ensures.value at c.step_of-step.ensures in
+    let grown : c.push.new.self.items ≡ c.loop-found.found.items ++ c.read_heard-step.result ∷ [] = search rules in
+    let is = rw c.as_slice.ensures.value at c.read_heard-step.ensures in
     record {
       room = c.feed_line.ensures.room;
       same = omega (arith, c.loop-found.invariant.same, c.in_ok-kind.ensures.same);
-      read = rw grown (feed_goes_on _ _ _ _ _ _ _ _ c.in_default-2.not-End c.in_ok-kind.ensures.heard is so_far.1 so_far.2);
+      read = rw
+          grown (feed_goes_on _ _ _ _ _ _ _ _ c.in_default-2.not-End c.in_ok-kind.ensures.heard is so_far.1 so_far.2);
     }

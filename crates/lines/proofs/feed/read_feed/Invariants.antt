@@ -8,7 +8,8 @@ abbrev pub invariant-loop-found : goal.invariant-loop-found
 invariant-loop-found g l = record {
   room : MAX_LINE_BYTES ≤ vec_capacity l.held;
   same : l.reader.failed ≡ l.fn.reader.failed;
-  read : (lines : List (List ℕ)) × LinesRead (g.R.Read.remaining l.fn.reader.inner) (g.R.Read.remaining l.reader.inner) lines × AreReadings lines l.found.items;
+  read : (lines : List (List ℕ)) × LinesRead (g.R.Read.remaining l.fn.reader.inner)
+      (g.R.Read.remaining l.reader.inner) lines × AreReadings lines l.found.items;
 }
 
 -- each line takes one of the calls that may still be made

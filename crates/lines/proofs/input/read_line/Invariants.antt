@@ -11,7 +11,8 @@ invariant-loop-ahead g l = record {
   write_same : l.writer.failed ≡ l.fn.writer.failed;
   fewer : l.reader.left ≤ l.fn.reader.left;
   keeps : Keeps (g.W.Write.contents l.fn.writer.inner) (g.W.Write.contents l.writer.inner);
-  so_far : (text : List ℕ) × IsPart text × Consumes (g.R.Read.remaining l.fn.reader.inner) (g.R.Read.remaining l.reader.inner) text × Holds l.held.items l.is_long text;
+  so_far : (text : List ℕ) × IsPart text × Consumes (g.R.Read.remaining l.fn.reader.inner)
+      (g.R.Read.remaining l.reader.inner) text × Holds l.held.items l.is_long text;
 }
 
 -- each look at the reader is one of the calls that may still be made

@@ -5,4 +5,5 @@ use Rattle.orphan.proofs.without_rows.any_unstable.Given as goal
 
 -- the entries from here on tell what all tell
 abbrev pub invariant-loop-unit : goal.invariant-loop-unit
-invariant-loop-unit l = any_mark (λ u g. not (is_stable_by [] l.stable_lengths u g)) l.unit (drop l.unit l.marks) ≡ is_unstable_by [] l.stable_lengths l.marks
+invariant-loop-unit l = any_mark (λ u g. not (is_stable_by [] l.stable_lengths u g))
+    l.unit (drop l.unit l.marks) ≡ is_unstable_by [] l.stable_lengths l.marks

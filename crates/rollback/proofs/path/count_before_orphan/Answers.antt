@@ -12,7 +12,9 @@ loop-low-preserved c =
     let w = c.loop-low.invariant.within.1 in
     record {
       within = (omega (arith, lower, h), w);
-      below = λ tail. none_before c.args.table.now c.args.intervals.now.items (c.loop-low.low + (c.loop-low.high - c.loop-low.low) / 2) tail (omega (arith, lower, h, w)) (sym c.is_orphan_at.ensures ∙ c.if-is_orphan_at.false);
+      below = λ tail. none_before
+          c.args.table.now c.args.intervals.now.items (c.loop-low.low + (c.loop-low.high - c.loop-low.low) / 2)
+          tail (omega (arith, lower, h, w)) (sym c.is_orphan_at.ensures ∙ c.if-is_orphan_at.false);
       at = c.loop-low.invariant.at;
     }
 
@@ -22,4 +24,5 @@ returns-clause-position c = λ tail.
     let h = c.loop-low.invariant.within.0 in
     let w = c.loop-low.invariant.within.1 in
     let same : c.loop-low.high ≡ c.loop-low.low = omega (arith, done, h) in
-    sym (position_or_len_is (λ x. is_orphan_by c.args.table.now x.vector) c.args.intervals.now.items c.loop-low.low unknown (omega (arith, h, w)) (c.loop-low.invariant.below tail) (rw (← same) c.loop-low.invariant.at))
+    sym (position_or_len_is (λ x. is_orphan_by c.args.table.now x.vector) c.args.intervals.now.items c.loop-low.low
+    unknown (omega (arith, h, w)) (c.loop-low.invariant.below tail) (rw (← same) c.loop-low.invariant.at))

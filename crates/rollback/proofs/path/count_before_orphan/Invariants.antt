@@ -7,7 +7,8 @@ use Rattle.rollback.proofs.path.count_before_orphan.Given as goal
 abbrev pub invariant-loop-low : goal.invariant-loop-low
 invariant-loop-low l = record {
   within : (l.low ≤ l.high) × (l.high ≤ length l.intervals.items);
-  below : OrphansAreTail l.table l.intervals.items → (k : ℕ) → k < l.low → is_orphan_by l.table (get_or l.intervals.items k unknown).vector ≡ false;
+  below : OrphansAreTail l.table l.intervals.items
+      → (k : ℕ) → k < l.low → is_orphan_by l.table (get_or l.intervals.items k unknown).vector ≡ false;
   at : l.high < length l.intervals.items → is_orphan_by l.table (get_or l.intervals.items l.high unknown).vector ≡ true;
 }
 

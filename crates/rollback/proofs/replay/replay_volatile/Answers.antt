@@ -7,4 +7,5 @@ pub loop-place-preserved : goal.loop-place-preserved
 loop-place-preserved g c =
     c.in_ok-replay_one.ensures
     ∙ ap (λ p. replayed_one g.H.Handler.meaning c.args.seat.now p c.at.result.now) c.loop-place.invariant
-    ∙ sym (replayed_more g.H.Handler.meaning c.args.seat.now c.args.progress.now c.args.volatile.now.records c.loop-place.place c.at.result.now c.at.ensures)
+    ∙ sym (replayed_more g.H.Handler.meaning c.args.seat.now
+    c.args.progress.now c.args.volatile.now.records c.loop-place.place c.at.result.now c.at.ensures)

@@ -5,4 +5,5 @@ use Rattle.session.proofs.sessions.cut_all.Given as goal
 
 -- the entries before this one are cut back
 abbrev pub invariant-loop-unit : goal.invariant-loop-unit
-invariant-loop-unit l = l.units ≡ take l.unit (padded nothing l.earlier (length l.initial.units)) ++ drop l.unit l.initial.units
+invariant-loop-unit l =
+    l.units ≡ take l.unit (padded nothing l.earlier (length l.initial.units)) ++ drop l.unit l.initial.units

@@ -5,7 +5,9 @@ use Rattle.shared_log.proofs.shared_log.append_to.Goals as goal
 
 pub returns-in-Err-clause-same : goal.returns-in-Err-clause-same
 returns-in-Err-clause-same g c =
-    undone (listed c.args.index.now) (listed c.add.new.index) (listed c.cut.new.index) c.args.logged.now.tenant c.args.logged.now.unit c.args.count.now
+    undone (listed c.args.index.now) (listed c.add.new.index)
+    (listed c.cut.new.index) c.args.logged.now.tenant c.args.logged.now.unit c.args.count.now
     c.in_ok-add.ensures.own c.add.ensures.others
-    (c.cut.ensures.own ∙ ap (λ (ps : List ℕ). take (length ps - 1) (listed c.add.new.index c.args.logged.now.tenant c.args.logged.now.unit)) c.of.ensures)
+    (c.cut.ensures.own ∙ ap (λ (ps : List ℕ).
+    take (length ps - 1) (listed c.add.new.index c.args.logged.now.tenant c.args.logged.now.unit)) c.of.ensures)
     c.cut.ensures.others

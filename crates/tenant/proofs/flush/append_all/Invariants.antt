@@ -9,4 +9,5 @@ invariant-loop-i g l = record {
   records : l.log.records ≡ l.fn.log.records ++ map Some (take l.i l.recovering.volatile);
   own : (k : ℕ) (r : Record) → k < l.i → slice_get l.recovering.volatile k ≡ Some r → bytes_eq r.tenant l.tenant ≡ true;
   up : l.fn.log.failures ≤ l.log.failures;
+  steady : l.log.failures ≡ l.fn.log.failures;
 }

@@ -12,11 +12,14 @@ loop-at-preserved g c =
     let members = c.args.members.now in
     let i = c.loop-at.at in
     let long = c.loop-at.invariant.len in
-    let within : i < length fs = (let a = c.loop-at-test.true in let b = c.len-at-end.ensures in omega (arith, a, b, long)) in
+    let within : i < length fs =
+    (let a = c.loop-at-test.true in let b = c.len-at-end.ensures in omega (arith, a, b, long)) in
     record {
       len = length-set fs i c.front_of.result ∙ long;
-      done = gone_one table lengths members old fs i c.index-frontier.result.now c.front_of.result long within c.index-frontier.ensures c.front_of.ensures c.loop-at.invariant.done c.loop-at.invariant.rest;
-      rest = before_one table lengths members old fs i c.index-frontier.result.now c.front_of.result long within c.index-frontier.ensures c.front_of.ensures c.loop-at.invariant.rest;
+      done = gone_one table lengths members old fs i c.index-frontier.result.now c.front_of.result
+          long within c.index-frontier.ensures c.front_of.ensures c.loop-at.invariant.done c.loop-at.invariant.rest;
+      rest = before_one table lengths members old fs i c.index-frontier.result.now
+          c.front_of.result long within c.index-frontier.ensures c.front_of.ensures c.loop-at.invariant.rest;
     }
 
 pub returns-clause-fronts : goal.returns-clause-fronts

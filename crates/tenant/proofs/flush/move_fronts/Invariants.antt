@@ -8,6 +8,8 @@ use Rattle.tenant.proofs.flush.move_fronts.Given as goal
 abbrev pub invariant-loop-at : goal.invariant-loop-at
 invariant-loop-at g l = record {
   len : length l.frontiers.items ≡ length l.fn.frontiers.items;
-  done : (u : ℕ) (m : Member _) (f : ℕ) → u < l.at → slice_get l.members u ≡ Some m → slice_get l.fn.frontiers.items u ≡ Some f → IsFrontier (length l.stable_lengths) m.recovering f → slice_get l.frontiers.items u ≡ Some (frontier_of l.table l.stable_lengths m.recovering f);
+  done : (u : ℕ) (m : Member _) (f : ℕ) → u < l.at → slice_get l.members u ≡ Some m
+      → slice_get l.fn.frontiers.items u ≡ Some f → IsFrontier (length l.stable_lengths) m.recovering f
+      → slice_get l.frontiers.items u ≡ Some (frontier_of l.table l.stable_lengths m.recovering f);
   rest : (u : ℕ) → l.at ≤ u → slice_get l.frontiers.items u ≡ slice_get l.fn.frontiers.items u;
 }

@@ -5,7 +5,8 @@ use Rattle.tenant.proofs.forgetting.empty_passed.Given as goal
 -- the letters up to here gave up their contents
 abbrev pub invariant-loop-index : goal.invariant-loop-index
 invariant-loop-index g l = record {
-  letters : l.letters.items ≡ emptied_all l.fn.letters.items (take (l.index - l.recovering.base) (drop 1 l.recovering.intervals));
+  letters : l.letters.items ≡ emptied_all
+      l.fn.letters.items (take (l.index - l.recovering.base) (drop 1 l.recovering.intervals));
   from : l.recovering.base ≤ l.index;
   none : l.base ≤ l.recovering.base → l.index ≤ l.recovering.base;
 }

@@ -4,7 +4,8 @@ use Rattle.tenant.proofs.Results.{whatever}
 use Rattle.tenant.proofs.join.add_unit.Goals as goal
 
 pub returns-in_err-widen-clause-err_lines : goal.returns-in_err-widen-clause-err_lines
-returns-in_err-widen-clause-err_lines g c = whatever c.from_residual-in_err-widen.result (same_texts c.widen.new.self c.args.outlet.now c.in_err-widen.ensures.err c.widen.ensures.texts)
+returns-in_err-widen-clause-err_lines g c = whatever c.from_residual-in_err-widen.result
+    (same_texts c.widen.new.self c.args.outlet.now c.in_err-widen.ensures.err c.widen.ensures.texts)
 
 pub returns-clause-lines : goal.returns-clause-lines
 returns-clause-lines g c = λ e.
@@ -12,7 +13,8 @@ returns-clause-lines g c = λ e.
     one_line c.widen.new.self c.args.outlet.now (omega (arith, len, e)) c.widen.ensures.texts
 
 pub returns-in_err-widen-clause-err_gone : goal.returns-in_err-widen-clause-err_gone
-returns-in_err-widen-clause-err_gone g c = whatever c.from_residual-in_err-widen.result (same_counts c.widen.new.self c.args.outlet.now c.in_err-widen.ensures.err c.widen.ensures.gone)
+returns-in_err-widen-clause-err_gone g c = whatever c.from_residual-in_err-widen.result
+    (same_counts c.widen.new.self c.args.outlet.now c.in_err-widen.ensures.err c.widen.ensures.gone)
 
 pub returns-clause-gone : goal.returns-clause-gone
 returns-clause-gone g c = λ e.

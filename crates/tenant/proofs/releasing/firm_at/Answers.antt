@@ -6,10 +6,12 @@ pub returns-then-from-frontier : goal.returns-then-from-frontier
 returns-then-from-frontier c =
     let within = c.if-from-frontier.true in
     let index = c.from.ensures in
-    firm_next c.args.frontier c.args.hold.now.outputs c.args.place c.in_ok-held.held.now c.in_ok-held.ensures (omega (arith, within, index))
+    firm_next c.args.frontier c.args.hold.now.outputs
+    c.args.place c.in_ok-held.held.now c.in_ok-held.ensures (omega (arith, within, index))
 
 pub returns-else-from-frontier : goal.returns-else-from-frontier
 returns-else-from-frontier c =
     let past = c.if-from-frontier.false in
     let index = c.from.ensures in
-    firm_end c.args.frontier c.args.hold.now.outputs c.args.place c.in_ok-held.held.now c.in_ok-held.ensures (omega (arith, past, index))
+    firm_end c.args.frontier c.args.hold.now.outputs
+    c.args.place c.in_ok-held.held.now c.in_ok-held.ensures (omega (arith, past, index))

@@ -10,6 +10,8 @@ invariant-loop-position g l = record {
   places : places_of l.tenant l.unit l.log ≡ places_of l.tenant l.unit l.fn.log;
   from : l.first ≤ l.position;
   empty : l.last ≤ l.first → l.position ≤ l.first;
-  fetched : AreFetched l.fn.log.records (drop l.skipped (places_of l.tenant l.unit l.fn.log)) l.first l.position l.fetched.items;
+  fetched : AreFetched l.fn.log.records
+      (drop l.skipped (places_of l.tenant l.unit l.fn.log)) l.first l.position l.fetched.items;
   up : l.fn.log.failures ≤ l.log.failures;
+  steady : l.log.failures ≡ l.fn.log.failures;
 }

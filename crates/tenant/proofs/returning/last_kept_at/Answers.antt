@@ -9,12 +9,19 @@ use Rattle.tenant.proofs.returning.last_kept_at.Goals as goal
 pub returns-in-Some-clause-target : goal.returns-in-Some-clause-target
 returns-in-Some-clause-target g c =
     let q : Member g.row.H-State.Denot = c.in-Some.member.now in
-    if_some (λ t. IsTarget q.recovering t) (λ t. (m : Member g.row.H-State.Denot) → slice_get c.args.members.now c.args.at ≡ Some m → IsTarget m.recovering t) c.last_kept.result
-    (λ t h m found. subst (λ (z : Member g.row.H-State.Denot). IsTarget z.recovering t) (same_Some q m (sym c.in-Some.ensures ∙ found)) h) c.last_kept.ensures.target
+    if_some (λ t. IsTarget q.recovering t) (λ t. (m : Member g.row.H-State.Denot)
+    → slice_get c.args.members.now c.args.at ≡ Some m → IsTarget m.recovering t) c.last_kept.result
+    (λ t h m found. subst (λ (z : Member g.row.H-State.Denot). IsTarget z.recovering t)
+    (same_Some q m (sym c.in-Some.ensures ∙ found)) h) c.last_kept.ensures.target
 
 pub returns-in-Some-clause-kept : goal.returns-in-Some-clause-kept
 returns-in-Some-clause-kept g c =
     let q : Member g.row.H-State.Denot = c.in-Some.member.now in
-    if_some (λ t. OrphansAreTail c.args.table.now q.recovering.intervals → t + 1 ≡ kept_length c.args.table.now q.recovering)
-    (λ t. (m : Member g.row.H-State.Denot) → slice_get c.args.members.now c.args.at ≡ Some m → OrphansAreTail c.args.table.now m.recovering.intervals → t + 1 ≡ kept_length c.args.table.now m.recovering) c.last_kept.result
-    (λ t h m found. subst (λ (z : Member g.row.H-State.Denot). OrphansAreTail c.args.table.now z.recovering.intervals → t + 1 ≡ kept_length c.args.table.now z.recovering) (same_Some q m (sym c.in-Some.ensures ∙ found)) h) c.last_kept.ensures.kept
+    if_some (λ t. OrphansAreTail c.args.table.now q.recovering.intervals
+    → t + 1 ≡ kept_length c.args.table.now q.recovering)
+    (λ t. (m : Member g.row.H-State.Denot)
+    → slice_get c.args.members.now c.args.at ≡ Some m → OrphansAreTail c.args.table.now m.recovering.intervals
+    → t + 1 ≡ kept_length c.args.table.now m.recovering) c.last_kept.result
+    (λ t h m found. subst (λ (z : Member g.row.H-State.Denot). OrphansAreTail c.args.table.now z.recovering.intervals
+    → t + 1 ≡ kept_length c.args.table.now z.recovering) (same_Some q m (sym c.in-Some.ensures ∙ found)) h)
+    c.last_kept.ensures.kept

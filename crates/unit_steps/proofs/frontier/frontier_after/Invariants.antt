@@ -7,7 +7,8 @@ use Rattle.unit_steps.proofs.frontier.frontier_after.Given as goal
 abbrev pub invariant-loop-firm : goal.invariant-loop-firm
 invariant-loop-firm g l = record {
   base : l.recovering.base ≤ l.firm;
-  value : IsFrontier (length l.stable_lengths) l.recovering l.frontier → (l.firm ≤ places l.recovering) × (frontier_of l.table l.stable_lengths l.recovering l.firm ≡ frontier_of l.table l.stable_lengths l.recovering l.frontier);
+  value : IsFrontier (length l.stable_lengths) l.recovering l.frontier → (l.firm ≤ places l.recovering) × (frontier_of
+      l.table l.stable_lengths l.recovering l.firm ≡ frontier_of l.table l.stable_lengths l.recovering l.frontier);
 }
 
 abbrev pub decreases-loop-firm : goal.decreases-loop-firm

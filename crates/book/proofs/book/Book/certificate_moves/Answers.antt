@@ -6,4 +6,5 @@ pub moves_by-requires-clause-own : goal.moves_by-requires-clause-own
 moves_by-requires-clause-own g c κs within = ap (λ h. own c.args.tenant.now (pairs h)) c.history.ensures.entries
 
 pub moves_by-requires-clause-legal : goal.moves_by-requires-clause-legal
-moves_by-requires-clause-legal g c κs within = λ legal. subst (IsLegal g.H.Handler.meaning) (sym c.history.ensures.entries) legal
+moves_by-requires-clause-legal g c κs within =
+    λ legal. subst (IsLegal g.H.Handler.meaning) (sym c.history.ensures.entries) legal

@@ -30,7 +30,13 @@ returns-in-Ok-clause-entered g c =
     let now = c.self.inside in
     let next = c.answer-done.new in
     let a = c.in-Ok.answer in
-    rw (← c.self.view_is, c.enter.ensures.entered, c.enter.ensures.reply, c.reserve_place.ensures.same, c.in-Ok.ensures.kept) (inl (
+    rw (
+      ← c.self.view_is,
+      c.enter.ensures.entered,
+      c.enter.ensures.reply,
+      c.reserve_place.ensures.same,
+      c.in-Ok.ensures.kept,
+    ) (inl (
     is_added g.H.Handler.meaning (held_by now.host) (held_by next.self) now.history.items
     (record { who = c.args.who; step = c.args.step; said = a.said; reply = a.reply })
     c.self.invariant.replay c.in-Ok.ensures.answered))

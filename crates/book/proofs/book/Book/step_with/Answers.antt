@@ -36,11 +36,18 @@ returns-in-Ok-Some-clause-commits g c =
     let a = c.in-Ok-Some.answer in
     let is = c.in-Ok-Some.field-0-is in
     let name = (addressed c.args.step).0 in
-    rw (← c.self.view_is, c.enter.ensures.entered, c.enter.ensures.reply, c.reserve_place.ensures.same, (rw is at c.in-Ok-Some.ensures.kept)) (inl (
+    rw (
+      ← c.self.view_is,
+      c.enter.ensures.entered,
+      c.enter.ensures.reply,
+      c.reserve_place.ensures.same,
+      (rw is at c.in-Ok-Some.ensures.kept),
+    ) (inl (
       is_added g.H.Handler.meaning (held_by now.host) (held_by next.self) now.history.items
           (record { who = c.args.who; step = c.args.step; said = a.said; reply = a.reply })
           c.self.invariant.replay (rw is at c.in-Ok-Some.ensures.answered),
-      (rw is at c.in-Ok-Some.ensures.fresh) (world_of g.H.Handler.meaning name now.history.items) (c.self.invariant.replay.stands name),
+      (rw is at c.in-Ok-Some.ensures.fresh)
+          (world_of g.H.Handler.meaning name now.history.items) (c.self.invariant.replay.stands name),
     ))
 
 pub returns-in-Ok-None-clause-commits : goal.returns-in-Ok-None-clause-commits
@@ -50,5 +57,6 @@ returns-in-Ok-None-clause-commits g c =
     rw (← c.self.view_is) (
       refl,
       record { history = c.reserve_place.ensures.same; log = rw is at c.in-Ok-None.ensures.stale_log },
-      (rw is at c.in-Ok-None.ensures.fresh) (world_of g.H.Handler.meaning name c.self.inside.history.items) (c.self.invariant.replay.stands name),
+      (rw is at c.in-Ok-None.ensures.fresh)
+          (world_of g.H.Handler.meaning name c.self.inside.history.items) (c.self.invariant.replay.stands name),
     )

@@ -9,7 +9,8 @@ returns-in-Some g c = λ history replay.
     let now = c.self.inside in
     let name = c.args.tenant.now in
     let held = rw (← c.self.view_is) at replay in
-    kept_open M name history c.in-Some.open.now (get bytes_eq now.tenants name) now.log.records c.args.unit c.kept.result
+    kept_open M name history c.in-Some.open.now
+    (get bytes_eq now.tenants name) now.log.records c.args.unit c.kept.result
     c.in-Some.ensures.value (held.stands name) (held.keeps name)
     (λ w shelves stands keeps. c.kept.ensures name w now.log.records shelves stands keeps)
 

@@ -7,6 +7,8 @@ use Rattle.checkpoint.proofs.shelf.Shelf.nearest.Goals as goal
 
 pub returns-clause-greatest : goal.returns-clause-greatest
 returns-clause-greatest g c =
-    subst (λ (s : Shelved _). MatchOption (option_copied c.nearest_among.result) (AllAbove s c.args.index) (λ x. IsNearest s c.args.index x))
-    (ap (λ (others : List (Snapshot _)). let s : Shelved _ = record { base = c.self.inside.base; others = others } in s) c.as_slice.ensures.value ∙ c.self.view_is)
+    subst (λ (s : Shelved _). MatchOption
+    (option_copied c.nearest_among.result) (AllAbove s c.args.index) (λ x. IsNearest s c.args.index x))
+    (ap (λ (others : List (Snapshot _)). let s : Shelved _ = record { base = c.self.inside.base; others = others } in
+    s) c.as_slice.ensures.value ∙ c.self.view_is)
     c.nearest_among.ensures.greatest

@@ -7,4 +7,5 @@ append_row-requires c = places_below c.self.inside.rows.items c.self.inside.file
 pub invariant_of-self-2 : goal.invariant_of-self-2
 invariant_of-self-2 c =
     rw c.in_ok-append_row.ensures.rows
-    (files_append c.self.inside.rows.items c.self.inside.files.items c.append_row.new.files.items c.args.row c.self.invariant (rw c.self.view_is c.requires.next) c.in_ok-append_row.ensures.files)
+    (files_append c.self.inside.rows.items c.self.inside.files.items c.append_row.new.files.items
+    c.args.row c.self.invariant (rw c.self.view_is c.requires.next) c.in_ok-append_row.ensures.files)

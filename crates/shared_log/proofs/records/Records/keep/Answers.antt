@@ -7,7 +7,8 @@ use Rattle.shared_log.proofs.records.Records.keep.Goals as goal
 
 pub returns-in_err-put-clause-err : goal.returns-in_err-put-clause-err
 returns-in_err-put-clause-err c =
-    let same = tabled_kept (in_blocks c.self.inside.blocks) (in_blocks c.put.new.self) c.self.inside.count c.args.self.now c.put.ensures.rest c.self.view_is in
+    let same = tabled_kept (in_blocks c.self.inside.blocks)
+    (in_blocks c.put.new.self) c.self.inside.count c.args.self.now c.put.ensures.rest c.self.view_is in
     search rules
 
 pub returns-clause-ok : goal.returns-clause-ok
@@ -15,5 +16,6 @@ returns-clause-ok c =
     let count = c.self.inside.count in
     let next : c.in-Some.next ≡ count + 1 = grind (arith, c.in-Some.ensures) in
     ap (tabled (in_blocks c.put.new.self)) next
-    ∙ (tabled_push (in_blocks c.self.inside.blocks) (in_blocks c.put.new.self) count (Some c.args.logged) c.in_ok-put.ensures.rest (c.in_ok-put.ensures.own ∙ c.of.ensures)
+    ∙ (tabled_push (in_blocks c.self.inside.blocks) (in_blocks c.put.new.self)
+    count (Some c.args.logged) c.in_ok-put.ensures.rest (c.in_ok-put.ensures.own ∙ c.of.ensures)
     ∙ ap (λ (rs : List (Option Record)). rs ++ Some c.args.logged ∷ []) c.self.view_is)

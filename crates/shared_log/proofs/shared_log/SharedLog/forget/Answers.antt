@@ -9,12 +9,15 @@ use Rattle.shared_log.proofs.shared_log.SharedLog.forget.Goals as goal
 pub forget_in-requires : goal.forget_in-requires
 forget_in-requires g c =
     let log = g.S.Store.log c.self.inside.store in
-    subst (λ (ps : List ℕ). All (λ p. p < length log) ps) (sym (c.self.invariant.1 c.args.tenant.now c.args.unit)) (all_within c.args.tenant.now c.args.unit log)
+    subst (λ (ps : List ℕ). All (λ p. p < length log) ps)
+    (sym (c.self.invariant.1 c.args.tenant.now c.args.unit)) (all_within c.args.tenant.now c.args.unit log)
 
 pub invariant_of-self : goal.invariant_of-self
 invariant_of-self g c = (
-  emptied_count c.self.inside.count (take c.args.count (listed c.self.inside.index c.args.tenant.now c.args.unit)) _ _ c.self.invariant.0 c.forget_in.ensures.emptied,
-  forget_lists (listed c.self.inside.index) (listed c.forget_in.new.index) _ _ c.args.tenant.now c.args.unit c.args.count c.self.invariant.1
+  emptied_count c.self.inside.count (take c.args.count (listed c.self.inside.index c.args.tenant.now c.args.unit))
+      _ _ c.self.invariant.0 c.forget_in.ensures.emptied,
+  forget_lists (listed c.self.inside.index)
+      (listed c.forget_in.new.index) _ _ c.args.tenant.now c.args.unit c.args.count c.self.invariant.1
       c.forget_in.ensures.emptied c.forget_in.ensures.own c.forget_in.ensures.others,
 )
 
@@ -22,23 +25,30 @@ pub returns-clause-own : goal.returns-clause-own
 returns-clause-own g c =
     sym (list_is (listed c.forget_in.new.index) _ _ c.args.tenant.now c.args.unit (invariant_of-self g c).1 refl)
     ∙ (c.forget_in.ensures.own
-    ∙ ap (drop c.args.count) (list_is (listed c.self.inside.index) _ c.args.self.now c.args.tenant.now c.args.unit c.self.invariant.1 (ap (λ (l : Logged). l.records) c.self.view_is)))
+    ∙ ap (drop c.args.count) (list_is (listed c.self.inside.index) _ c.args.self.now
+    c.args.tenant.now c.args.unit c.self.invariant.1 (ap (λ (l : Logged). l.records) c.self.view_is)))
 
 pub returns-clause-others : goal.returns-clause-others
 returns-clause-others g c = λ tenant unit other.
     kept_lists (listed c.self.inside.index) (listed c.forget_in.new.index) _ _ c.args.self.now _
-    c.self.invariant.1 (invariant_of-self g c).1 (ap (λ (l : Logged). l.records) c.self.view_is) refl tenant unit (c.forget_in.ensures.others tenant unit other)
+    c.self.invariant.1 (invariant_of-self g c).1
+    (ap (λ (l : Logged). l.records) c.self.view_is) refl tenant unit (c.forget_in.ensures.others tenant unit other)
 
 pub returns-clause-records : goal.returns-clause-records
 returns-clause-records g c =
     c.forget_in.ensures.emptied
-    ∙ (ap (λ (ps : List ℕ). emptied (take c.args.count ps) (g.S.Store.log c.self.inside.store)) (list_is (listed c.self.inside.index) _ c.args.self.now c.args.tenant.now c.args.unit c.self.invariant.1 (ap (λ (l : Logged). l.records) c.self.view_is))
-    ∙ ap (emptied (take c.args.count (places_of c.args.tenant.now c.args.unit c.args.self.now))) (ap (λ (l : Logged). l.records) c.self.view_is))
+    ∙ (ap (λ (ps : List ℕ). emptied (take c.args.count ps) (g.S.Store.log c.self.inside.store))
+    (list_is (listed c.self.inside.index) _ c.args.self.now c.args.tenant.now c.args.unit c.self.invariant.1
+    (ap (λ (l : Logged). l.records) c.self.view_is))
+    ∙ ap (emptied (take c.args.count (places_of c.args.tenant.now c.args.unit c.args.self.now)))
+    (ap (λ (l : Logged). l.records) c.self.view_is))
 
 pub returns-clause-grows : goal.returns-clause-grows
 returns-clause-grows g c =
-    emptied_grows (take c.args.count (places_of c.args.tenant.now c.args.unit c.args.self.now)) c.args.self.now.records _ (returns-clause-records g c)
+    emptied_grows (take c.args.count (places_of c.args.tenant.now c.args.unit c.args.self.now))
+    c.args.self.now.records _ (returns-clause-records g c)
 
 pub returns-clause-contents : goal.returns-clause-contents
 returns-clause-contents g c =
-    emptied_keeps (take c.args.count (places_of c.args.tenant.now c.args.unit c.args.self.now)) c.args.self.now.records _ (returns-clause-records g c)
+    emptied_keeps (take c.args.count (places_of c.args.tenant.now c.args.unit c.args.self.now))
+    c.args.self.now.records _ (returns-clause-records g c)

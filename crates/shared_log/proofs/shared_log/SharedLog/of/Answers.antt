@@ -8,7 +8,8 @@ use Rattle.shared_log.proofs.shared_log.SharedLog.of.Goals as goal
 pub returns-clause-places : goal.returns-clause-places
 returns-clause-places g c =
     c.of.ensures
-    ∙ list_is (listed c.self.inside.index) _ c.args.self.now c.args.tenant.now c.args.unit c.self.invariant.1 (ap (λ (l : Logged). l.records) c.self.view_is)
+    ∙ list_is (listed c.self.inside.index) _ c.args.self.now c.args.tenant.now c.args.unit c.self.invariant.1
+    (ap (λ (l : Logged). l.records) c.self.view_is)
 
 pub returns-clause-held : goal.returns-clause-held
 returns-clause-held g c =

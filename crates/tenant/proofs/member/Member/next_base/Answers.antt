@@ -14,5 +14,6 @@ returns-clause-within g c =
     let last : c.last_index.result + 1 ≡ places r = c.last_index.ensures.last ∙ ap places seen in
     let low : c.from-last.result ≡ places r - 1 = let a = c.from-last.ensures in omega (arith, a, last) in
     let target = c.min-target.ensures ∙ (λ i. min (c.saturating_sub.ensures i) (low i)) in
-    let is : c.restart_index.result ≡ next_base r c.args.frontier = c.restart_index.ensures ∙ (λ i. option_map (λ s. s.index) (nearest_of (seen i).shelf (target i))) in
+    let is : c.restart_index.result ≡ next_base r c.args.frontier =
+    c.restart_index.ensures ∙ (λ i. option_map (λ s. s.index) (nearest_of (seen i).shelf (target i))) in
     next_within r c.args.frontier c.last_index.result last c.restart_index.result is

@@ -9,26 +9,33 @@ use Rattle.tenant.specs.Kept.{Member}
 use Rattle.tenant.proofs.Flushing.{flush_done, flush_refused}
 use Rattle.tenant.proofs.Moving.{beside_stands, did_then}
 use Rattle.tenant.proofs.Others.{appended_beside}
+use Rattle.tenant.proofs.Results.{unless_device}
 use Rattle.tenant.proofs.Standing.{opened}
-use Rattle.std.proofs.Common.{refl}
+use Rattle.std.proofs.Common.{inl, refl}
 use Rattle.tenant.proofs.Keeping.{flush_keeps, refused_keeps}
 use Rattle.tenant.proofs.tenant.Tenant.flush.Goals as goal
 
 pub returns-in-Err-clause-did : goal.returns-in-Err-clause-did
 returns-in-Err-clause-did g c = λ w s.
-    rw (c.refused.ensures.reply, c.refused.ensures.plain.1) (flush_refused g.H.Handler.meaning c.args.tenant.now c.args.self.now w c.args.log.now (opened s) c.args.unit c.in-Err.refusal c.in-Err.ensures.refused)
+    rw (c.refused.ensures.reply, c.refused.ensures.plain.1) (flush_refused g.H.Handler.meaning c.args.tenant.now
+    c.args.self.now w c.args.log.now (opened s) c.args.unit c.in-Err.refusal c.in-Err.ensures.refused)
 
 pub enter_stable-requires-clause-within : goal.enter_stable-requires-clause-within
-enter_stable-requires-clause-within g c κs within = slice_get_within c.args.self.now.members c.args.unit _ c.in-Ok.ensures.found
+enter_stable-requires-clause-within g c κs within =
+    slice_get_within c.args.self.now.members c.args.unit _ c.in-Ok.ensures.found
 
 pub returns-clause-did : goal.returns-clause-did
 returns-clause-did g c = λ w s.
     let m : Member g.row.H-State.Denot = c.in-Ok.member.now in
     let said = c.append_all-said.result in
     let same : c.recovering.result.now ≡ m.recovering = c.recovering.ensures in
-    let volatile : c.recovering.result.now.volatile ≡ m.recovering.volatile = ap (λ (r : Recovering g.row.H-State.Denot). r.volatile) same in
-    rw (c.flush_reply.ensures) (did_then g.H.Handler.meaning c.args.tenant.now w c.enter_stable.new.self c.forget_after.new.self (Flush c.args.unit) said (flush_reply said.end said.appended) c.args.log.now c.append_all-said.new.log c.forget_after.new.log
-    (flush_done g.H.Handler.meaning c.args.tenant.now c.args.self.now w c.args.log.now (opened s) c.args.unit m c.in-Ok.ensures.found c.in-Ok.ensures.up c.append_all-said.new.log c.enter_stable.new.self said
+    let volatile : c.recovering.result.now.volatile ≡ m.recovering.volatile =
+    ap (λ (r : Recovering g.row.H-State.Denot). r.volatile) same in
+    rw (c.flush_reply.ensures) (did_then
+    g.H.Handler.meaning c.args.tenant.now w c.enter_stable.new.self c.forget_after.new.self (Flush c.args.unit)
+    said (flush_reply said.end said.appended) c.args.log.now c.append_all-said.new.log c.forget_after.new.log
+    (flush_done g.H.Handler.meaning c.args.tenant.now c.args.self.now w c.args.log.now (opened s)
+    c.args.unit m c.in-Ok.ensures.found c.in-Ok.ensures.up c.append_all-said.new.log c.enter_stable.new.self said
     (c.append_all-said.ensures.records ∙ ap (λ vs. c.args.log.now.records ++ map Some (take said.appended vs)) volatile)
     (subst (λ vs. said.appended ≤ length vs) volatile c.append_all-said.ensures.within)
     (subst (λ vs. (said.end ≡ Whole) ↔ (said.appended ≡ length vs)) volatile c.append_all-said.ensures.whole)
@@ -39,22 +46,29 @@ returns-clause-did g c = λ w s.
 
 pub returns-clause-others : goal.returns-clause-others
 returns-clause-others g c = λ k w other differs s.
-    beside_stands g.H.Handler.meaning c.args.tenant.now other k w c.append_all-said.new.log c.forget_after.new.log c.forget_after.ensures.beside differs
-    (appended_beside g.H.Handler.meaning c.args.tenant.now other k w c.args.log.now.records c.append_all-said.new.log.records c.recovering.result.now.volatile c.append_all-said.result.appended
+    beside_stands g.H.Handler.meaning c.args.tenant.now
+    other k w c.append_all-said.new.log c.forget_after.new.log c.forget_after.ensures.beside differs
+    (appended_beside g.H.Handler.meaning c.args.tenant.now other k w c.args.log.now.records
+    c.append_all-said.new.log.records c.recovering.result.now.volatile c.append_all-said.result.appended
     c.append_all-said.ensures.records c.append_all-said.ensures.own differs s)
 
 pub returns-in-Err-clause-keeps_on : goal.returns-in-Err-clause-keeps_on
 returns-in-Err-clause-keeps_on g c =
-    refused_keeps g.H.Handler.meaning c.args.tenant.now c.args.self.now c.args.self.now c.args.log.now.records (Flush c.args.unit) c.refused.result.said c.refused.result.reply _ c.refused.ensures.reply refl
+    refused_keeps g.H.Handler.meaning c.args.tenant.now c.args.self.now c.args.self.now c.args.log.now.records
+    (Flush c.args.unit) c.refused.result.said c.refused.result.reply _ c.refused.ensures.reply refl
 
 pub returns-clause-keeps_on : goal.returns-clause-keeps_on
 returns-clause-keeps_on g c =
     let m : Member g.row.H-State.Denot = c.in-Ok.member.now in
     let said = c.append_all-said.result in
     let same : c.recovering.result.now ≡ m.recovering = c.recovering.ensures in
-    let volatile : c.recovering.result.now.volatile ≡ m.recovering.volatile = ap (λ (r : Recovering g.row.H-State.Denot). r.volatile) same in
-    flush_keeps g.H.Handler.meaning c.args.tenant.now c.args.self.now c.enter_stable.new.self c.forget_after.new.self c.args.log.now c.append_all-said.new.log c.args.unit m said c.in-Ok.ensures.found (c.enter_stable.ensures.makes m c.in-Ok.ensures.found)
-    (λ w s. flush_done g.H.Handler.meaning c.args.tenant.now c.args.self.now w c.args.log.now (opened s) c.args.unit m c.in-Ok.ensures.found c.in-Ok.ensures.up c.append_all-said.new.log c.enter_stable.new.self said
+    let volatile : c.recovering.result.now.volatile ≡ m.recovering.volatile =
+    ap (λ (r : Recovering g.row.H-State.Denot). r.volatile) same in
+    flush_keeps g.H.Handler.meaning c.args.tenant.now
+    c.args.self.now c.enter_stable.new.self c.forget_after.new.self c.args.log.now c.append_all-said.new.log
+    c.args.unit m said c.in-Ok.ensures.found (c.enter_stable.ensures.makes m c.in-Ok.ensures.found)
+    (λ w s. flush_done g.H.Handler.meaning c.args.tenant.now c.args.self.now w c.args.log.now (opened s)
+    c.args.unit m c.in-Ok.ensures.found c.in-Ok.ensures.up c.append_all-said.new.log c.enter_stable.new.self said
     (c.append_all-said.ensures.records ∙ ap (λ vs. c.args.log.now.records ++ map Some (take said.appended vs)) volatile)
     (subst (λ vs. said.appended ≤ length vs) volatile c.append_all-said.ensures.within)
     (subst (λ vs. (said.end ≡ Whole) ↔ (said.appended ≡ length vs)) volatile c.append_all-said.ensures.whole)
@@ -62,3 +76,13 @@ returns-clause-keeps_on g c =
     (c.enter_stable.ensures.makes m c.in-Ok.ensures.found)
     c.append_all-said.ensures.device)
     c.forget_after.ensures.bases c.flush_reply.result c.flush_reply.ensures
+
+pub returns-then-is_forgone-clause-steady : goal.returns-then-is_forgone-clause-steady
+returns-then-is_forgone-clause-steady g c =
+    let memory = c.is_forgone.ensures.memory c.if-is_forgone.true in
+    inl (c.append_all-said.ensures.steady (λ e. absurd (cc (memory, e))))
+
+pub returns-clause-steady : goal.returns-clause-steady
+returns-clause-steady g c =
+    unless_device c.append_all-said.result.end (λ not. c.forget_after.ensures.beside.failures
+    ∙ c.append_all-said.ensures.steady not)

@@ -10,7 +10,9 @@ use Rattle.tenant.proofs.tenant.Tenant.forget_firm.Given as goal
 abbrev pub invariant-loop-at : goal.invariant-loop-at
 invariant-loop-at g l = record {
   gone : l.self.gone ≡ l.fn.self.gone;
-  stands : (w : World) → Stands g.H.Handler.meaning l.tenant l.fn.self w l.fn.log.records → Stands g.H.Handler.meaning l.tenant l.self w l.log.records;
+  stands : (w : World) → Stands g.H.Handler.meaning l.tenant l.fn.self w l.fn.log.records
+      → Stands g.H.Handler.meaning l.tenant l.self w l.log.records;
   beside : IsBeside l.tenant l.fn.log l.log;
-  bases : (w : World) (shelves : List Shelf) → Stands g.H.Handler.meaning l.tenant l.fn.self w l.fn.log.records → KeepsPast l.fn.self w shelves → KeepsPast l.self w (all_based w (take l.at w.members) shelves);
+  bases : (w : World) (shelves : List Shelf) → Stands g.H.Handler.meaning l.tenant l.fn.self w l.fn.log.records
+      → KeepsPast l.fn.self w shelves → KeepsPast l.self w (all_based w (take l.at w.members) shelves);
 }

@@ -15,13 +15,16 @@ use Rattle.theory.proofs.ListLaws.{le_true}
 
 pub returns-in-Err-clause-did : goal.returns-in-Err-clause-did
 returns-in-Err-clause-did g c = λ w s.
-    rw (c.refused.ensures.reply, c.refused.ensures.plain.1) (notice_not_up g.H.Handler.meaning c.args.tenant.now c.args.self.now w c.args.log.now (opened s) c.args.unit c.in-Err.refusal c.in-Err.ensures.refused)
+    rw (c.refused.ensures.reply, c.refused.ensures.plain.1) (notice_not_up g.H.Handler.meaning c.args.tenant.now
+    c.args.self.now w c.args.log.now (opened s) c.args.unit c.in-Err.refusal c.in-Err.ensures.refused)
 
 pub is_last-requires-after_bounds : goal.is_last-requires-after_bounds
-is_last-requires-after_bounds g c κs within = slice_get_within c.args.self.now.members c.args.unit _ c.in-Ok.ensures.found
+is_last-requires-after_bounds g c κs within =
+    slice_get_within c.args.self.now.members c.args.unit _ c.in-Ok.ensures.found
 
 pub learn_rows-requires-after_bounds : goal.learn_rows-requires-after_bounds
-learn_rows-requires-after_bounds g c κs within = slice_get_within c.args.self.now.members c.args.unit _ c.in-Ok.ensures.found
+learn_rows-requires-after_bounds g c κs within =
+    slice_get_within c.args.self.now.members c.args.unit _ c.in-Ok.ensures.found
 
 pub returns-then-is_last-clause-did : goal.returns-then-is_last-clause-did
 returns-then-is_last-clause-did g c = λ w s.
@@ -29,7 +32,8 @@ returns-then-is_last-clause-did g c = λ w s.
     let found = c.in-Ok.ensures.found in
     let target = c.in-Some.target in
     rw (c.learn_rows.ensures.learned m found, c.twice.ensures.reply, c.twice.ensures.plain.1)
-    (notice_learns g.H.Handler.meaning c.args.tenant.now c.args.self.now w c.args.log.now (opened s) c.args.unit m found target (c.in-Some.ensures.target m found) (c.in-Some.ensures.kept m found) c.in-Ok.ensures.up
+    (notice_learns g.H.Handler.meaning c.args.tenant.now c.args.self.now w c.args.log.now (opened s) c.args.unit
+    m found target (c.in-Some.ensures.target m found) (c.in-Some.ensures.kept m found) c.in-Ok.ensures.up
     (le_true (places m.recovering) (target + 1) (sym (c.is_last.ensures m found) ∙ c.if-is_last.true)))
 
 pub returns-then-is_worn_out-clause-did : goal.returns-then-is_worn_out-clause-did
@@ -38,25 +42,33 @@ returns-then-is_worn_out-clause-did g c = λ w s.
     let found = c.in-Ok.ensures.found in
     let target = c.in-Some.target in
     rw (c.refused-then-is_worn_out.ensures.reply, c.refused-then-is_worn_out.ensures.plain.1)
-    (notice_worn g.H.Handler.meaning c.args.tenant.now c.args.self.now w c.args.log.now (opened s) c.args.unit m found target (c.in-Some.ensures.target m found) (c.in-Some.ensures.kept m found) c.in-Ok.ensures.up
-    (above (places m.recovering) (target + 1) (sym (c.is_last.ensures m found) ∙ c.if-is_last.false)) (sym c.is_worn_out.ensures ∙ c.if-is_worn_out.true))
+    (notice_worn g.H.Handler.meaning c.args.tenant.now c.args.self.now w c.args.log.now (opened s) c.args.unit
+    m found target (c.in-Some.ensures.target m found) (c.in-Some.ensures.kept m found) c.in-Ok.ensures.up
+    (above (places m.recovering) (target + 1) (sym (c.is_last.ensures m found) ∙ c.if-is_last.false))
+    (sym c.is_worn_out.ensures ∙ c.if-is_worn_out.true))
 
 pub return_to-requires-clause-within : goal.return_to-requires-clause-within
-return_to-requires-clause-within g c κs within = slice_get_within c.args.self.now.members c.args.unit _ c.in-Ok.ensures.found
+return_to-requires-clause-within g c κs within =
+    slice_get_within c.args.self.now.members c.args.unit _ c.in-Ok.ensures.found
 
 pub returns-clause-did : goal.returns-clause-did
 returns-clause-did g c =
     let m : Member g.row.H-State.Denot = c.in-Ok.field-0.now in
     let found = c.in-Ok.ensures.found in
     let target = c.in-Some.target in
-    if_ok _ _ c.return_to.result (λ a returns w s. notice_returns g.H.Handler.meaning c.args.tenant.now c.args.self.now w c.args.log.now (opened s) c.args.unit m found target (c.in-Some.ensures.target m found) (c.in-Some.ensures.kept m found) c.in-Ok.ensures.up
-    (above (places m.recovering) (target + 1) (sym (c.is_last.ensures m found) ∙ c.if-is_last.false)) (sym c.is_worn_out.ensures ∙ c.if-is_worn_out.false)
-    c.start_behind.result c.start_behind.ensures c.return_to.new.self c.return_to.new.log a (returns m found)) c.return_to.ensures.returns
+    if_ok _ _ c.return_to.result (λ a returns w s.
+    notice_returns g.H.Handler.meaning c.args.tenant.now c.args.self.now w c.args.log.now (opened s) c.args.unit
+    m found target (c.in-Some.ensures.target m found) (c.in-Some.ensures.kept m found) c.in-Ok.ensures.up
+    (above (places m.recovering) (target + 1) (sym (c.is_last.ensures m found) ∙ c.if-is_last.false))
+    (sym c.is_worn_out.ensures ∙ c.if-is_worn_out.false)
+    c.start_behind.result c.start_behind.ensures c.return_to.new.self c.return_to.new.log a (returns m found))
+    c.return_to.ensures.returns
 
 pub returns-clause-others : goal.returns-clause-others
 returns-clause-others g c = λ k w other differs s.
     returned_beside g.H.Handler.meaning c.args.tenant.now other c.args.unit k w c.args.log.now c.return_to.new.log
-    (either_beside c.return_to.result c.args.tenant.now c.args.unit c.args.log.now c.return_to.new.log c.return_to.ensures.beside c.return_to.ensures.err_log) differs s
+    (either_beside c.return_to.result c.args.tenant.now c.args.unit
+    c.args.log.now c.return_to.new.log c.return_to.ensures.beside c.return_to.ensures.err_log) differs s
 
 pub returns-then-is_last-clause-shelves : goal.returns-then-is_last-clause-shelves
 returns-then-is_last-clause-shelves g c =
@@ -65,11 +77,15 @@ returns-then-is_last-clause-shelves g c =
     let t : TenantState g.row.H-State.Denot = c.args.self.now in
     let v : TenantState g.row.H-State.Denot = c.learn_rows.new.self in
     let new = c.learn_rows.ensures.learned m found in
-    rw (c.twice.ensures.reply) (one_same t c.args.unit m found (record m { known = length t.table }) v (ap (λ (z : TenantState g.row.H-State.Denot). z.members) new) refl (no_letters t v (ap (λ (z : TenantState g.row.H-State.Denot). z.letters) new)))
+    rw (c.twice.ensures.reply) (one_same t c.args.unit m found (record m { known = length t.table }) v
+    (ap (λ (z : TenantState g.row.H-State.Denot). z.members) new) refl
+    (no_letters t v (ap (λ (z : TenantState g.row.H-State.Denot). z.letters) new)))
 
 pub returns-clause-shelves : goal.returns-clause-shelves
 returns-clause-shelves g c =
     let m : Member g.row.H-State.Denot = c.in-Ok.field-0.now in
     let found = c.in-Ok.ensures.found in
     let start = c.start_behind.result in
-    if_ok _ _ c.return_to.result (λ a returns. returned_shelves g.H.Handler.meaning c.args.tenant.now c.args.self.now c.return_to.new.self c.args.unit m found c.in-Some.target _ a c.args.log.now c.return_to.new.log start (ap (λ (z : Start). z.index) c.start_behind.ensures) (inr refl) (returns m found)) c.return_to.ensures.returns
+    if_ok _ _ c.return_to.result (λ a returns. returned_shelves g.H.Handler.meaning c.args.tenant.now c.args.self.now
+    c.return_to.new.self c.args.unit m found c.in-Some.target _ a c.args.log.now c.return_to.new.log start
+    (ap (λ (z : Start). z.index) c.start_behind.ensures) (inr refl) (returns m found)) c.return_to.ensures.returns

@@ -6,5 +6,7 @@ use Rattle.tenant.proofs.Standing.{opened}
 use Rattle.tenant.proofs.tenant.Tenant.released.Goals as goal
 
 pub returns : goal.returns
-returns g c = λ name w records s none. subst (λ (o : Option (List (List ℕ))). MatchOption c.released_texts.result (o ≡ None) (λ texts. o ≡ Some texts.now))
-    (released_same g.H.Handler.meaning name (live_in name records) c.args.self.now w (opened s).whole (opened s).stands none c.args.unit) c.released_texts.ensures
+returns g c = λ name w records s none. subst
+    (λ (o : Option (List (List ℕ))). MatchOption c.released_texts.result (o ≡ None) (λ texts. o ≡ Some texts.now))
+    (released_same g.H.Handler.meaning name (live_in name records)
+    c.args.self.now w (opened s).whole (opened s).stands none c.args.unit) c.released_texts.ensures

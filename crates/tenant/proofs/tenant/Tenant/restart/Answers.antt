@@ -13,7 +13,8 @@ use Rattle.tenant.proofs.tenant.Tenant.restart.Goals as goal
 pub returns-in-Some-clause-did : goal.returns-in-Some-clause-did
 returns-in-Some-clause-did g c = λ w s.
     rw (c.refused.ensures.reply, c.refused.ensures.plain.1)
-    (restart_refused_by g.H.Handler.meaning c.args.tenant.now c.args.self.now w c.args.log.now (opened s) c.args.unit c.in-Some.refusal (sym c.restart_refusal.ensures.refusal ∙ c.in-Some.is))
+    (restart_refused_by g.H.Handler.meaning c.args.tenant.now c.args.self.now w c.args.log.now
+    (opened s) c.args.unit c.in-Some.refusal (sym c.restart_refusal.ensures.refusal ∙ c.in-Some.is))
 
 pub returns-clause-did : goal.returns-clause-did
 returns-clause-did g c =
@@ -21,13 +22,18 @@ returns-clause-did g c =
     let u = c.args.unit in
     let m = get_below t.members u c.in-None.ensures.there in
     let target = c.in-Some-last_kept.target in
-    if_ok _ _ c.return_to.result (λ a returns w s. restart_returns g.H.Handler.meaning c.args.tenant.now t w c.args.log.now (opened s) u m.0 m.1 target (c.in-Some-last_kept.ensures.target m.0 m.1) (c.in-Some-last_kept.ensures.kept m.0 m.1)
-    (ap (restart_refusal t.table u) (sym m.1) ∙ sym c.restart_refusal.ensures.refusal ∙ c.in-None.is) c.start_behind-row.result c.start_behind-row.ensures c.return_to.new.self c.return_to.new.log a (returns m.0 m.1)) c.return_to.ensures.returns
+    if_ok _ _ c.return_to.result
+    (λ a returns w s. restart_returns g.H.Handler.meaning c.args.tenant.now t w c.args.log.now (opened s)
+    u m.0 m.1 target (c.in-Some-last_kept.ensures.target m.0 m.1) (c.in-Some-last_kept.ensures.kept m.0 m.1)
+    (ap (restart_refusal t.table u) (sym m.1) ∙ sym c.restart_refusal.ensures.refusal ∙ c.in-None.is)
+    c.start_behind-row.result c.start_behind-row.ensures c.return_to.new.self c.return_to.new.log a (returns m.0 m.1))
+    c.return_to.ensures.returns
 
 pub returns-clause-others : goal.returns-clause-others
 returns-clause-others g c = λ k w other differs s.
     returned_beside g.H.Handler.meaning c.args.tenant.now other c.args.unit k w c.args.log.now c.return_to.new.log
-    (either_beside c.return_to.result c.args.tenant.now c.args.unit c.args.log.now c.return_to.new.log c.return_to.ensures.beside c.return_to.ensures.err_log) differs s
+    (either_beside c.return_to.result c.args.tenant.now c.args.unit
+    c.args.log.now c.return_to.new.log c.return_to.ensures.beside c.return_to.ensures.err_log) differs s
 
 pub returns-clause-shelves : goal.returns-clause-shelves
 returns-clause-shelves g c =
@@ -35,4 +41,7 @@ returns-clause-shelves g c =
     let u = c.args.unit in
     let m = get_below t.members u c.in-None.ensures.there in
     let start = c.start_behind-row.result in
-    if_ok _ _ c.return_to.result (λ a returns. returned_shelves g.H.Handler.meaning c.args.tenant.now t c.return_to.new.self u m.0 m.1 c.in-Some-last_kept.target _ a c.args.log.now c.return_to.new.log start (ap (λ (z : Start). z.index) c.start_behind-row.ensures) (inl refl) (returns m.0 m.1)) c.return_to.ensures.returns
+    if_ok _ _ c.return_to.result (λ a returns. returned_shelves g.H.Handler.meaning c.args.tenant.now
+    t c.return_to.new.self u m.0 m.1 c.in-Some-last_kept.target _ a c.args.log.now c.return_to.new.log start
+    (ap (λ (z : Start). z.index) c.start_behind-row.ensures) (inl refl) (returns m.0 m.1))
+    c.return_to.ensures.returns

@@ -5,4 +5,5 @@ use Rattle.tenant.proofs.Standing.{opened}
 use Rattle.tenant.proofs.tenant.Tenant.status.Goals as goal
 
 pub returns : goal.returns
-returns g c = λ name w records s. sym (ap (λ (o : Outcome). o.reply) (c.answer_status.ensures.done name (live_in name records) w (opened s).whole (opened s).stands).1)
+returns g c = λ name w records s. sym (ap (λ (o : Outcome). o.reply)
+    (c.answer_status.ensures.done name (live_in name records) w (opened s).whole (opened s).stands).1)

@@ -9,25 +9,37 @@ use Rattle.tenant.proofs.tenant.Tenant.step_with.Goals as goal
 pub returns-in-Post-clause-fresh : goal.returns-in-Post-clause-fresh
 returns-in-Post-clause-fresh g c =
     rw (c.in-Post.is)
-    (fresh_ok g.H.Handler.meaning c.args.name.now c.args.self.now c.args.log.now.records (λ w. post_needs g.H.Handler.meaning w c.in-Post.unit c.in-Post.number c.in-Post.text) c.args.worked.input c.post_with.result c.post_with.ensures.fresh)
+    (fresh_ok g.H.Handler.meaning c.args.name.now c.args.self.now
+    c.args.log.now.records (λ w. post_needs g.H.Handler.meaning w c.in-Post.unit c.in-Post.number c.in-Post.text)
+    c.args.worked.input c.post_with.result c.post_with.ensures.fresh)
 
 pub returns-in-Post-clause-did : goal.returns-in-Post-clause-did
 returns-in-Post-clause-did g c =
     rw (c.in-Post.is)
-    (some_ok g.H.Handler.meaning c.args.name.now c.args.self.now c.post_with.new.self (Post c.in-Post.unit c.in-Post.number c.in-Post.text) c.args.log.now (λ w. (refl, refl, refl)) c.post_with.result c.post_with.ensures.done c.post_with.ensures.plain)
+    (some_ok g.H.Handler.meaning c.args.name.now
+    c.args.self.now c.post_with.new.self (Post c.in-Post.unit c.in-Post.number c.in-Post.text) c.args.log.now
+    (λ w. (refl, refl, refl)) c.post_with.result c.post_with.ensures.done c.post_with.ensures.plain)
 
 pub returns-in-Deliver-clause-fresh : goal.returns-in-Deliver-clause-fresh
 returns-in-Deliver-clause-fresh g c =
     rw (c.in-Deliver.is)
-    (fresh_ok g.H.Handler.meaning c.args.name.now c.args.self.now c.args.log.now.records (λ w. deliver_needs g.H.Handler.meaning w c.in-Deliver.letter) c.args.worked.input c.deliver_with.result c.deliver_with.ensures.fresh)
+    (fresh_ok g.H.Handler.meaning c.args.name.now
+    c.args.self.now c.args.log.now.records (λ w. deliver_needs g.H.Handler.meaning w c.in-Deliver.letter)
+    c.args.worked.input c.deliver_with.result c.deliver_with.ensures.fresh)
 
 pub returns-in-Deliver-clause-did : goal.returns-in-Deliver-clause-did
 returns-in-Deliver-clause-did g c =
     rw (c.in-Deliver.is)
-    (some_ok g.H.Handler.meaning c.args.name.now c.args.self.now c.deliver_with.new.self (Deliver c.in-Deliver.letter) c.args.log.now (λ w. (refl, refl, refl)) c.deliver_with.result c.deliver_with.ensures.done c.deliver_with.ensures.plain)
+    (some_ok g.H.Handler.meaning
+    c.args.name.now c.args.self.now c.deliver_with.new.self (Deliver c.in-Deliver.letter) c.args.log.now
+    (λ w. (refl, refl, refl)) c.deliver_with.result c.deliver_with.ensures.done c.deliver_with.ensures.plain)
 
 pub returns-in-Post-clause-keeps_on : goal.returns-in-Post-clause-keeps_on
-returns-in-Post-clause-keeps_on g c = rw (c.in-Post.is) (same_worked g.H.Handler.meaning c.args.name.now c.args.self.now c.post_with.new.self c.args.log.now.records (Post c.in-Post.unit c.in-Post.number c.in-Post.text) (post_stays c.in-Post.unit c.in-Post.number c.in-Post.text) c.post_with.result c.post_with.ensures.shelves)
+returns-in-Post-clause-keeps_on g c = rw (c.in-Post.is) (same_worked g.H.Handler.meaning c.args.name.now
+    c.args.self.now c.post_with.new.self c.args.log.now.records (Post c.in-Post.unit c.in-Post.number c.in-Post.text)
+    (post_stays c.in-Post.unit c.in-Post.number c.in-Post.text) c.post_with.result c.post_with.ensures.shelves)
 
 pub returns-in-Deliver-clause-keeps_on : goal.returns-in-Deliver-clause-keeps_on
-returns-in-Deliver-clause-keeps_on g c = rw (c.in-Deliver.is) (same_worked g.H.Handler.meaning c.args.name.now c.args.self.now c.deliver_with.new.self c.args.log.now.records (Deliver c.in-Deliver.letter) (deliver_stays c.in-Deliver.letter) c.deliver_with.result c.deliver_with.ensures.shelves)
+returns-in-Deliver-clause-keeps_on g c = rw (c.in-Deliver.is) (same_worked g.H.Handler.meaning
+    c.args.name.now c.args.self.now c.deliver_with.new.self c.args.log.now.records (Deliver c.in-Deliver.letter)
+    (deliver_stays c.in-Deliver.letter) c.deliver_with.result c.deliver_with.ensures.shelves)

@@ -15,98 +15,189 @@ use Rattle.tenant.proofs.tenant.Tenant.take_letter.Goals as goal
 
 pub returns-in-None-clause-done : goal.returns-in-None-clause-done
 returns-in-None-clause-done g c = λ live w log s.
-    refused_stays g.H.Handler.meaning c.args.name.now live c.args.self.now w log s _ _ _ (letter_none g.H.Handler.meaning c.args.name.now live c.args.self.now w log s c.args.letter c.in-None.ensures).1 c.refused.ensures.reply
+    refused_stays g.H.Handler.meaning c.args.name.now live c.args.self.now w log s _ _ _
+    (letter_none g.H.Handler.meaning c.args.name.now live c.args.self.now w log s c.args.letter c.in-None.ensures).1
+    c.refused.ensures.reply
 
 pub returns-in-None-member-clause-done : goal.returns-in-None-member-clause-done
 returns-in-None-member-clause-done g c = λ live w log s.
-    let sent : Letter = record { source = c.sent.inside.source; receiver = c.sent.inside.receiver; number = c.sent.inside.number; content = c.sent.inside.content } in
-    let there : slice_get c.args.self.now.letters c.args.letter ≡ Some sent = (c.in-Some.ensures ∙ ap (λ (l : Letter). Some l) (sym c.sent.view_is)) in
-    refused_stays g.H.Handler.meaning c.args.name.now live c.args.self.now w log s _ _ _ (letter_no_unit g.H.Handler.meaning c.args.name.now live c.args.self.now w log s c.args.letter sent there c.in-None-member.ensures).1 c.refused-in-None-member.ensures.reply
+    let sent : Letter = record {
+      source = c.sent.inside.source;
+      receiver = c.sent.inside.receiver;
+      number = c.sent.inside.number;
+      content = c.sent.inside.content;
+    } in
+    let there : slice_get c.args.self.now.letters c.args.letter ≡ Some sent =
+    (c.in-Some.ensures ∙ ap (λ (l : Letter). Some l) (sym c.sent.view_is)) in
+    refused_stays g.H.Handler.meaning c.args.name.now
+    live c.args.self.now w log s _ _ _ (letter_no_unit g.H.Handler.meaning c.args.name.now live c.args.self.now
+    w log s c.args.letter sent there c.in-None-member.ensures).1 c.refused-in-None-member.ensures.reply
 
 pub returns-in-None-content-clause-done : goal.returns-in-None-content-clause-done
 returns-in-None-content-clause-done g c = λ live w log s.
-    let sent : Letter = record { source = c.sent.inside.source; receiver = c.sent.inside.receiver; number = c.sent.inside.number; content = c.sent.inside.content } in
-    let there : slice_get c.args.self.now.letters c.args.letter ≡ Some sent = (c.in-Some.ensures ∙ ap (λ (l : Letter). Some l) (sym c.sent.view_is)) in
-    let none = subst (λ (o : Option Content). IsAskingBy c.args.self.now c.in-Some-member.member.now sent o c.args.worked.input) c.in-None-content.is (c.requires sent c.in-Some-member.member.now there c.in-Some-member.ensures) in
+    let sent : Letter = record {
+      source = c.sent.inside.source;
+      receiver = c.sent.inside.receiver;
+      number = c.sent.inside.number;
+      content = c.sent.inside.content;
+    } in
+    let there : slice_get c.args.self.now.letters c.args.letter ≡ Some sent =
+    (c.in-Some.ensures ∙ ap (λ (l : Letter). Some l) (sym c.sent.view_is)) in
+    let none = subst
+    (λ (o : Option Content). IsAskingBy c.args.self.now c.in-Some-member.member.now sent o c.args.worked.input)
+    c.in-None-content.is (c.requires sent c.in-Some-member.member.now there c.in-Some-member.ensures) in
     absurd none
 
 pub planned-requires-after_bounds : goal.planned-requires-after_bounds
 planned-requires-after_bounds g c κs within =
-    let sent : Letter = record { source = c.sent.inside.source; receiver = c.sent.inside.receiver; number = c.sent.inside.number; content = c.sent.inside.content } in
-    let there : slice_get c.args.self.now.letters c.args.letter ≡ Some sent = (c.in-Some.ensures ∙ ap (λ (l : Letter). Some l) (sym c.sent.view_is)) in
+    let sent : Letter = record {
+      source = c.sent.inside.source;
+      receiver = c.sent.inside.receiver;
+      number = c.sent.inside.number;
+      content = c.sent.inside.content;
+    } in
+    let there : slice_get c.args.self.now.letters c.args.letter ≡ Some sent =
+    (c.in-Some.ensures ∙ ap (λ (l : Letter). Some l) (sym c.sent.view_is)) in
     let content : Content = record { text = c.text.result.now; vector = c.vector.result.now } in
     let whole : sent.content ≡ Some content =
-    content_parts sent.content c.in-Some-content.content c.text.result.now c.vector.result.now c.in-Some-content.is c.text.ensures c.vector.ensures in
-    let is = subst (λ (o : Option Content). IsAskingBy c.args.self.now c.in-Some-member.member.now sent o c.args.worked.input) whole (c.requires sent c.in-Some-member.member.now there c.in-Some-member.ensures) in
+    content_parts sent.content c.in-Some-content.content
+    c.text.result.now c.vector.result.now c.in-Some-content.is c.text.ensures c.vector.ensures in
+    let is = subst (λ (o : Option Content). IsAskingBy c.args.self.now c.in-Some-member.member.now sent
+    o c.args.worked.input) whole (c.requires sent c.in-Some-member.member.now there c.in-Some-member.ensures) in
     is.room
 
 pub enter-requires-clause-within : goal.enter-requires-clause-within
-enter-requires-clause-within g c κs within = slice_get_within c.args.self.now.members c.sent.inside.receiver _ c.in-Some-member.ensures
+enter-requires-clause-within g c κs within =
+    slice_get_within c.args.self.now.members c.sent.inside.receiver _ c.in-Some-member.ensures
 
 pub enter-requires-clause-few : goal.enter-requires-clause-few
 enter-requires-clause-few g c κs within =
-    let sent : Letter = record { source = c.sent.inside.source; receiver = c.sent.inside.receiver; number = c.sent.inside.number; content = c.sent.inside.content } in
-    let there : slice_get c.args.self.now.letters c.args.letter ≡ Some sent = (c.in-Some.ensures ∙ ap (λ (l : Letter). Some l) (sym c.sent.view_is)) in
+    let sent : Letter = record {
+      source = c.sent.inside.source;
+      receiver = c.sent.inside.receiver;
+      number = c.sent.inside.number;
+      content = c.sent.inside.content;
+    } in
+    let there : slice_get c.args.self.now.letters c.args.letter ≡ Some sent =
+    (c.in-Some.ensures ∙ ap (λ (l : Letter). Some l) (sym c.sent.view_is)) in
     let content : Content = record { text = c.text.result.now; vector = c.vector.result.now } in
     let whole : sent.content ≡ Some content =
-    content_parts sent.content c.in-Some-content.content c.text.result.now c.vector.result.now c.in-Some-content.is c.text.ensures c.vector.ensures in
-    let is = subst (λ (o : Option Content). IsAskingBy c.args.self.now c.in-Some-member.member.now sent o c.args.worked.input) whole (c.requires sent c.in-Some-member.member.now there c.in-Some-member.ensures) in
+    content_parts sent.content c.in-Some-content.content
+    c.text.result.now c.vector.result.now c.in-Some-content.is c.text.ensures c.vector.ensures in
+    let is = subst (λ (o : Option Content). IsAskingBy c.args.self.now c.in-Some-member.member.now sent
+    o c.args.worked.input) whole (c.requires sent c.in-Some-member.member.now there c.in-Some-member.ensures) in
     let planned = rw (c.in-Ok.is) at c.in_ok-refusal.ensures in
-    planned_few c.args.name.now c.args.self.now c.sent.inside.receiver c.in-Some-member.member.now (delivered c.args.letter sent content) c.turn.result.now c.in-Ok.plan planned _ (FromUnit sent.source) content.text c.args.worked.input is
+    planned_few c.args.name.now
+    c.args.self.now c.sent.inside.receiver c.in-Some-member.member.now (delivered c.args.letter sent content)
+    c.turn.result.now c.in-Ok.plan planned _ (FromUnit sent.source) content.text c.args.worked.input is
 
 pub enter-requires-clause-next : goal.enter-requires-clause-next
 enter-requires-clause-next g c κs within = λ m at.
-    let sent : Letter = record { source = c.sent.inside.source; receiver = c.sent.inside.receiver; number = c.sent.inside.number; content = c.sent.inside.content } in
-    let there : slice_get c.args.self.now.letters c.args.letter ≡ Some sent = (c.in-Some.ensures ∙ ap (λ (l : Letter). Some l) (sym c.sent.view_is)) in
+    let sent : Letter = record {
+      source = c.sent.inside.source;
+      receiver = c.sent.inside.receiver;
+      number = c.sent.inside.number;
+      content = c.sent.inside.content;
+    } in
+    let there : slice_get c.args.self.now.letters c.args.letter ≡ Some sent =
+    (c.in-Some.ensures ∙ ap (λ (l : Letter). Some l) (sym c.sent.view_is)) in
     let content : Content = record { text = c.text.result.now; vector = c.vector.result.now } in
     let whole : sent.content ≡ Some content =
-    content_parts sent.content c.in-Some-content.content c.text.result.now c.vector.result.now c.in-Some-content.is c.text.ensures c.vector.ensures in
-    let is = subst (λ (o : Option Content). IsAskingBy c.args.self.now c.in-Some-member.member.now sent o c.args.worked.input) whole (c.requires sent c.in-Some-member.member.now there c.in-Some-member.ensures) in
+    content_parts sent.content c.in-Some-content.content
+    c.text.result.now c.vector.result.now c.in-Some-content.is c.text.ensures c.vector.ensures in
+    let is = subst (λ (o : Option Content). IsAskingBy c.args.self.now c.in-Some-member.member.now sent
+    o c.args.worked.input) whole (c.requires sent c.in-Some-member.member.now there c.in-Some-member.ensures) in
     let planned = rw (c.in-Ok.is) at c.in_ok-refusal.ensures in
-    planned_next c.args.name.now c.args.self.now c.sent.inside.receiver c.in-Some-member.member.now (delivered c.args.letter sent content) c.turn.result.now c.in-Ok.plan planned _ (FromUnit sent.source) content.text c.args.worked.input is refl refl c.in-Some-member.ensures m at
+    planned_next c.args.name.now c.args.self.now c.sent.inside.receiver
+    c.in-Some-member.member.now (delivered c.args.letter sent content) c.turn.result.now c.in-Ok.plan
+    planned _ (FromUnit sent.source) content.text c.args.worked.input is refl refl c.in-Some-member.ensures m at
 
 pub returns-in-Err-clause-done : goal.returns-in-Err-clause-done
 returns-in-Err-clause-done g c = λ live w log s.
-    let sent : Letter = record { source = c.sent.inside.source; receiver = c.sent.inside.receiver; number = c.sent.inside.number; content = c.sent.inside.content } in
-    let there : slice_get c.args.self.now.letters c.args.letter ≡ Some sent = (c.in-Some.ensures ∙ ap (λ (l : Letter). Some l) (sym c.sent.view_is)) in
+    let sent : Letter = record {
+      source = c.sent.inside.source;
+      receiver = c.sent.inside.receiver;
+      number = c.sent.inside.number;
+      content = c.sent.inside.content;
+    } in
+    let there : slice_get c.args.self.now.letters c.args.letter ≡ Some sent =
+    (c.in-Some.ensures ∙ ap (λ (l : Letter). Some l) (sym c.sent.view_is)) in
     let content : Content = record { text = c.text.result.now; vector = c.vector.result.now } in
     let whole : sent.content ≡ Some content =
-    content_parts sent.content c.in-Some-content.content c.text.result.now c.vector.result.now c.in-Some-content.is c.text.ensures c.vector.ensures in
-    let is = subst (λ (o : Option Content). IsAskingBy c.args.self.now c.in-Some-member.member.now sent o c.args.worked.input) whole (c.requires sent c.in-Some-member.member.now there c.in-Some-member.ensures) in
+    content_parts sent.content c.in-Some-content.content
+    c.text.result.now c.vector.result.now c.in-Some-content.is c.text.ensures c.vector.ensures in
+    let is = subst (λ (o : Option Content). IsAskingBy c.args.self.now c.in-Some-member.member.now sent
+    o c.args.worked.input) whole (c.requires sent c.in-Some-member.member.now there c.in-Some-member.ensures) in
     let planned = rw (c.in-Err.is, c.turn.ensures) at c.in_ok-refusal.ensures in
-    rw (c.refused-in-Err.ensures.reply) (letter_refused_then g.H.Handler.meaning c.args.name.now live c.args.self.now w log s c.args.letter sent there c.in-Some-member.member.now c.in-Some-member.ensures content whole c.args.worked.input is c.in-Err.refusal planned)
+    rw (c.refused-in-Err.ensures.reply) (letter_refused_then g.H.Handler.meaning
+    c.args.name.now live c.args.self.now w log s c.args.letter sent there c.in-Some-member.member.now
+    c.in-Some-member.ensures content whole c.args.worked.input is c.in-Err.refusal planned)
 
 pub returns-in_ok-answer-in-Ok-clause-plain : goal.returns-in_ok-answer-in-Ok-clause-plain
 returns-in_ok-answer-in-Ok-clause-plain g c =
-    let sent : Letter = record { source = c.sent.inside.source; receiver = c.sent.inside.receiver; number = c.sent.inside.number; content = c.sent.inside.content } in
-    let there : slice_get c.args.self.now.letters c.args.letter ≡ Some sent = (c.in-Some.ensures ∙ ap (λ (l : Letter). Some l) (sym c.sent.view_is)) in
+    let sent : Letter = record {
+      source = c.sent.inside.source;
+      receiver = c.sent.inside.receiver;
+      number = c.sent.inside.number;
+      content = c.sent.inside.content;
+    } in
+    let there : slice_get c.args.self.now.letters c.args.letter ≡ Some sent =
+    (c.in-Some.ensures ∙ ap (λ (l : Letter). Some l) (sym c.sent.view_is)) in
     let content : Content = record { text = c.text.result.now; vector = c.vector.result.now } in
     let whole : sent.content ≡ Some content =
-    content_parts sent.content c.in-Some-content.content c.text.result.now c.vector.result.now c.in-Some-content.is c.text.ensures c.vector.ensures in
-    let is = subst (λ (o : Option Content). IsAskingBy c.args.self.now c.in-Some-member.member.now sent o c.args.worked.input) whole (c.requires sent c.in-Some-member.member.now there c.in-Some-member.ensures) in
+    content_parts sent.content c.in-Some-content.content
+    c.text.result.now c.vector.result.now c.in-Some-content.is c.text.ensures c.vector.ensures in
+    let is = subst (λ (o : Option Content). IsAskingBy c.args.self.now c.in-Some-member.member.now sent
+    o c.args.worked.input) whole (c.requires sent c.in-Some-member.member.now there c.in-Some-member.ensures) in
     let planned = rw (c.in-Ok.is) at c.in_ok-refusal.ensures in
-    rw (c.in_ok-answer-in-Ok.ensures.answer) (planned_plain c.args.name.now c.args.self.now c.sent.inside.receiver c.in-Some-member.member.now (delivered c.args.letter sent content) c.turn.result.now c.in-Ok.plan planned _ (FromUnit sent.source) content.text c.args.worked.input is)
+    rw (c.in_ok-answer-in-Ok.ensures.answer) (planned_plain c.args.name.now
+    c.args.self.now c.sent.inside.receiver c.in-Some-member.member.now (delivered c.args.letter sent content)
+    c.turn.result.now c.in-Ok.plan planned _ (FromUnit sent.source) content.text c.args.worked.input is)
 
 pub returns-in_ok-answer-in-Ok-clause-done : goal.returns-in_ok-answer-in-Ok-clause-done
 returns-in_ok-answer-in-Ok-clause-done g c = λ live w log s.
-    let sent : Letter = record { source = c.sent.inside.source; receiver = c.sent.inside.receiver; number = c.sent.inside.number; content = c.sent.inside.content } in
-    let there : slice_get c.args.self.now.letters c.args.letter ≡ Some sent = (c.in-Some.ensures ∙ ap (λ (l : Letter). Some l) (sym c.sent.view_is)) in
+    let sent : Letter = record {
+      source = c.sent.inside.source;
+      receiver = c.sent.inside.receiver;
+      number = c.sent.inside.number;
+      content = c.sent.inside.content;
+    } in
+    let there : slice_get c.args.self.now.letters c.args.letter ≡ Some sent =
+    (c.in-Some.ensures ∙ ap (λ (l : Letter). Some l) (sym c.sent.view_is)) in
     let content : Content = record { text = c.text.result.now; vector = c.vector.result.now } in
     let whole : sent.content ≡ Some content =
-    content_parts sent.content c.in-Some-content.content c.text.result.now c.vector.result.now c.in-Some-content.is c.text.ensures c.vector.ensures in
-    let is = subst (λ (o : Option Content). IsAskingBy c.args.self.now c.in-Some-member.member.now sent o c.args.worked.input) whole (c.requires sent c.in-Some-member.member.now there c.in-Some-member.ensures) in
+    content_parts sent.content c.in-Some-content.content
+    c.text.result.now c.vector.result.now c.in-Some-content.is c.text.ensures c.vector.ensures in
+    let is = subst (λ (o : Option Content). IsAskingBy c.args.self.now c.in-Some-member.member.now sent
+    o c.args.worked.input) whole (c.requires sent c.in-Some-member.member.now there c.in-Some-member.ensures) in
     let planned = rw (c.in-Ok.is) at c.in_ok-refusal.ensures in
-    letter_planned g.H.Handler.meaning c.args.name.now live c.args.self.now w log s c.args.letter sent there c.in-Some-member.member.now c.in-Some-member.ensures content whole c.args.worked.input is c.turn.result.now c.turn.ensures c.in-Ok.plan planned
-    c.in_ok-answer-in-Ok.answer.reply (ap (λ (a : Answer). a.reply) c.in_ok-answer-in-Ok.ensures.answer) c.enter.new.self (c.in_ok-answer-in-Ok.ensures.ok c.in-Some-member.member.now c.in-Some-member.ensures)
+    letter_planned g.H.Handler.meaning c.args.name.now
+    live c.args.self.now w log s c.args.letter sent there c.in-Some-member.member.now c.in-Some-member.ensures
+    content whole c.args.worked.input is c.turn.result.now c.turn.ensures c.in-Ok.plan planned
+    c.in_ok-answer-in-Ok.answer.reply (ap (λ (a : Answer). a.reply) c.in_ok-answer-in-Ok.ensures.answer)
+    c.enter.new.self (c.in_ok-answer-in-Ok.ensures.ok c.in-Some-member.member.now c.in-Some-member.ensures)
 
 pub returns-in_ok-answer-in-Ok-clause-shelves : goal.returns-in_ok-answer-in-Ok-clause-shelves
 returns-in_ok-answer-in-Ok-clause-shelves g c =
-    let sent : Letter = record { source = c.sent.inside.source; receiver = c.sent.inside.receiver; number = c.sent.inside.number; content = c.sent.inside.content } in
-    let there : slice_get c.args.self.now.letters c.args.letter ≡ Some sent = (c.in-Some.ensures ∙ ap (λ (l : Letter). Some l) (sym c.sent.view_is)) in
+    let sent : Letter = record {
+      source = c.sent.inside.source;
+      receiver = c.sent.inside.receiver;
+      number = c.sent.inside.number;
+      content = c.sent.inside.content;
+    } in
+    let there : slice_get c.args.self.now.letters c.args.letter ≡ Some sent =
+    (c.in-Some.ensures ∙ ap (λ (l : Letter). Some l) (sym c.sent.view_is)) in
     let content : Content = record { text = c.text.result.now; vector = c.vector.result.now } in
     let whole : sent.content ≡ Some content =
-    content_parts sent.content c.in-Some-content.content c.text.result.now c.vector.result.now c.in-Some-content.is c.text.ensures c.vector.ensures in
-    let is = subst (λ (o : Option Content). IsAskingBy c.args.self.now c.in-Some-member.member.now sent o c.args.worked.input) whole (c.requires sent c.in-Some-member.member.now there c.in-Some-member.ensures) in
+    content_parts sent.content c.in-Some-content.content
+    c.text.result.now c.vector.result.now c.in-Some-content.is c.text.ensures c.vector.ensures in
+    let is = subst (λ (o : Option Content). IsAskingBy c.args.self.now c.in-Some-member.member.now sent
+    o c.args.worked.input) whole (c.requires sent c.in-Some-member.member.now there c.in-Some-member.ensures) in
     let planned = rw (c.in-Ok.is) at c.in_ok-refusal.ensures in
-    received_same g.H.Handler.meaning c.args.self.now c.sent.inside.receiver c.in-Some-member.member.now c.in-Some-member.ensures c.enter.new.self c.in-Ok.plan.logged (turn_upon_input g.H.Handler.meaning c.args.worked.input).outputs c.in-Ok.plan.made.items (c.in_ok-answer-in-Ok.ensures.ok c.in-Some-member.member.now c.in-Some-member.ensures)
-    (planned_whole c.args.name.now c.args.self.now c.sent.inside.receiver c.in-Some-member.member.now (delivered c.args.letter sent content) c.turn.result.now c.in-Ok.plan planned _ (FromUnit sent.source) content.text c.args.worked.input is)
+    received_same g.H.Handler.meaning
+    c.args.self.now c.sent.inside.receiver c.in-Some-member.member.now c.in-Some-member.ensures
+    c.enter.new.self c.in-Ok.plan.logged (turn_upon_input g.H.Handler.meaning c.args.worked.input).outputs
+    c.in-Ok.plan.made.items (c.in_ok-answer-in-Ok.ensures.ok c.in-Some-member.member.now c.in-Some-member.ensures)
+    (planned_whole c.args.name.now
+    c.args.self.now c.sent.inside.receiver c.in-Some-member.member.now (delivered c.args.letter sent content)
+    c.turn.result.now c.in-Ok.plan planned _ (FromUnit sent.source) content.text c.args.worked.input is)

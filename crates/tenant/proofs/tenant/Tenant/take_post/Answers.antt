@@ -12,12 +12,16 @@ use Rattle.tenant.proofs.tenant.Tenant.take_post.Goals as goal
 
 pub returns-in-None-clause-done : goal.returns-in-None-clause-done
 returns-in-None-clause-done g c = λ live w log s.
-    refused_stays g.H.Handler.meaning c.args.name.now live c.args.self.now w log s _ _ _ (post_none g.H.Handler.meaning c.args.name.now live c.args.self.now w log s c.args.unit c.args.number c.args.text c.in-None.ensures).1 c.refused.ensures.reply
+    refused_stays g.H.Handler.meaning
+    c.args.name.now live c.args.self.now w log s _ _ _ (post_none g.H.Handler.meaning c.args.name.now live
+    c.args.self.now w log s c.args.unit c.args.number c.args.text c.in-None.ensures).1 c.refused.ensures.reply
 
 pub returns-in-Err-clause-done : goal.returns-in-Err-clause-done
 returns-in-Err-clause-done g c = λ live w log s.
     let planned = rw (c.in-Err.is, c.turn.ensures) at c.in_ok-refusal.ensures in
-    rw (c.refused-in-Err.ensures.reply) (post_refused_then g.H.Handler.meaning c.args.name.now live c.args.self.now w log s c.args.unit c.args.number c.args.text c.in-Some.member.now c.in-Some.ensures c.args.worked.input (c.requires c.in-Some.member.now c.in-Some.ensures) c.in-Err.refusal planned)
+    rw (c.refused-in-Err.ensures.reply) (post_refused_then g.H.Handler.meaning c.args.name.now
+    live c.args.self.now w log s c.args.unit c.args.number c.args.text c.in-Some.member.now c.in-Some.ensures
+    c.args.worked.input (c.requires c.in-Some.member.now c.in-Some.ensures) c.in-Err.refusal planned)
 
 pub enter-requires-clause-within : goal.enter-requires-clause-within
 enter-requires-clause-within g c κs within = slice_get_within c.args.self.now.members c.args.unit _ c.in-Some.ensures
@@ -25,27 +29,43 @@ enter-requires-clause-within g c κs within = slice_get_within c.args.self.now.m
 pub enter-requires-clause-few : goal.enter-requires-clause-few
 enter-requires-clause-few g c κs within =
     let planned = rw (c.in-Ok.is) at c.in_ok-refusal.ensures in
-    planned_few c.args.name.now c.args.self.now c.args.unit c.in-Some.member.now _ c.turn.result.now c.in-Ok.plan planned _ Outside c.args.text c.args.worked.input (c.requires c.in-Some.member.now c.in-Some.ensures)
+    planned_few c.args.name.now c.args.self.now c.args.unit c.in-Some.member.now _ c.turn.result.now c.in-Ok.plan
+    planned _ Outside c.args.text c.args.worked.input (c.requires c.in-Some.member.now c.in-Some.ensures)
 
 pub enter-requires-clause-next : goal.enter-requires-clause-next
 enter-requires-clause-next g c κs within = λ m there.
     let planned = rw (c.in-Ok.is) at c.in_ok-refusal.ensures in
-    planned_next c.args.name.now c.args.self.now c.args.unit c.in-Some.member.now _ c.turn.result.now c.in-Ok.plan planned _ Outside c.args.text c.args.worked.input (c.requires c.in-Some.member.now c.in-Some.ensures) refl refl c.in-Some.ensures m there
+    planned_next c.args.name.now
+    c.args.self.now c.args.unit c.in-Some.member.now _ c.turn.result.now c.in-Ok.plan planned _ Outside c.args.text
+    c.args.worked.input (c.requires c.in-Some.member.now c.in-Some.ensures) refl refl c.in-Some.ensures m there
 
 pub returns-clause-plain : goal.returns-clause-plain
 returns-clause-plain g c =
     let planned = rw (c.in-Ok.is) at c.in_ok-refusal.ensures in
-    rw (c.in_ok-answer-in-Ok.ensures.answer) (planned_plain c.args.name.now c.args.self.now c.args.unit c.in-Some.member.now _ c.turn.result.now c.in-Ok.plan planned _ Outside c.args.text c.args.worked.input (c.requires c.in-Some.member.now c.in-Some.ensures))
+    rw (c.in_ok-answer-in-Ok.ensures.answer)
+    (planned_plain c.args.name.now c.args.self.now c.args.unit c.in-Some.member.now _ c.turn.result.now c.in-Ok.plan
+    planned _ Outside c.args.text c.args.worked.input (c.requires c.in-Some.member.now c.in-Some.ensures))
 
 pub returns-clause-done : goal.returns-clause-done
 returns-clause-done g c = λ live w log s.
     let planned = rw (c.in-Ok.is) at c.in_ok-refusal.ensures in
-    post_planned g.H.Handler.meaning c.args.name.now live c.args.self.now w log s c.args.unit c.args.number c.args.text c.in-Some.member.now c.in-Some.ensures c.args.worked.input (c.requires c.in-Some.member.now c.in-Some.ensures)
-    c.turn.result.now c.turn.ensures _ (λ i. record { source = Outside; letter = None; number = c.from.ensures i; text = c.args.text; vector = c.in_ok-vector.ensures i }) c.in-Ok.plan planned
-    c.in_ok-answer-in-Ok.answer.reply (ap (λ (a : Answer). a.reply) c.in_ok-answer-in-Ok.ensures.answer) c.enter.new.self (c.in_ok-answer-in-Ok.ensures.ok c.in-Some.member.now c.in-Some.ensures)
+    post_planned g.H.Handler.meaning c.args.name.now live c.args.self.now w log s c.args.unit c.args.number c.args.text
+    c.in-Some.member.now c.in-Some.ensures c.args.worked.input (c.requires c.in-Some.member.now c.in-Some.ensures)
+    c.turn.result.now c.turn.ensures _ (λ i. record {
+      source = Outside;
+      letter = None;
+      number = c.from.ensures i;
+      text = c.args.text;
+      vector = c.in_ok-vector.ensures i;
+    }) c.in-Ok.plan planned
+    c.in_ok-answer-in-Ok.answer.reply (ap (λ (a : Answer). a.reply) c.in_ok-answer-in-Ok.ensures.answer)
+    c.enter.new.self (c.in_ok-answer-in-Ok.ensures.ok c.in-Some.member.now c.in-Some.ensures)
 
 pub returns-clause-shelves : goal.returns-clause-shelves
 returns-clause-shelves g c =
     let planned = rw (c.in-Ok.is) at c.in_ok-refusal.ensures in
-    received_same g.H.Handler.meaning c.args.self.now c.args.unit c.in-Some.member.now c.in-Some.ensures c.enter.new.self c.in-Ok.plan.logged (turn_upon_input g.H.Handler.meaning c.args.worked.input).outputs c.in-Ok.plan.made.items (c.in_ok-answer-in-Ok.ensures.ok c.in-Some.member.now c.in-Some.ensures)
-    (planned_whole c.args.name.now c.args.self.now c.args.unit c.in-Some.member.now _ c.turn.result.now c.in-Ok.plan planned _ Outside c.args.text c.args.worked.input (c.requires c.in-Some.member.now c.in-Some.ensures))
+    received_same g.H.Handler.meaning c.args.self.now c.args.unit c.in-Some.member.now c.in-Some.ensures
+    c.enter.new.self c.in-Ok.plan.logged (turn_upon_input g.H.Handler.meaning c.args.worked.input).outputs
+    c.in-Ok.plan.made.items (c.in_ok-answer-in-Ok.ensures.ok c.in-Some.member.now c.in-Some.ensures)
+    (planned_whole c.args.name.now c.args.self.now c.args.unit c.in-Some.member.now _ c.turn.result.now c.in-Ok.plan
+    planned _ Outside c.args.text c.args.worked.input (c.requires c.in-Some.member.now c.in-Some.ensures))

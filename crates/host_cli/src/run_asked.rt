@@ -1,0 +1,154 @@
+//! `run` and `drive`, as the words ask for them.
+
+ghost use denote.Param.Send.{IsSend};
+
+use crate::program_run::Terminals;
+use files::{LogFile, Owner, Takeover, make_log, open_journal};
+use handler::Handler;
+use log::{Log, Logged, info, warn};
+use runs::{Hosted, run_journaled, run_on};
+use shared_log::MemoryStore;
+use stable_log::WriterStore;
+use std::fs::{File, Files};
+use std::io::{self, Input};
+use std::sync::Wait;
+use std::thread;
+use std::thread::{Threads, scope_env};
+use std::time::Clock;
+use terminal::{Bar, Diagnostics, Patient, Plural, Progress, Watched, input_size, report_each};
+use words::{Program, RunWords, Verbosity};
+
+/// Whether a bar may be drawn.
+pub(crate) fn shows_bar(terminals: Terminals, verbosity: Verbosity) -> bool {
+    verbosity != Verbosity::Quiet && terminals.errors
+}
+
+/// `run` or `drive`: with a log that is written, where a file is named for it, or with one in memory. Reasons are told to a
+/// terminal unasked.
+pub(crate) fn run_as_asked<
+    R: Threads + Wait + Sync + Files<File = File> + Clock + Print + Eprint + Input + AllocGlobal,
+    H: Handler + Copy,
+>(rt: &R, handler: H, program: &Program<'_>, terminals: Terminals, asked: &RunWords<'_>) -> u8 {
+    let shows = shows_bar(terminals, asked.verbosity);
+    let run = RunWords {
+        explain: asked.explain || shows,
+        ..*asked
+    };
+    let work = if shows { input_size(rt) } else { None };
+    let bar = Bar::telling(
+        rt,
+        Progress {
+            work,
+            counts: run.verbosity == Verbosity::Verbose || run.report.is_some(),
+        },
+    );
+    let diagnostics = Diagnostics {
+        rt,
+        name: program.name,
+        bar: Some(&bar),
+    };
+    let told = Logged::new(rt, run.verbosity.level(), diagnostics);
+    if terminals.input {
+        let name = program.name;
+        let command = if run.drives { "drive" } else { "run" };
+        warn!(&told; "waiting for step lines from the terminal, up to Ctrl-D: `{name} {command} --help` lists them");
+    }
+    let status = run_reported(rt, &told, handler, program, &run, &bar);
+    bar.clear();
+    let pace = bar.pace_so_far();
+    let (lines, rate) = (Plural(pace.lines, "line"), Plural(pace.rate(), "line"));
+    info!(&told; "read {lines} in {} ms, {rate} a second", pace.millis);
+    status
+}
+
+/// `run`, while a thread writes a line of progress after each so many seconds, where that is asked for: also while the run
+/// waits for lines. Where there is no thread for it no such line is written, and that is told.
+fn run_reported<
+    R: Threads + Wait + Sync + Files<File = File> + Clock + Print + Eprint + Input + AllocGlobal,
+    L: Log,
+    H: Handler + Copy,
+>(rt: &R, told: &L, handler: H, program: &Program<'_>, run: &RunWords<'_>, bar: &Bar<'_, R>) -> u8 {
+    let Some(seconds) = run.report else {
+        return run_watched(rt, told, handler, program, run, bar);
+    };
+    thread::scope(
+        scope_env(),
+        rt,
+        |scope| -> u8
+            requires { IsSend H.State.row }
+        {
+            let Ok((running, ended)) = crossbeam_channel::unbounded(rt.alloc()) else {
+                return run_unreported(rt, told, handler, program, run, bar);
+            };
+            let Ok(reporting) = scope.spawn(move || report_each(rt, bar, seconds, ended)) else {
+                return run_unreported(rt, told, handler, program, run, bar);
+            };
+            let status = run_watched(rt, told, handler, program, run, bar);
+            drop(running);
+            reporting.join(rt);
+            status
+        },
+    )
+}
+
+/// `run`, where there is no thread that could write lines of progress.
+fn run_unreported<
+    R: Files<File = File> + Clock + Print + Eprint + Input + AllocGlobal,
+    L: Log,
+    H: Handler + Copy,
+>(rt: &R, told: &L, handler: H, program: &Program<'_>, run: &RunWords<'_>, bar: &Bar<'_, R>) -> u8 {
+    warn!(told; "no line of progress is written: a thread can't be started");
+    run_watched(rt, told, handler, program, run, bar)
+}
+
+/// `run`, beside a bar.
+fn run_watched<
+    R: Files<File = File> + Clock + Print + Eprint + Input + AllocGlobal,
+    L: Log,
+    H: Handler + Copy,
+>(rt: &R, told: &L, handler: H, program: &Program<'_>, run: &RunWords<'_>, bar: &Bar<'_, R>) -> u8 {
+    let alloc = rt.alloc();
+    let host = Hosted {
+        handler,
+        kinds: program.kinds,
+    };
+    let input = Watched::new(bar, Patient::new(rt, rt.reader()));
+    let output = Patient::new(rt, io::writer(rt));
+    if let Some(path) = run.journal {
+        let owner = owner_of(program);
+        // What a driver writes is counted by its own lines, so that all of the journal's are answered.
+        let from = if run.drives {
+            run.from.map(|_| 0)
+        } else {
+            run.from
+        };
+        let takeover = Takeover {
+            adopt: run.adopt,
+            accept_upgrade: run.accept_upgrade,
+        };
+        return match open_journal(rt, told, alloc, path, &owner, from, takeover) {
+            Ok(journal) => run_journaled(told, alloc, host, input, output, journal, run),
+            Err(status) => status,
+        };
+    }
+    let Some(path) = run.log else {
+        let store = MemoryStore::new(alloc);
+        return run_on(told, alloc, host, input, output, store, run);
+    };
+    match make_log(rt, told, path) {
+        Some(file) => {
+            let store = WriterStore::new(alloc, LogFile::new(told, file));
+            run_on(told, alloc, host, input, output, store, run)
+        }
+        None => 1,
+    }
+}
+
+/// Whose a journal of the program is.
+fn owner_of<'a>(program: &Program<'a>) -> Owner<'a> {
+    Owner {
+        version: program.version,
+        handler: program.handler,
+        handler_version: program.handler_version,
+    }
+}

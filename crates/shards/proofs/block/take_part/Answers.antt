@@ -1,0 +1,19 @@
+use Rattle.std.proofs.Common.{◌≡◌, sym, subst}
+use Rattle.std.specs.Prelude.{true}
+use Rattle.lines.specs.Parts.{Takes}
+use Rattle.lines.specs.declared.part.Part.TheVariants.{AtEnd}
+use Rattle.shards.proofs.block.take_part.Goals as goal
+
+pub returns-in-Ok-clause-ok : goal.returns-in-Ok-clause-ok
+returns-in-Ok-clause-ok g c start out under =
+    c.take_read.ensures.takes start (g.R.Read.remaining c.args.reader.now.inner) (g.R.Read.remaining
+    c.fill.new.reader.inner) out c.args.block.now.held.items c.args.block.now.is_long c.in-Ok.ensures.takes under
+
+pub returns-in-Ok-clause-end : goal.returns-in-Ok-clause-end
+returns-in-Ok-clause-end g c e =
+    let yes : c.take_read.result ≡ true = cc in
+    let end = c.take_read.ensures.end yes in
+    let took = subst (λ p. Takes p (g.R.Read.remaining c.args.reader.now.inner)
+    (g.R.Read.remaining c.fill.new.reader.inner) c.args.block.now.held.items
+    c.args.block.now.is_long c.fill.new.held.items c.fill.new.is_long) end.0 c.in-Ok.ensures.takes in
+    (took.0, took.1, end.1, end.2)

@@ -1,0 +1,6 @@
+use Rattle.std.proofs.Common.{◌≡◌, ◌<◌, drop}
+use Rattle.dealing.specs.Dealing.{mixed}
+use Rattle.shards.proofs.deal.mix.Given as goal
+
+abbrev pub invariant-loop-byte : goal.invariant-loop-byte
+invariant-loop-byte l = (mixed l.mixed (drop l.byte-index l.bytes) ≡ mixed 0 l.bytes) × (l.mixed < 65521)

@@ -1,0 +1,47 @@
+use Rattle.std.proofs.Common.{◌≡◌, ◌<◌, ℕ, length, refl, sym, subst, rules}
+use Rattle.shards.specs.Blocks.{IsBelow, Told}
+use Rattle.shards.proofs.Telling.{begins_here, dealt_err, dealt_ok, on_err, on_ok, told_first, wrote_here}
+use Rattle.shards.proofs.writing.write_one.Goals as goal
+
+pub put_next-requires : goal.put_next-requires
+put_next-requires g c =
+    let within : c.in-Dealt.shard < length c.args.shards.now =
+    subst (IsBelow (length c.args.shards.now)) c.in-Dealt.is c.requires.below in (
+      c.requires.told.0 c.in-Dealt.shard,
+      told_first (λ s. s.bytes.items) (λ s. s.lens.items) (λ x. x.at) (λ x. x.next) c.args.shards.now c.args.cursors.now
+          c.in-Dealt.shard c.index-shards-shard.result _ (record { at = 0; next = 0 }) (record { at = 0; next = 0 })
+          _ _ within c.requires.cursors c.index-shards-shard.is
+          refl c.as_slice.ensures.value c.as_slice-in-Dealt.ensures.value c.args.place c.in-Dealt.is
+          (g.W.Write.contents c.args.writer.now.inner)
+          (g.W.Write.contents c.args.writer.now.inner) c.requires.told.0 c.requires.told.1,
+    )
+
+pub returns-in-Here-clause-ok : goal.returns-in-Here-clause-ok
+returns-in-Here-clause-ok g c = on_ok c.put_reply.result _ _ c.put_reply.ensures.ok (λ grown left all.
+    wrote_here _ _ c.args.place c.in-Here.fault _ left _ c.in-Here.is c.fault_reply.ensures grown all)
+
+pub returns-in-Here-clause-err : goal.returns-in-Here-clause-err
+returns-in-Here-clause-err g c = on_err c.put_reply.result _ _ c.put_reply.ensures.err (λ begun left places all.
+    begins_here _ _ c.args.place c.in-Here.fault _ left places c.in-Here.is c.fault_reply.ensures begun)
+
+pub returns-in-Dealt-clause-ok : goal.returns-in-Dealt-clause-ok
+returns-in-Dealt-clause-ok g c =
+    let within : c.in-Dealt.shard < length c.args.shards.now =
+    subst (IsBelow (length c.args.shards.now)) c.in-Dealt.is c.requires.below in
+    on_ok c.put_next.result _ _ c.put_next.ensures.ok
+    (dealt_ok (λ s. s.bytes.items) (λ s. s.lens.items) (λ x. x.at) (λ x. x.next) c.args.shards.now c.args.cursors.now
+    c.in-Dealt.shard c.index-shards-shard.result _ c.put_next.new.cursor (record { at = 0; next = 0 })
+    c.as_slice.result.now c.as_slice-in-Dealt.result.now within c.requires.cursors c.index-shards-shard.is
+    refl c.as_slice.ensures.value c.as_slice-in-Dealt.ensures.value c.args.place c.in-Dealt.is
+    (g.W.Write.contents c.args.writer.now.inner) (g.W.Write.contents c.put_next.new.writer.inner))
+
+pub returns-in-Dealt-clause-err : goal.returns-in-Dealt-clause-err
+returns-in-Dealt-clause-err g c =
+    let within : c.in-Dealt.shard < length c.args.shards.now =
+    subst (IsBelow (length c.args.shards.now)) c.in-Dealt.is c.requires.below in
+    on_err c.put_next.result _ _ c.put_next.ensures.err
+    (dealt_err (λ s. s.bytes.items) (λ s. s.lens.items) (λ x. x.at) (λ x. x.next) c.args.shards.now c.args.cursors.now
+    c.in-Dealt.shard c.index-shards-shard.result _ c.put_next.new.cursor (record { at = 0; next = 0 })
+    c.as_slice.result.now c.as_slice-in-Dealt.result.now within c.requires.cursors c.index-shards-shard.is
+    refl c.as_slice.ensures.value c.as_slice-in-Dealt.ensures.value c.args.place c.in-Dealt.is
+    (g.W.Write.contents c.args.writer.now.inner) (g.W.Write.contents c.put_next.new.writer.inner))

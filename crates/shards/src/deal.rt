@@ -1,0 +1,27 @@
+//! Dealing tenants to shards, by name.
+
+ghost use Rattle.std.specs.Prelude.{◌≡◌, ◌<◌};
+ghost use Rattle.dealing.specs.Dealing.{dealt, mixed};
+
+use model::TenantName;
+
+/// The shard that a tenant is dealt to, of so many.
+#[tactic(auto, unfolding(dealing::specs::Dealing::dealt))]
+pub(crate) fn shard_of(tenant: &TenantName, shards: usize) -> usize
+    requires { 0 < shards }
+    ensures is { result ≡ dealt shards tenant.now }
+    ensures below { result < shards }
+{
+    mix(tenant.as_str().as_bytes()) as usize % shards
+}
+
+/// A number below 65,521 that follows from some bytes.
+fn mix(bytes: &[u8]) -> u32
+    ensures { result ≡ mixed 0 bytes.now }
+{
+    let mut mixed = 0u32;
+    for byte in bytes {
+        mixed = (mixed * 31 + u32::from(*byte)) % 65521;
+    }
+    mixed
+}

@@ -1,0 +1,32 @@
+//! Several hosts as one: tenants are dealt to shards by their names, and the lines of a block are stepped in threads.
+//!
+//! - `Shards`: some hosts, one for each thread. By isolation no tenant can tell that others stand on another host.
+//! - `serve_shards`: answers each line of a reader, in order, as `lines::serve_host` does. What the reader shows at
+//!   once is a block: its lines are read and dealt, each shard does its own steps in a thread of its own, and the
+//!   replies are written in the order of the lines.
+//!
+//! `dealing` says which book some hosts stand for together, and its law `shards_run` what a run by them is as a
+//! whole. `specs/Blocks` says what is read of a block and what is written of it, and `specs/Underway` how far serving
+//! is.
+//!
+//! For a program that has more than one core. A caller:
+//!
+//! ```
+//! let mut shards = Shards::new(alloc, Host::new(alloc, handler, MemoryStore::new(alloc)))?;
+//! for _ in 1..cores {
+//!     shards.add(Host::new(alloc, handler, MemoryStore::new(alloc)))?;
+//! }
+//! let count = serve_shards(rt, alloc, &mut reader, &mut writer, &mut shards)?;
+//! ```
+#![tactic(auto)]
+
+mod block;
+mod deal;
+mod place;
+mod serving;
+mod shard;
+mod shards;
+mod writing;
+
+pub use serving::serve_shards;
+pub use shards::Shards;

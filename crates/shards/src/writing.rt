@@ -1,0 +1,147 @@
+//! The replies of all shards, written in the order of the lines.
+
+ghost use Rattle.std.specs.Prelude.{◌≡◌, ◌≢◌, ◌<◌, ◌≤◌, ◌∷◌, ℕ, List, All, OnOk, OnErr, Err, IfOk, flat_map, length};
+ghost use Rattle.std.specs.Prelude.{slice_index_or, replicate};
+ghost use Rattle.std.specs.Io.KnownBytes.{Appends};
+ghost use Rattle.model.specs.Failures.{HasRisen};
+ghost use Rattle.model.specs.declared.replies.Reply.{Reply as ReplyOf};
+ghost use Rattle.lines.specs.Serving.{reply_line};
+ghost use Rattle.written.specs.Beginnings.{AppendsBeginning};
+ghost use Rattle.shards.specs.Blocks.{IsBelow, Told, WroteFirst, WroteOne, first_of, merged};
+
+use crate::place::Place;
+use crate::shard::Shard;
+use handler::Handler;
+use lines::{Counted, ServeFault, fault_reply, put_bytes, put_reply};
+use shared_log::Store;
+use std::alloc::Global;
+use std::io::Write;
+
+/// How far the lines of a shard are written: the place in its bytes, and in its lengths.
+#[derive(Clone, Copy, Debug, Drop)]
+pub(crate) struct Cursor {
+    pub at: usize,
+    pub next: usize,
+}
+
+/// Writes the reply lines of a block, each from the shard that its place names, in turn.
+///
+/// `Write` comes only where the writer failed, and `NoMemory` where there was none for a reply's text.
+pub(crate) fn write_all<W: Write, H: Handler, S: Store>(
+    alloc: Global,
+    writer: &mut Counted<W>,
+    shards: &[Shard<H, S>],
+    places: &[Place],
+    text: &mut Vec<u8>,
+) -> Result<(), ServeFault>
+    requires told { (replies : ℕ → List ReplyOf) × ((i : ℕ) (d : _) → i < length shards.now
+        → Told (replies i) (slice_index_or shards.now i d).bytes.items (slice_index_or shards.now i d).lens.items 0 0) }
+    requires below { All (IsBelow (length shards.now)) places.now }
+    ensures ok { OnOk result ((replies : ℕ → List ReplyOf) → ((i : ℕ) (d : _) → i < length shards.now
+        → Told (replies i) (slice_index_or shards.now i d).bytes.items (slice_index_or shards.now i d).lens.items 0 0)
+        → Appends (W.contents writer.old.inner) (W.contents writer.new.inner)
+        (flat_map reply_line (merged places.now replies))) }
+    ensures err { OnErr result ((replies : ℕ → List ReplyOf) → ((i : ℕ) (d : _) → i < length shards.now
+        → Told (replies i) (slice_index_or shards.now i d).bytes.items (slice_index_or shards.now i d).lens.items 0 0)
+        → AppendsBeginning (W.contents writer.old.inner) (W.contents writer.new.inner)
+        (flat_map reply_line (merged places.now replies))) }
+    ensures write { result ≡ Err ServeFault.Write → HasRisen writer.old.failed writer.new.failed }
+    ensures read { result ≢ Err ServeFault.Read }
+    ensures same { result ≢ Err ServeFault.Write → writer.new.failed ≡ writer.old.failed }
+{
+    let Ok(mut made) = beginnings(alloc, shards.len()) else {
+        return Err(ServeFault::NoMemory);
+    };
+    let cursors = made.as_mut_slice();
+    for place in places {
+        match write_one(alloc, writer, shards, *place, cursors, text) {
+            Ok(()) => {}
+            Err(fault) => return Err(fault),
+        }
+    }
+    Ok(())
+}
+
+/// Writes the reply line of one place.
+fn write_one<W: Write, H: Handler, S: Store>(
+    alloc: Global,
+    writer: &mut Counted<W>,
+    shards: &[Shard<H, S>],
+    place: Place,
+    cursors: &mut [Cursor],
+    text: &mut Vec<u8>,
+) -> Result<(), ServeFault>
+    requires told { (left : ℕ → List ReplyOf) × ((i : ℕ) (d : _) (e : _) → i < length shards.now
+        → Told (left i) (slice_index_or shards.now i d).bytes.items (slice_index_or shards.now i d).lens.items
+        (slice_index_or cursors.old i e).at (slice_index_or cursors.old i e).next) }
+    requires below { IsBelow (length shards.now) place }
+    requires cursors { length cursors.old ≡ length shards.now }
+    ensures ok { OnOk result ((left : ℕ → List ReplyOf) → ((i : ℕ) (d : _) (e : _) → i < length shards.now
+        → Told (left i) (slice_index_or shards.now i d).bytes.items (slice_index_or shards.now i d).lens.items
+        (slice_index_or cursors.old i e).at (slice_index_or cursors.old i e).next)
+        → WroteOne (W.contents writer.old.inner)
+        (W.contents writer.new.inner) place left (λ left. (i : ℕ) (d : _) (e : _) → i < length shards.now
+        → Told (left i) (slice_index_or shards.now i d).bytes.items (slice_index_or shards.now i d).lens.items
+        (slice_index_or cursors.new i e).at (slice_index_or cursors.new i e).next)) }
+    ensures err { OnErr result ((left : ℕ → List ReplyOf) (places : List _) → ((i : ℕ) (d : _) (e : _)
+        → i < length shards.now
+        → Told (left i) (slice_index_or shards.now i d).bytes.items (slice_index_or shards.now i d).lens.items
+        (slice_index_or cursors.old i e).at (slice_index_or cursors.old i e).next)
+        → AppendsBeginning (W.contents writer.old.inner) (W.contents writer.new.inner)
+        (flat_map reply_line (merged (place ∷ places) left))) }
+    ensures write { result ≡ Err ServeFault.Write → HasRisen writer.old.failed writer.new.failed }
+    ensures read { result ≢ Err ServeFault.Read }
+    ensures same { result ≢ Err ServeFault.Write → writer.new.failed ≡ writer.old.failed }
+{
+    match place {
+        Place::Here(fault) => put_reply(alloc, writer, text, &fault_reply(fault)),
+        Place::Dealt(shard) => {
+            let from = &shards[shard];
+            put_next(
+                writer,
+                from.bytes.as_slice(),
+                from.lens.as_slice(),
+                &mut cursors[shard],
+            )
+        }
+    }
+}
+
+/// So many cursors, each at the beginning.
+fn beginnings(alloc: Global, count: usize) -> Result<Vec<Cursor>, ServeFault>
+    ensures { IfOk result (λ cursors. cursors.items ≡ replicate count (record { at = 0; next = 0 })) }
+{
+    match vec![in alloc; Cursor { at: 0, next: 0 }; count] {
+        Ok(cursors) => Ok(cursors),
+        Err(_) => Err(ServeFault::NoMemory),
+    }
+}
+
+/// Writes the next line of a shard. `NoMemory` comes where there is none, since there was no memory for its text.
+fn put_next<W: Write>(
+    writer: &mut Counted<W>,
+    bytes: &[u8],
+    lens: &[usize],
+    cursor: &mut Cursor,
+) -> Result<(), ServeFault>
+    requires { (replies : List ReplyOf) × Told replies bytes.now lens.now cursor.old.at cursor.old.next }
+    ensures ok { OnOk result ((replies : List ReplyOf) → Told replies bytes.now lens.now cursor.old.at cursor.old.next
+        → WroteFirst (W.contents writer.old.inner)
+        (W.contents writer.new.inner) replies bytes.now lens.now cursor.new.at cursor.new.next) }
+    ensures err { OnErr result ((replies : List ReplyOf) → Told replies bytes.now lens.now cursor.old.at cursor.old.next
+        → AppendsBeginning (W.contents writer.old.inner)
+        (W.contents writer.new.inner) (reply_line (first_of replies))) }
+    ensures write { result ≡ Err ServeFault.Write → HasRisen writer.old.failed writer.new.failed }
+    ensures read { result ≢ Err ServeFault.Read }
+    ensures same { result ≢ Err ServeFault.Write → writer.new.failed ≡ writer.old.failed }
+{
+    let at = cursor.at;
+    let next = cursor.next;
+    if next >= lens.len() {
+        return Err(ServeFault::NoMemory);
+    }
+    let end = at + lens[next];
+    cursor.at = end;
+    cursor.next = next + 1;
+    put_bytes(writer, &bytes[at..end])
+}
