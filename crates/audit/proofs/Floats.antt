@@ -7,7 +7,8 @@ use Rattle.model.specs.declared.moves.Flaw.TheVariants.{NoUnit, NothingToReceive
 use Rattle.audit.specs.declared.verdict.Verdict.{Verdict}
 use Rattle.audit.specs.Line.{outcome_data}
 
-pub has_float-outcome : (tenant : List ℕ) (outcome : Result Verdict Flaw) → has_float (outcome_data tenant outcome) ≡ false
+pub has_float-outcome : (tenant : List ℕ) (outcome : Result Verdict Flaw)
+    → has_float (outcome_data tenant outcome) ≡ false
 has_float-outcome tenant (Ok v) = refl
 has_float-outcome tenant (Err (NoUnit u)) = refl
 has_float-outcome tenant (Err (NothingToReceive u)) = refl

@@ -17,6 +17,7 @@ letter_taken M net rest next to source text within other is has works =
     let at = get_below net.workers to within in
     let there : nat_lt source (length net.workers) ≡ true = grind (arith, nat_tests) in
     let same : slice_get rest.workers to ≡ Some at.0 = rw (is) at.1 in
-    let done : next ≡ works_on M (record net { packets = without_next source to net.packets }) at.0 (FromUnit source) text =
+    let done : next
+    ≡ works_on M (record net { packets = without_next source to net.packets }) at.0 (FromUnit source) text =
     works at.0 same ∙ ap (λ n. works_on M n at.0 (FromUnit source) text) is in
     rw (at.1, there, has, done) refl

@@ -1,5 +1,6 @@
 -- Words on a run without failures, as far as it has come.
-use Rattle.std.specs.Prelude.{◌≡◌, ℕ, ◌<◌, List, [], ◌∷◌, ◌++◌, length, map, nat_lt, slice_index_or, Some, None, Result, Ok, Err}
+use Rattle.std.specs.Prelude.{◌≡◌, ℕ, ◌<◌, List, [], ◌∷◌, ◌++◌, length, map, nat_lt, slice_index_or, Some, None, Result}
+use Rattle.std.specs.Prelude.{Ok, Err}
 use Rattle.std.specs.List.{filter, remove}
 use Rattle.model.specs.declared.names.Source.{Source}
 use Rattle.model.specs.declared.moves.Flaw.{Flaw}

@@ -21,7 +21,8 @@ escaped-more text piece escaped one = (
 
 -- one more character that stands for itself
 pub escaped-char : (text : List ℕ) (c : ℕ) → IsEscaped text → is_markup c ≡ false → IsEscaped (text ++ encode_utf8 c)
-escaped-char text c escaped plain = escaped-more text (encode_utf8 c) escaped (inr (c ∷ [], append-nil (encode_utf8 c), (plain, tt)))
+escaped-char text c escaped plain =
+    escaped-more text (encode_utf8 c) escaped (inr (c ∷ [], append-nil (encode_utf8 c), (plain, tt)))
 
 pub IsPiece-ampersand : IsPiece (codes "&amp;")
 IsPiece-ampersand = inl (2, omega arith, refl)

@@ -4,7 +4,8 @@ use Rattle.std.specs.Io.KnownBytes.{Appends}
 use Rattle.durable.specs.Standing.{EndsWith}
 
 -- what was appended is last
-pub ends_with_grown : (a b : Option (List ℕ)) (bytes : List ℕ) → (a ≡ None → b ≡ None) → Appends a b bytes → EndsWith b bytes
+pub ends_with_grown : (a b : Option (List ℕ)) (bytes : List ℕ) → (a ≡ None → b ≡ None) → Appends a b bytes
+    → EndsWith b bytes
 ends_with_grown None None bytes steady p = tt
 ends_with_grown None (Some y) bytes steady p = let e : Some y ≡ None = steady refl in cc
 ends_with_grown (Some x) None bytes steady p = absurd p

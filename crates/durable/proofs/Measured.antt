@@ -1,5 +1,6 @@
 -- One byte more is measured.
-use Rattle.std.proofs.Common.{◌≡◌, ◌≢◌, ◌<◌, ◌≤◌, ◌+◌, ℕ, ◌==◌, List, [], ◌∷◌, ◌++◌, length, min, cond, refl, sym, ap, ◌∙◌, arith, append_assoc, append-nil, length-append, inl, inr, All, Option, Some, None}
+use Rattle.std.proofs.Common.{◌≡◌, ◌≢◌, ◌<◌, ◌≤◌, ◌+◌, ℕ, ◌==◌, List, [], ◌∷◌, ◌++◌, length, min, cond, refl, sym, ap}
+use Rattle.std.proofs.Common.{◌∙◌, arith, append_assoc, append-nil, length-append, inl, inr, All, Option, Some, None}
 use Rattle.std.specs.Io.KnownBytes.{Consumes, Keeps}
 use Rattle.std.proofs.lemmas.List.Elements.{All-nil, All-push}
 use Rattle.std.proofs.lemmas.List.Sums.{count_by-le-length, sum_by_push}
@@ -27,7 +28,8 @@ module _ (all : List ℕ) (from : ℕ) (m n : Extent) (is : IsMeasured all from 
   pub within_line : (x : ℕ) → x ≢ 10 → n.lines ≡ m.lines → n.whole ≡ m.whole → n.torn ≡ m.torn + 1 → n.before ≡ m.before
       → IsMeasured (all ++ x ∷ []) from n
   within_line x other lines whole torn before = record {
-    lines = lines ∙ is.lines ∙ sym (line_feeds-push all x ∙ ap (λ b. line_feeds all + cond b 1 0) (ne_eqb x 10 other) ∙ (omega arith));
+    lines = lines ∙ is.lines
+        ∙ sym (line_feeds-push all x ∙ ap (λ b. line_feeds all + cond b 1 0) (ne_eqb x 10 other) ∙ (omega arith));
     ends = (
       is.ends.0,
       is.ends.1 ++ x ∷ [],
@@ -53,9 +55,18 @@ module _ (all : List ℕ) (from : ℕ) (m n : Extent) (is : IsMeasured all from 
     more_lines = omega (arith, lines, is.lines, line_feeds-push all 10)
 
     long : length (all ++ 10 ∷ []) ≡ n.whole
-    long = omega (arith, length-append all (10 ∷ []), ap length is.ends.2, length-append is.ends.0 is.ends.1, is.ends.3, is.ends.4, whole)
+    long = omega (
+      arith,
+      length-append all (10 ∷ []),
+      ap length is.ends.2,
+      length-append is.ends.0 is.ends.1,
+      is.ends.3,
+      is.ends.4,
+      whole,
+    )
 
-    ends_now : (w t : List ℕ) × (all ++ 10 ∷ [] ≡ w ++ t) × (length w ≡ n.whole) × (length t ≡ n.torn) × IsEnded w × All (λ x. x ≢ 10) t
+    ends_now : (w t : List ℕ) × (all ++ 10 ∷ [] ≡ w ++ t) × (length w ≡ n.whole) × (length t ≡ n.torn) × IsEnded w
+        × All (λ x. x ≢ 10) t
     ends_now = (all ++ 10 ∷ [], [], sym (append-nil _), long, sym torn, inr (all, refl), All-nil (λ y. y ≢ 10))
 
     -- of a line before the one that is asked for
@@ -63,7 +74,14 @@ module _ (all : List ℕ) (from : ℕ) (m n : Extent) (is : IsMeasured all from 
     line_before few before = record {
       lines = more_lines;
       ends = ends_now;
-      first = (all ++ 10 ∷ [], [], sym (append-nil _), long ∙ sym before, omega (arith, more_lines, lines), inr (all, refl));
+      first = (
+        all ++ 10 ∷ [],
+        [],
+        sym (append-nil _),
+        long ∙ sym before,
+        omega (arith, more_lines, lines),
+        inr (all, refl),
+      );
     }
 
     -- of a later one

@@ -1,5 +1,6 @@
 -- How many whole lines some bytes have, and where they end.
-use Rattle.std.specs.Prelude.{◌≡◌, ◌≢◌, ◌⊎◌, ℕ, ◌==◌, List, [], ◌∷◌, ◌++◌, length, min, count_by, All, Option, Bool, true, false}
+use Rattle.std.specs.Prelude.{◌≡◌, ◌≢◌, ◌⊎◌, ℕ, ◌==◌, List, [], ◌∷◌, ◌++◌, length, min, count_by, All, Option, Bool}
+use Rattle.std.specs.Prelude.{true, false}
 use Rattle.std.specs.Io.KnownBytes.{Consumes, IsAtEnd}
 use Rattle.durable.specs.declared.measuring.Extent.{Extent}
 
@@ -11,7 +12,8 @@ line_feeds bytes = count_by (λ x. x == 10) bytes
 abbrev pub IsEnded : List ℕ → Type 0
 IsEnded bytes = (bytes ≡ []) ⊎ ((front : List ℕ) × (bytes ≡ front ++ 10 ∷ []))
 
--- The bytes are so many bytes of whole lines and so many with no line feed, and so many lines end in them; the lines before the one that is asked for, or all where there are fewer, take so many bytes.
+-- The bytes are so many bytes of whole lines and so many with no line feed, and so many lines end in them; the lines
+-- before the one that is asked for, or all where there are fewer, take so many bytes.
 pub record IsMeasured (all : List ℕ) (from : ℕ) (m : Extent) : Type 0 where
   pub lines : m.lines ≡ line_feeds all
   pub ends : (whole torn : List ℕ) × (all ≡ whole ++ torn) × (length whole ≡ m.whole) × (length torn ≡ m.torn)

@@ -12,7 +12,9 @@ EndsWith (Some all) bytes = (before : List ℕ) × (all ≡ before ++ bytes)
 abbrev pub EndsSynced : Option (List ℕ) → Option (List ℕ) → List ℕ → Type 0
 EndsSynced contents synced bytes = EndsWith contents bytes × Keeps contents synced
 
--- a reader that journals: the reader below, the file, what was read and could not be made to last, how many lines were ended in the file (at most 2 ^ 64 - 1), whether the file ends with a line feed or is empty, and whether the file failed
+-- a reader that journals: the reader below, the file, what was read and could not be made to last, how many lines were
+-- ended in the file (at most 2 ^ 64 - 1), whether the file ends with a line feed or is empty, and whether the file
+-- failed
 pub record Journal (R F : Type 0) : Type 0 where
   pub inner : R
   pub file : F
@@ -25,7 +27,8 @@ pub record Journal (R F : Type 0) : Type 0 where
 abbrev pub left : {R F : Type 0} → (R → Option (List ℕ)) → Journal R F → Option (List ℕ)
 left remaining j = prepend_known j.unkept (remaining j.inner)
 
--- what goes into the file for a block that was read: the block, or at the end of the input the line feed that the last line may lack
+-- what goes into the file for a block that was read: the block, or at the end of the input the line feed that the last
+-- line may lack
 abbrev pub lasting : Bool → List ℕ → List ℕ
 lasting is_ended [] = if is_ended then [] else 10 ∷ []
 lasting is_ended (x ∷ block) = x ∷ block

@@ -17,7 +17,8 @@ marks_plain (m ∷ ms) = marks_plain ms
 pub has_float-record : (r : Record) → has_float (record_data r) ≡ false
 has_float-record r = at r.source r.letter
   where
-    at : (source : Source) (letter : Option ℕ) → has_float (record_data (record r { source = source; letter = letter })) ≡ false
+    at : (source : Source) (letter : Option ℕ)
+        → has_float (record_data (record r { source = source; letter = letter })) ≡ false
     at Outside None = rw (marks_plain r.vector) refl
     at Outside (Some l) = rw (marks_plain r.vector) refl
     at (FromUnit u) None = rw (marks_plain r.vector) refl

@@ -5,7 +5,8 @@ use Rattle.serde_json.specs.Read.{max_depth}
 use Rattle.serde_json.specs.Written.{has_float, items_have_float}
 use Rattle.forms.specs.Writing.{wholes, texts, reply_data}
 use Rattle.model.specs.declared.replies.Reply.{Reply}
-use Rattle.model.specs.declared.replies.Reply.TheVariants.{Opened, Joined, Accepted, Flushed, Checkpointed, Killed, Restarted, Noticed, Released, Status, Stopped, Refused}
+use Rattle.model.specs.declared.replies.Reply.TheVariants.{Opened, Joined, Accepted, Flushed, Checkpointed, Killed}
+use Rattle.model.specs.declared.replies.Reply.TheVariants.{Restarted, Noticed, Released, Status, Stopped, Refused}
 
 -- no list of numbers has a float
 wholes_plain : (ns : List ℕ) → items_have_float (wholes ns) ≡ false

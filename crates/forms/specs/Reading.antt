@@ -1,15 +1,18 @@
 -- The step that a line is, by `serde_json`'s reading.
-use Rattle.std.specs.Prelude.{◌≡◌, ℕ, ◌+◌, List, [], ◌∷◌, Bool, false, ◌==◌, nat_le, if◌then◌else◌, bytes_eq, Option, Some, None, Result, Ok, Err, option_map, option_and_then, codes}
+use Rattle.std.specs.Prelude.{◌≡◌, ℕ, ◌+◌, List, [], ◌∷◌, Bool, false, ◌==◌, nat_le, if◌then◌else◌, bytes_eq, Option}
+use Rattle.std.specs.Prelude.{Some, None, Result, Ok, Err, option_map, option_and_then, codes}
 use Rattle.std.specs.Str.{is_utf8}
 use Rattle.serde_json.specs.Data.{Data, Items, no_items, item, Members}
 use Rattle.serde_json.specs.Events.{members_len}
 use Rattle.serde_json.specs.Read.{read}
 use Rattle.serde_json.specs.Find.{get, as_str, as_number, as_u64, as_array, as_object}
-use Rattle.model.specs.declared.limits.TheConstants.{MAX_VOLATILE_QUOTA, MAX_HELD_QUOTA, MAX_INDEX, MAX_LETTERS_QUOTA, MAX_OPTIMISM}
+use Rattle.model.specs.declared.limits.TheConstants.{MAX_VOLATILE_QUOTA, MAX_HELD_QUOTA, MAX_INDEX, MAX_LETTERS_QUOTA}
+use Rattle.model.specs.declared.limits.TheConstants.{MAX_OPTIMISM}
 use Rattle.model.specs.Names.{is_tenant_name}
 use Rattle.model.specs.declared.names.Quota.{Quota}
 use Rattle.model.specs.declared.steps.Step.{Step}
-use Rattle.model.specs.declared.steps.Step.TheVariants.{Open, Join, Post, Deliver, Flush, Checkpoint, Kill, Restart, Notice, Release, Status}
+use Rattle.model.specs.declared.steps.Step.TheVariants.{Open, Join, Post, Deliver, Flush, Checkpoint, Kill, Restart}
+use Rattle.model.specs.declared.steps.Step.TheVariants.{Notice, Release, Status}
 use Rattle.forms.specs.declared.fault.LineFault.{LineFault}
 use Rattle.forms.specs.declared.fault.LineFault.TheVariants.{Bad, NoMemory}
 

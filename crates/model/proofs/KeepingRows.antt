@@ -17,7 +17,8 @@ kept_after events unit = kept_at sample (keeping sample events) unit
 
 -- one unit, which is flushed and has a checkpoint
 abbrev one : List Event
-one = opening ((codes "echo") ∷ []) ∷ post 0 0 (codes "a") ∷ post 0 1 (codes "b") ∷ post 0 2 (codes "c") ∷ flush 0 3 ∷ asks (Checkpoint 0) ∷ []
+one = opening ((codes "echo") ∷ []) ∷ post 0 0 (codes "a") ∷ post 0 1 (codes "b") ∷ post 0 2 (codes "c") ∷ flush 0 3
+    ∷ asks (Checkpoint 0) ∷ []
 
 one_unit : kept_after one 0 ≡ kept 0 1 0
 unfolding first_refusal at_unit at_up
@@ -33,7 +34,8 @@ no_unit = refl
 
 -- a checkpoint that is not firm is no base until its sender's interval is stable
 abbrev two : List Event
-two = opening ((codes "relay") ∷ (codes "echo") ∷ []) ∷ post 0 0 (codes "x") ∷ deliver 0 ∷ flush 1 1 ∷ asks (Checkpoint 1) ∷ []
+two = opening ((codes "relay") ∷ (codes "echo") ∷ []) ∷ post 0 0 (codes "x") ∷ deliver 0 ∷ flush 1 1
+    ∷ asks (Checkpoint 1) ∷ []
 
 not_firm : kept_after two 1 ≡ kept 1 1 1
 unfolding first_refusal at_unit at_up

@@ -19,7 +19,8 @@ numbers_first k zero h = absurd (omega arith)
 numbers_first k (suc n) h = let e : suc n - 1 ≡ n = omega arith in rw (e, add-one) refl
 
 -- one number more
-pub numbers_step : (k n i : ℕ) (all more : List ℕ) → i < n → all ++ numbers_from (k + i) (n - i) ≡ numbers_from k n → more ≡ all ++ (k + i) ∷ []
+pub numbers_step : (k n i : ℕ) (all more : List ℕ) → i < n → all ++ numbers_from (k + i) (n - i) ≡ numbers_from k n
+    → more ≡ all ++ (k + i) ∷ []
     → more ++ numbers_from (k + (i + 1)) (n - (i + 1)) ≡ numbers_from k n
 numbers_step k n i all more h e f =
     let a : k + (i + 1) ≡ (k + i) + 1 = omega arith in
@@ -33,6 +34,7 @@ line_none [] = refl
 line_none (n ∷ older) = refl
 
 -- what is done at a unit that is there
-pub at_unit_found : (w : World) (u : ℕ) (f : Member → Outcome) (m : Member) → slice_get w.members u ≡ Some m → at_unit w u f ≡ f m
+pub at_unit_found : (w : World) (u : ℕ) (f : Member → Outcome) (m : Member) → slice_get w.members u ≡ Some m
+    → at_unit w u f ≡ f m
 unfolding at_unit
 at_unit_found w u f m e = ap (if_unit w f) e

@@ -2,10 +2,13 @@
 use Rattle.std.proofs.Common.{◌≡◌, refl, ℕ, zero, suc, drop, map}
 use Rattle.std.specs.Prelude.{false, List, [], ◌∷◌, ◌++◌, Some, None, codes, decimal, replicate, Ok}
 use Rattle.std.specs.Fmt.{digits}
-use Rattle.model.specs.declared.refusals.Refusal.TheVariants.{NoTenant, BadOpen, Wait, Orphan, Repeat, TooMuch, Limit, Store, Pending}
-use Rattle.model.specs.declared.replies.Reply.TheVariants.{Opened, Joined, Accepted, Flushed, Checkpointed, Killed, Restarted, Noticed, Released, Status, Stopped, Refused}
+use Rattle.model.specs.declared.refusals.Refusal.TheVariants.{NoTenant, BadOpen, Wait, Orphan, Repeat, TooMuch, Limit}
+use Rattle.model.specs.declared.refusals.Refusal.TheVariants.{Store, Pending}
+use Rattle.model.specs.declared.replies.Reply.TheVariants.{Opened, Joined, Accepted, Flushed, Checkpointed, Killed}
+use Rattle.model.specs.declared.replies.Reply.TheVariants.{Restarted, Noticed, Released, Status, Stopped, Refused}
 use Rattle.model.specs.declared.replies.End.TheVariants.{Device}
-use Rattle.model.specs.declared.steps.TenantStep.TheVariants.{Open, Join, Flush, Checkpoint, Kill, Restart, Notice, Release, Status as ReadStatus}
+use Rattle.model.specs.declared.steps.TenantStep.TheVariants.{Open, Join, Flush, Checkpoint, Kill, Restart, Notice}
+use Rattle.model.specs.declared.steps.TenantStep.TheVariants.{Release, Status as ReadStatus}
 use Rattle.model.specs.declared.moves.Move.TheVariants.{Outside, Letter, Join as JoinMove}
 use Rattle.model.specs.Alone.{Event, alone}
 use Rattle.model.specs.FailureFree.{failure_free}
@@ -15,7 +18,8 @@ use Rattle.model.specs.Sample.{sample}
 use Rattle.model.specs.Steps.{first_refusal, at_unit, at_up, restart}
 use Rattle.model.specs.World.{World}
 use Rattle.model.specs.Records.{quiet}
-use Rattle.model.proofs.Rows.{asks, flush, post, deliver, opening, at, start, replies, certificate_after, outputs_of, relay_and_echo, vector_after}
+use Rattle.model.proofs.Rows.{asks, flush, post, deliver, opening, at, start, replies, certificate_after, outputs_of}
+use Rattle.model.proofs.Rows.{relay_and_echo, vector_after}
 
 -- an opening with this degree of optimism
 abbrev opening_at : ℕ → List (List ℕ) → Event
@@ -83,8 +87,23 @@ abbrev last_incarnation : World
 last_incarnation = record {
   quota = record { volatile = 1; held = 1; letters = 1 };
   optimism = 16;
-  members = record { seat = record { unit = 0; kind = 0; home = 1 }; path = 0 ∷ []; stable = 1; up = false; known = 1; released = [] } ∷ [];
-  nodes = record { unit = 0; seat = record { unit = 0; kind = 0; home = 1 }; incarnation = 0; index = 0; before = None; cause = began; units = 1 } ∷ [];
+  members = record {
+    seat = record { unit = 0; kind = 0; home = 1 };
+    path = 0 ∷ [];
+    stable = 1;
+    up = false;
+    known = 1;
+    released = [];
+  } ∷ [];
+  nodes = record {
+    unit = 0;
+    seat = record { unit = 0; kind = 0; home = 1 };
+    incarnation = 0;
+    index = 0;
+    before = None;
+    cause = began;
+    units = 1;
+  } ∷ [];
   table = record { unit = 0; incarnation = 65535; start = 1 } ∷ [];
 }
 
@@ -248,7 +267,8 @@ one_unstable_unit : replies (
 unfolding first_refusal at_unit at_up
 one_unstable_unit = refl
 
-optimism_limit : replies (opening_at 17 (echo ∷ []) ∷ opening_at 16 (echo ∷ []) ∷ []) ≡ (Refused BadOpen ∷ Opened 1 ∷ [])
+optimism_limit : replies (opening_at 17 (echo ∷ []) ∷ opening_at 16 (echo ∷ []) ∷ [])
+    ≡ (Refused BadOpen ∷ Opened 1 ∷ [])
 optimism_limit = refl
 
 join_limits : replies (
@@ -277,24 +297,31 @@ join_first = refl
 nothing_put_out : outputs_of (failure_free sample relay_and_echo (Outside 0 (codes "x") ∷ [])) ≡ Ok ([] ∷ [] ∷ [])
 nothing_put_out = refl
 
-vectors_round_a_join : vector_after 1 (alone sample (opening (codes "tee" ∷ []) ∷ post 0 0 (codes "x") ∷ asks (Join echo) ∷ post 0 1 (codes "y") ∷ [])).world ≡ at 0 1 ∷ []
+vectors_round_a_join : vector_after 1 (alone sample
+    (opening (codes "tee" ∷ []) ∷ post 0 0 (codes "x") ∷ asks (Join echo) ∷ post 0 1 (codes "y") ∷ [])).world
+    ≡ at 0 1 ∷ []
 unfolding first_refusal at_unit at_up
 vectors_round_a_join = refl
 
-vector_after_a_join : vector_after 3 (alone sample (opening (codes "tee" ∷ []) ∷ post 0 0 (codes "x") ∷ asks (Join echo) ∷ post 0 1 (codes "y") ∷ [])).world ≡ at 0 2 ∷ at 0 0 ∷ []
+vector_after_a_join : vector_after 3 (alone sample
+    (opening (codes "tee" ∷ []) ∷ post 0 0 (codes "x") ∷ asks (Join echo) ∷ post 0 1 (codes "y") ∷ [])).world
+    ≡ at 0 2 ∷ at 0 0 ∷ []
 unfolding first_refusal at_unit at_up
 vector_after_a_join = refl
 
 certificate_after_a_kill : certificate_after (alone sample (
     opening (relay ∷ echo ∷ []) ∷ post 0 0 (codes "x") ∷ deliver 0 ∷ flush 1 1 ∷ asks (Kill 0) ∷ asks (Restart 0)
-    ∷ post 0 0 (codes "y") ∷ deliver 1 ∷ asks (Notice 1) ∷ deliver 1 ∷ flush 0 1 ∷ flush 1 1 ∷ asks (Release 1) ∷ [])).world
+    ∷ post 0 0 (codes "y") ∷ deliver 1 ∷ asks (Notice 1) ∷ deliver 1 ∷ flush 0 1 ∷ flush 1 1 ∷ asks (Release 1)
+    ∷ [])).world
     ≡ Outside 0 (codes "y") ∷ Letter 1 0 ∷ []
 unfolding first_refusal at_unit at_up
 certificate_after_a_kill = refl
 
 certificate_of_nothing_logged : certificate_after (alone sample (
-    opening (relay ∷ relay ∷ relay ∷ []) ∷ post 0 0 (codes "r") ∷ deliver 0 ∷ deliver 1 ∷ deliver 2 ∷ asks (Kill 0) ∷ asks (Restart 0)
-    ∷ asks (Notice 2) ∷ asks (Notice 1) ∷ asks (Notice 2) ∷ deliver 2 ∷ post 1 0 (codes "s") ∷ deliver 4 ∷ asks (Kill 1) ∷ asks (Restart 1) ∷ asks (Notice 2) ∷ [])).world
+    opening (relay ∷ relay ∷ relay ∷ []) ∷ post 0 0 (codes "r") ∷ deliver 0 ∷ deliver 1 ∷ deliver 2 ∷ asks (Kill 0)
+    ∷ asks (Restart 0)
+    ∷ asks (Notice 2) ∷ asks (Notice 1) ∷ asks (Notice 2) ∷ deliver 2 ∷ post 1 0 (codes "s") ∷ deliver 4
+    ∷ asks (Kill 1) ∷ asks (Restart 1) ∷ asks (Notice 2) ∷ [])).world
     ≡ []
 unfolding first_refusal at_unit at_up
 certificate_of_nothing_logged = refl

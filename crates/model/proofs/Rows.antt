@@ -1,15 +1,18 @@
 -- Worked examples: the replies to some steps of a tenant of sample units.
 use Rattle.std.proofs.Common.{◌≡◌, refl}
 use Rattle.std.specs.Prelude.{ℕ, true, List, [], ◌∷◌, Option, Some, None, codes}
-use Rattle.model.specs.declared.refusals.Refusal.TheVariants.{AlreadyOpen, NoUnit, Down, Up, NoLetter, Wait, Orphan, Repeat, Gap, Quota as OverQuota, Unlogged}
+use Rattle.model.specs.declared.refusals.Refusal.TheVariants.{AlreadyOpen, NoUnit, Down, Up, NoLetter, Wait, Orphan}
+use Rattle.model.specs.declared.refusals.Refusal.TheVariants.{Repeat, Gap, Quota as OverQuota, Unlogged}
 use Rattle.model.specs.declared.names.Quota.{Quota}
 use Rattle.model.specs.declared.names.Mark.{Mark}
 use Rattle.model.specs.declared.names.Start.{Start}
 use Rattle.model.specs.declared.replies.Reply.{Reply}
-use Rattle.model.specs.declared.replies.Reply.TheVariants.{Opened, Joined, Accepted, Flushed, Checkpointed, Killed, Restarted, Noticed, Released, Status, Refused}
+use Rattle.model.specs.declared.replies.Reply.TheVariants.{Opened, Joined, Accepted, Flushed, Checkpointed, Killed}
+use Rattle.model.specs.declared.replies.Reply.TheVariants.{Restarted, Noticed, Released, Status, Refused}
 use Rattle.model.specs.declared.replies.End.TheVariants.{Whole}
 use Rattle.model.specs.declared.steps.TenantStep.{TenantStep}
-use Rattle.model.specs.declared.steps.TenantStep.TheVariants.{Open, Join, Post, Deliver, Flush, Checkpoint, Kill, Restart, Notice, Release, Status as ReadStatus}
+use Rattle.model.specs.declared.steps.TenantStep.TheVariants.{Open, Join, Post, Deliver, Flush, Checkpoint, Kill}
+use Rattle.model.specs.declared.steps.TenantStep.TheVariants.{Restart, Notice, Release, Status as ReadStatus}
 use Rattle.model.specs.Alone.{Event, alone}
 use Rattle.model.specs.Sample.{sample, State}
 use Rattle.std.specs.Prelude.{Result, Ok, Err, map}
@@ -483,15 +486,18 @@ abbrev pub relay_and_echo : List Seat
 relay_and_echo = record { unit = 0; kind = 1; home = 2 } ∷ record { unit = 1; kind = 0; home = 2 } ∷ []
 
 certificate_of_two_receipts : certificate_after (alone sample (
-    opening (codes "relay" ∷ codes "echo" ∷ []) ∷ post 0 0 (codes "x") ∷ deliver 0 ∷ flush 1 1 ∷ asks (Release 1) ∷ flush 0 1 ∷ asks (Release 1) ∷ [])).world
+    opening (codes "relay" ∷ codes "echo" ∷ []) ∷ post 0 0 (codes "x") ∷ deliver 0 ∷ flush 1 1 ∷ asks (Release 1)
+    ∷ flush 0 1 ∷ asks (Release 1) ∷ [])).world
     ≡ Outside 0 (codes "x") ∷ Letter 1 0 ∷ []
 unfolding first_refusal at_unit at_up
 certificate_of_two_receipts = refl
 
-check_of_two_moves : outputs_of (failure_free sample relay_and_echo (Outside 0 (codes "x") ∷ Letter 1 0 ∷ [])) ≡ Ok ([] ∷ (codes "x" ∷ []) ∷ [])
+check_of_two_moves : outputs_of (failure_free sample relay_and_echo (Outside 0 (codes "x") ∷ Letter 1 0 ∷ []))
+    ≡ Ok ([] ∷ (codes "x" ∷ []) ∷ [])
 check_of_two_moves = refl
 
-check_exchanged : outputs_of (failure_free sample relay_and_echo (Letter 1 0 ∷ Outside 0 (codes "x") ∷ [])) ≡ Err (NothingToReceive 1)
+check_exchanged : outputs_of (failure_free sample relay_and_echo (Letter 1 0 ∷ Outside 0 (codes "x") ∷ []))
+    ≡ Err (NothingToReceive 1)
 check_exchanged = refl
 
 check_no_taker : outputs_of (failure_free sample relay_and_echo (Letter 5 0 ∷ [])) ≡ Err (NoUnitThere 5)
@@ -501,8 +507,10 @@ check_no_sender : outputs_of (failure_free sample relay_and_echo (Letter 1 5 ∷
 check_no_sender = refl
 
 certificate_with_a_join : certificate_after (alone sample (
-    opening (codes "tee" ∷ []) ∷ post 0 0 (codes "x") ∷ asks (Join (codes "echo")) ∷ post 0 1 (codes "y") ∷ deliver 0 ∷ flush 0 2 ∷ flush 1 1
-    ∷ asks (Kill 0) ∷ asks (Restart 0) ∷ asks (Notice 1) ∷ post 0 2 (codes "z") ∷ deliver 1 ∷ asks (Release 1) ∷ [])).world
+    opening (codes "tee" ∷ []) ∷ post 0 0 (codes "x") ∷ asks (Join (codes "echo")) ∷ post 0 1 (codes "y") ∷ deliver 0
+    ∷ flush 0 2 ∷ flush 1 1
+    ∷ asks (Kill 0) ∷ asks (Restart 0) ∷ asks (Notice 1) ∷ post 0 2 (codes "z") ∷ deliver 1 ∷ asks (Release 1)
+    ∷ [])).world
     ≡ Outside 0 (codes "x") ∷ Joined_ 0 ∷ Outside 0 (codes "y") ∷ Letter 1 0 ∷ []
 unfolding first_refusal at_unit at_up
 certificate_with_a_join = refl
@@ -512,6 +520,8 @@ abbrev pub vector_after : ℕ → Option World → List Mark
 vector_after x None = []
 vector_after x (Some w) = vector_of w.nodes x
 
-vector_of_the_echo : vector_after 3 (alone sample (opening (codes "relay" ∷ codes "echo" ∷ []) ∷ post 0 0 (codes "x") ∷ deliver 0 ∷ [])).world ≡ at 0 1 ∷ at 0 1 ∷ []
+vector_of_the_echo : vector_after 3
+    (alone sample (opening (codes "relay" ∷ codes "echo" ∷ []) ∷ post 0 0 (codes "x") ∷ deliver 0 ∷ [])).world
+    ≡ at 0 1 ∷ at 0 1 ∷ []
 unfolding first_refusal at_unit at_up
 vector_of_the_echo = refl

@@ -5,10 +5,12 @@ use Rattle.model.specs.declared.replies.Reply.{Reply}
 use Rattle.model.specs.declared.replies.Reply.TheVariants.{Refused}
 use Rattle.model.specs.declared.replies.Said.{Said}
 use Rattle.model.specs.declared.steps.TenantStep.{TenantStep}
-use Rattle.model.specs.declared.steps.TenantStep.TheVariants.{Open, Join, Post, Deliver, Flush, Checkpoint, Kill, Restart, Notice, Release, Status}
+use Rattle.model.specs.declared.steps.TenantStep.TheVariants.{Open, Join, Post, Deliver, Flush, Checkpoint, Kill}
+use Rattle.model.specs.declared.steps.TenantStep.TheVariants.{Restart, Notice, Release, Status}
 use Rattle.model.specs.Handler.{Meaning}
 use Rattle.model.specs.World.{World}
-use Rattle.model.specs.Steps.{Outcome, open_new, join, post, deliver, flush, checkpoint, kill, restart, notice, release, status}
+use Rattle.model.specs.Steps.{Outcome, open_new, join, post, deliver, flush, checkpoint, kill, restart, notice, release}
+use Rattle.model.specs.Steps.{status}
 
 -- a step with what the store said during it
 pub record Event : Type 0 where

@@ -1,5 +1,6 @@
 -- Runs without failures: units that only take texts from outside and letters from plain queues.
-use Rattle.std.specs.Prelude.{◌≡◌, ℕ, ◌+◌, Bool, cond, ◌&&◌, ◌==◌, nat_lt, nat_le, List, [], ◌∷◌, ◌++◌, length, take, Option, Some, None, Result, Ok, Err, slice_get, slice_set, map}
+use Rattle.std.specs.Prelude.{◌≡◌, ℕ, ◌+◌, Bool, cond, ◌&&◌, ◌==◌, nat_lt, nat_le, List, [], ◌∷◌, ◌++◌, length, take}
+use Rattle.std.specs.Prelude.{Option, Some, None, Result, Ok, Err, slice_get, slice_set, map}
 use Rattle.std.specs.List.{filter, flat_map}
 use Rattle.model.specs.declared.limits.TheConstants.{MAX_UNITS}
 use mathlib.Core.List.{IsPrefix}

@@ -1,12 +1,15 @@
 -- What is kept of a tenant's past: the checkpoints of its units, and what is behind the greatest that is firm.
-use Rattle.std.specs.Prelude.{ℕ, suc, ◌+◌, ◌-◌, Bool, false, cond, not, ◌&&◌, ◌||◌, ◌==◌, nat_lt, List, [], ◌∷◌, ◌++◌, length, take, drop, replicate, Option, Some, None, slice_get, slice_set}
+use Rattle.std.specs.Prelude.{ℕ, suc, ◌+◌, ◌-◌, Bool, false, cond, not, ◌&&◌, ◌||◌, ◌==◌, nat_lt, List, [], ◌∷◌, ◌++◌}
+use Rattle.std.specs.Prelude.{length, take, drop, replicate, Option, Some, None, slice_get, slice_set}
 use Rattle.std.specs.List.{count_by, enumerate_from, filter, fold, list_any, take_while}
 use Rattle.model.specs.declared.limits.TheConstants.{MAX_CHECKPOINTS}
 use Rattle.model.specs.declared.kept.Kept.{Kept}
 use Rattle.model.specs.declared.replies.Reply.{Reply}
-use Rattle.model.specs.declared.replies.Reply.TheVariants.{Opened, Joined, Flushed, Checkpointed, Restarted, Noticed, Stopped}
+use Rattle.model.specs.declared.replies.Reply.TheVariants.{Opened, Joined, Flushed, Checkpointed, Restarted, Noticed}
+use Rattle.model.specs.declared.replies.Reply.TheVariants.{Stopped}
 use Rattle.model.specs.declared.steps.TenantStep.{TenantStep}
-use Rattle.model.specs.declared.steps.TenantStep.TheVariants.{Open, Join, Post, Deliver, Flush, Checkpoint, Kill, Restart, Notice, Release, Status}
+use Rattle.model.specs.declared.steps.TenantStep.TheVariants.{Open, Join, Post, Deliver, Flush, Checkpoint, Kill}
+use Rattle.model.specs.declared.steps.TenantStep.TheVariants.{Restart, Notice, Release, Status}
 use Rattle.model.specs.Alone.{Event, step}
 use Rattle.model.specs.Handler.{Meaning}
 use Rattle.model.specs.Lists.{has}
@@ -15,7 +18,8 @@ use Rattle.model.specs.World.{Member, World, executed, is_firm}
 
 -- ---- the checkpoints of a unit
 
--- Their indices: the base, which is firm, and the others in the order of putting. The base is the beginning, at 0, until
+-- Their indices: the base, which is firm, and the others in the order of putting. The base is the beginning, at 0,
+-- until
 -- a checkpoint takes its place.
 pub record Shelf : Type 0 where
   pub base : ℕ

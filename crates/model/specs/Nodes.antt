@@ -1,6 +1,7 @@
 -- State intervals, named here nodes, and what follows from them: turns, letters and pasts.
 -- A list of nodes has the newest first, and a node is named by its place: how many nodes were made before it.
-use Rattle.std.specs.Prelude.{◌≡◌, ℕ, ◌+◌, true, cond, ◌==◌, nat_lt, List, [], ◌∷◌, ◌++◌, length, Option, Some, None, slice_get}
+use Rattle.std.specs.Prelude.{◌≡◌, ℕ, ◌+◌, true, cond, ◌==◌, nat_lt, List, [], ◌∷◌, ◌++◌, length, Option, Some, None}
+use Rattle.std.specs.Prelude.{slice_get}
 use Rattle.std.specs.List.{filter, count_by, sum_by}
 use Rattle.model.specs.declared.names.Seat.{Seat}
 use Rattle.model.specs.declared.names.Source.TheVariants.{Outside, Unit as FromUnit}

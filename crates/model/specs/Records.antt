@@ -1,5 +1,6 @@
 -- The record of a node that is logged, and which answers of a store are honest.
-use Rattle.std.specs.Prelude.{◌≡◌, ◌≢◌, ◌≤◌, ◌<◌, ◌↔◌, ◌&&◌, ℕ, Bool, false, not, nat_le, nat_lt, List, [], length, take, drop, map, Option, Some, None, slice_get, unwrap_or, true}
+use Rattle.std.specs.Prelude.{◌≡◌, ◌≢◌, ◌≤◌, ◌<◌, ◌↔◌, ◌&&◌, ℕ, Bool, false, not, nat_le, nat_lt, List, [], length}
+use Rattle.std.specs.Prelude.{take, drop, map, Option, Some, None, slice_get, unwrap_or, true}
 use Rattle.model.specs.declared.limits.TheConstants.{MAX_INCARNATION}
 use Rattle.model.specs.declared.names.Mark.{Mark}
 use Rattle.model.specs.declared.names.Source.TheVariants.{Outside}
@@ -7,12 +8,14 @@ use Rattle.model.specs.declared.records.Record.{Record}
 use Rattle.model.specs.declared.replies.Said.{Said}
 use Rattle.model.specs.declared.replies.End.TheVariants.{Whole, Memory}
 use Rattle.model.specs.declared.steps.TenantStep.{TenantStep}
-use Rattle.model.specs.declared.steps.TenantStep.TheVariants.{Open, Join, Post, Deliver, Flush, Checkpoint, Kill, Restart, Notice, Release, Status}
+use Rattle.model.specs.declared.steps.TenantStep.TheVariants.{Open, Join, Post, Deliver, Flush, Checkpoint, Kill}
+use Rattle.model.specs.declared.steps.TenantStep.TheVariants.{Restart, Notice, Release, Status}
 use Rattle.model.specs.Handler.{Meaning}
 use Rattle.model.specs.Lists.{numbers_from}
 use Rattle.model.specs.Nodes.{Node, Cause, began, outside, letter, Message, node_at}
 use Rattle.model.specs.Steps.{path_kept}
-use Rattle.model.specs.World.{World, Member, executed, incarnation_of, source_of, text_of, mark_of, greatest_mark, past_nodes}
+use Rattle.model.specs.World.{World, Member, executed, incarnation_of, source_of, text_of, mark_of, greatest_mark}
+use Rattle.model.specs.World.{past_nodes}
 
 -- what the store says where it is not asked
 abbrev pub quiet : Said
@@ -61,7 +64,8 @@ volatile_records M tenant w m = map (record_of M tenant w) (drop m.stable m.path
 abbrev pub IsQuiet : Said → List Record → Type 0
 IsQuiet said grown = (said.appended ≡ 0) × (said.end ≡ Whole) × (grown ≡ [])
 
--- a flush of a unit that is up: the store took the first of its volatile records, and the end is whole just where it took all; where there was no memory for the first, the flush is not entered
+-- a flush of a unit that is up: the store took the first of its volatile records, and the end is whole just where it
+-- took all; where there was no memory for the first, the flush is not entered
 pub record IsFlushed {S : Type 0} (M : Meaning S) (tenant : List ℕ) (w : World) (m : Member) (said : Said)
     (grown : List Record) : Type 0 where
   pub first : grown ≡ take said.appended (volatile_records M tenant w m)
@@ -88,7 +92,8 @@ abbrev pub notice_fetches : World → ℕ → Option Member → Bool
 notice_fetches w u None = false
 notice_fetches w u (Some m) = m.up && (nat_lt (length (path_kept w m)) (length m.path) && has_incarnation_left w u)
 
--- The store was not given anything. It may fail only where it is asked; where there was no memory, the step is not entered.
+-- The store was not given anything. It may fail only where it is asked; where there was no memory, the step is not
+-- entered.
 pub record IsFetching (asked : Bool) (said : Said) (grown : List Record) : Type 0 where
   pub nothing : (said.appended ≡ 0) × (grown ≡ [])
   pub whole : asked ≡ false → said.end ≡ Whole

@@ -1,7 +1,9 @@
 -- The number and the name of each refusal.
 use Rattle.std.specs.Prelude.{ℕ, List, codes}
 use Rattle.model.specs.declared.refusals.Refusal.{Refusal}
-use Rattle.model.specs.declared.refusals.Refusal.TheVariants.{BadLine, NoTenant, AlreadyOpen, BadOpen, NoUnit, Down, Up, NoLetter, Wait, Orphan, Repeat, Gap, Quota, TooMuch, Unlogged, Limit, Store, Memory, Pending}
+use Rattle.model.specs.declared.refusals.Refusal.TheVariants.{BadLine, NoTenant, AlreadyOpen, BadOpen, NoUnit, Down, Up}
+use Rattle.model.specs.declared.refusals.Refusal.TheVariants.{NoLetter, Wait, Orphan, Repeat, Gap, Quota, TooMuch}
+use Rattle.model.specs.declared.refusals.Refusal.TheVariants.{Unlogged, Limit, Store, Memory, Pending}
 
 abbrev pub refusal_number : Refusal → ℕ
 refusal_number BadLine = 1

@@ -1,5 +1,6 @@
 -- What the sample handler means.
-use Rattle.std.specs.Prelude.{ℕ, ◌+◌, ◌-◌, ◌*◌, ◌%◌, Bool, if◌then◌else◌, ◌&&◌, ◌==◌, nat_le, min, List, [], ◌∷◌, length, Option, Some, None, codes, decimal, bytes_eq}
+use Rattle.std.specs.Prelude.{ℕ, ◌+◌, ◌-◌, ◌*◌, ◌%◌, Bool, if◌then◌else◌, ◌&&◌, ◌==◌, nat_le, min, List, [], ◌∷◌}
+use Rattle.std.specs.Prelude.{length, Option, Some, None, codes, decimal, bytes_eq}
 use Rattle.std.specs.List.{fold, list_all}
 use Rattle.model.specs.declared.names.Seat.{Seat}
 use Rattle.model.specs.declared.names.Source.{Source}

@@ -1,7 +1,11 @@
 -- What each step of a tenant answers and leaves.
-use Rattle.std.specs.Prelude.{ℕ, ◌+◌, ◌-◌, Bool, true, false, cond, if◌then◌else◌, not, ◌&&◌, ◌||◌, nat_lt, nat_le, min, List, [], ◌∷◌, ◌++◌, length, take, Option, Some, None, slice_get, slice_set, slice_index, map, is_none}
+use Rattle.std.specs.Prelude.{ℕ, ◌+◌, ◌-◌, Bool, true, false, cond, if◌then◌else◌, not, ◌&&◌, ◌||◌, nat_lt, nat_le, min}
+use Rattle.std.specs.Prelude.{List, [], ◌∷◌, ◌++◌, length, take, Option, Some, None, slice_get, slice_set, slice_index}
+use Rattle.std.specs.Prelude.{map, is_none}
 use Rattle.std.specs.List.{fold, list_any, take_while}
-use Rattle.model.specs.declared.limits.TheConstants.{MAX_UNITS, MAX_TEXT_BYTES, MAX_TURN_EFFECTS, MAX_VOLATILE_QUOTA, MAX_HELD_QUOTA, MAX_LETTERS_QUOTA, MAX_OPTIMISM, MAX_INCARNATION, MAX_INDEX}
+use Rattle.model.specs.declared.limits.TheConstants.{MAX_UNITS, MAX_TEXT_BYTES, MAX_TURN_EFFECTS, MAX_VOLATILE_QUOTA}
+use Rattle.model.specs.declared.limits.TheConstants.{MAX_HELD_QUOTA, MAX_LETTERS_QUOTA, MAX_OPTIMISM, MAX_INCARNATION}
+use Rattle.model.specs.declared.limits.TheConstants.{MAX_INDEX}
 use Rattle.model.specs.declared.names.Seat.{Seat}
 use Rattle.model.specs.declared.names.Row.{Row}
 use Rattle.model.specs.declared.names.Start.{Start}
@@ -9,16 +13,20 @@ use Rattle.model.specs.declared.names.Quota.{Quota}
 use Rattle.model.specs.declared.names.Source.{Source}
 use Rattle.model.specs.declared.names.Source.TheVariants.{Outside, Unit as FromUnit}
 use Rattle.model.specs.declared.refusals.Refusal.{Refusal}
-use Rattle.model.specs.declared.refusals.Refusal.TheVariants.{BadOpen, NoUnit, Down, Up, NoLetter, Wait, Orphan, Repeat, Gap, Quota as OverQuota, TooMuch, Unlogged, Limit, Store, Memory, Pending}
+use Rattle.model.specs.declared.refusals.Refusal.TheVariants.{BadOpen, NoUnit, Down, Up, NoLetter, Wait, Orphan, Repeat}
+use Rattle.model.specs.declared.refusals.Refusal.TheVariants.{Gap, Quota as OverQuota, TooMuch, Unlogged, Limit, Store}
+use Rattle.model.specs.declared.refusals.Refusal.TheVariants.{Memory, Pending}
 use Rattle.model.specs.declared.replies.Reply.{Reply}
-use Rattle.model.specs.declared.replies.Reply.TheVariants.{Opened, Joined, Accepted, Flushed, Checkpointed, Killed, Restarted, Noticed, Released, Status, Stopped, Refused}
+use Rattle.model.specs.declared.replies.Reply.TheVariants.{Opened, Joined, Accepted, Flushed, Checkpointed, Killed}
+use Rattle.model.specs.declared.replies.Reply.TheVariants.{Restarted, Noticed, Released, Status, Stopped, Refused}
 use Rattle.model.specs.declared.replies.Said.{Said}
 use Rattle.model.specs.declared.replies.End.{End}
 use Rattle.model.specs.declared.replies.End.TheVariants.{Whole, Device, Memory as NoMemory}
 use Rattle.model.specs.Handler.{Turn, Meaning}
 use Rattle.model.specs.Lists.{numbers_from}
 use Rattle.model.specs.Nodes.{Node, Cause, began, outside, letter, node_at, Message, next_turn, sends_within}
-use Rattle.model.specs.World.{World, Member, executed, mark_of, incarnation_of, is_blind, is_orphan, unstable_units, taken, held, releasable}
+use Rattle.model.specs.World.{World, Member, executed, mark_of, incarnation_of, is_blind, is_orphan, unstable_units}
+use Rattle.model.specs.World.{taken, held, releasable}
 
 -- what a step answers, and the tenant after it, if it is open
 pub record Outcome : Type 0 where

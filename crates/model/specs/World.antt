@@ -1,5 +1,6 @@
 -- The world of one tenant, and what is read off it.
-use Rattle.std.specs.Prelude.{ℕ, Bool, true, false, cond, not, ◌&&◌, ◌||◌, ◌==◌, nat_lt, nat_le, max, List, [], ◌∷◌, length, take, drop, Option, Some, None, slice_get, map, option_to_list}
+use Rattle.std.specs.Prelude.{ℕ, Bool, true, false, cond, not, ◌&&◌, ◌||◌, ◌==◌, nat_lt, nat_le, max, List, [], ◌∷◌}
+use Rattle.std.specs.Prelude.{length, take, drop, Option, Some, None, slice_get, map, option_to_list}
 use Rattle.std.specs.List.{filter, count_by, fold, list_any, list_all, take_while, flat_map}
 use Rattle.model.specs.declared.names.Seat.{Seat}
 use Rattle.model.specs.declared.names.Row.{Row}

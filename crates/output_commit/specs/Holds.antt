@@ -15,7 +15,8 @@ pub record Issued : Type 0 where
   pub unit : ℕ
   pub output : Held
 
--- what a unit released: how many texts were given up, the texts behind those, and how many more can follow without a growth
+-- what a unit released: how many texts were given up, the texts behind those, and how many more can follow without a
+-- growth
 pub record Line : Type 0 where
   pub gone : ℕ
   pub texts : List (List ℕ)

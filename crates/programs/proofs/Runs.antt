@@ -1,12 +1,16 @@
 -- The steps of a run.
-use Rattle.std.proofs.Common.{◌≡◌, ◌∙◌, ◌≢◌, ◌<◌, ◌≤◌, ◌==◌, ℕ, zero, suc, ◌+◌, ◌-◌, List, Bool, true, false, if◌then◌else◌, Result, Ok, Err, refl, sym, ap, arith}
+use Rattle.std.proofs.Common.{◌≡◌, ◌∙◌, ◌≢◌, ◌<◌, ◌≤◌, ◌==◌, ℕ, zero, suc, ◌+◌, ◌-◌, List, Bool, true, false}
+use Rattle.std.proofs.Common.{if◌then◌else◌, Result, Ok, Err, refl, sym, ap, arith}
 use Rattle.std.proofs.lemmas.Bool.Decides.{Decides-eqb}
 use Rattle.std.specs.Str.{IsUtf8, is_utf8}
 use Rattle.std.proofs.lemmas.Str.{is_utf8-from_IsUtf8, IsUtf8-from_is_utf8}
 use Rattle.riscv.specs.declared.fault.Exception.{Exception}
 use Rattle.riscv.specs.declared.machine.Machine.{Machine}
 use Rattle.riscv.specs.Machines.{stepped, steps, upon_steps}
-use Rattle.riscv.specs.declared.fault.Exception.TheVariants.{InstructionAddressMisaligned, InstructionAccessFault, IllegalInstruction, Breakpoint, LoadAddressMisaligned, LoadAccessFault, StoreAddressMisaligned, StoreAccessFault, EnvironmentCall}
+use Rattle.riscv.specs.declared.fault.Exception.TheVariants.{InstructionAddressMisaligned, InstructionAccessFault}
+use Rattle.riscv.specs.declared.fault.Exception.TheVariants.{IllegalInstruction, Breakpoint, LoadAddressMisaligned}
+use Rattle.riscv.specs.declared.fault.Exception.TheVariants.{LoadAccessFault, StoreAddressMisaligned, StoreAccessFault}
+use Rattle.riscv.specs.declared.fault.Exception.TheVariants.{EnvironmentCall}
 use Rattle.programs.specs.declared.trap.Reason.TheVariants.{Raised, Spent}
 use Rattle.programs.specs.declared.trap.Cut.{Cut}
 use Rattle.programs.specs.declared.trap.Ending.{Ending}
@@ -15,7 +19,8 @@ use Rattle.programs.specs.declared.trap.Ending.TheVariants as endings
 use Rattle.programs.specs.Courses.{Course, run, gone_on, upon_step, served, then_on, ended}
 
 -- a run of at least one instruction
-run-pos : (k : ℕ) (c : Course) → 0 < k → run k c ≡ (if c.machine.counter == 0xfffffff0 then Ok c else then_on (run (k - 1)) c.machine.counter (gone_on c))
+run-pos : (k : ℕ) (c : Course) → 0 < k → run k c
+    ≡ (if c.machine.counter == 0xfffffff0 then Ok c else then_on (run (k - 1)) c.machine.counter (gone_on c))
 unfolding run
 run-pos zero c h = absurd (omega arith)
 run-pos (suc k) c h = let e : suc k - 1 ≡ k = omega arith in rw e refl
@@ -31,22 +36,28 @@ on_step true c rest e = cc
 on_step false c rest e = refl
 
 apart : (m n : ℕ) → m ≢ n → (m == n) ≡ false
-apart m n ne = elim (m == n) as (λ v. (m == n) ≡ v → v ≡ false) [ true ↦ λ e. absurd (ne ((Decides-eqb m n).0 e)) | false ↦ λ e. refl ] refl
+apart m n ne = elim (m == n) as (λ v. (m == n) ≡ v
+    → v ≡ false) [ true ↦ λ e. absurd (ne ((Decides-eqb m n).0 e)) | false ↦ λ e. refl ] refl
 
 -- it goes on
-pub run_goes : (k j : ℕ) (c d : Course) → k ≡ j + 1 → c.machine.counter ≢ 0xfffffff0 → gone_on c ≡ Ok d → run k c ≡ run j d
+pub run_goes : (k j : ℕ) (c d : Course) → k ≡ j + 1 → c.machine.counter ≢ 0xfffffff0 → gone_on c ≡ Ok d
+    → run k c ≡ run j d
 run_goes k j c d h ne e =
     let pos : 0 < k = omega arith in
     let less : k - 1 ≡ j = omega arith in
-    run-pos k c pos ∙ on_step _ c _ (apart c.machine.counter 0xfffffff0 ne) ∙ ap (then_on (run (k - 1)) c.machine.counter) e ∙ ap (λ i. run i d) less
+    run-pos k c pos ∙ on_step _ c _ (apart c.machine.counter 0xfffffff0 ne)
+    ∙ ap (then_on (run (k - 1)) c.machine.counter) e ∙ ap (λ i. run i d) less
 
 -- it is cut
-pub run_is_cut : (k : ℕ) (c : Course) (cut : Cut) (at : ℕ) → 0 < k → c.machine.counter ≢ 0xfffffff0 → at ≡ c.machine.counter → gone_on c ≡ Err cut → run k c ≡ Err (ended cut at)
+pub run_is_cut : (k : ℕ) (c : Course) (cut : Cut) (at : ℕ) → 0 < k → c.machine.counter ≢ 0xfffffff0
+    → at ≡ c.machine.counter → gone_on c ≡ Err cut → run k c ≡ Err (ended cut at)
 run_is_cut k c cut at h ne at_is e =
-    run-pos k c h ∙ on_step _ c _ (apart c.machine.counter 0xfffffff0 ne) ∙ ap (then_on (run (k - 1)) c.machine.counter) e ∙ ap (λ a. Err (ended cut a)) (sym at_is)
+    run-pos k c h ∙ on_step _ c _ (apart c.machine.counter 0xfffffff0 ne)
+    ∙ ap (then_on (run (k - 1)) c.machine.counter) e ∙ ap (λ a. Err (ended cut a)) (sym at_is)
 
 -- no instruction is left
-pub run_spent : (k : ℕ) (c : Course) (at : ℕ) → k ≡ 0 → at ≡ c.machine.counter → run k c ≡ Err (endings.Trapped (record { reason = Spent; at = at }))
+pub run_spent : (k : ℕ) (c : Course) (at : ℕ) → k ≡ 0 → at ≡ c.machine.counter
+    → run k c ≡ Err (endings.Trapped (record { reason = Spent; at = at }))
 unfolding run
 run_spent k c at e at_is = rw (e, at_is) refl
 
@@ -55,12 +66,14 @@ counter_within : (m after : Machine) → stepped m ≡ Ok after → m.counter �
 unfolding stepped
 counter_within m after h = λ e. cc (rw e at h)
 
-on_steps : (n : ℕ) (c : Course) (between : Result Machine Exception) (after : Machine) → upon_steps between ≡ Ok after → between ≡ steps n c.machine → (m : Machine) × steps n c.machine ≡ Ok m × stepped m ≡ Ok after
+on_steps : (n : ℕ) (c : Course) (between : Result Machine Exception) (after : Machine) → upon_steps between ≡ Ok after
+    → between ≡ steps n c.machine → (m : Machine) × steps n c.machine ≡ Ok m × stepped m ≡ Ok after
 on_steps n c (Ok m) after h e = (m, sym e, h)
 on_steps n c (Err x) after h e = cc
 
 -- steps of its machine are made
-pub run_steps : (n k j : ℕ) (c : Course) (after : Machine) → k ≡ n + j → steps n c.machine ≡ Ok after → run k c ≡ run j (record c { machine = after })
+pub run_steps : (n k j : ℕ) (c : Course) (after : Machine) → k ≡ n + j → steps n c.machine ≡ Ok after
+    → run k c ≡ run j (record c { machine = after })
 unfolding steps gone_on
 run_steps zero k j c after e made =
     let same : k ≡ j = omega arith in
@@ -71,10 +84,12 @@ run_steps (suc n) k j c after e made =
     let m = found.0 in
     let upto : run k c ≡ run (suc j) (record c { machine = m }) = run_steps n k (suc j) c m (omega arith) found.1 in
     let gone : gone_on (record c { machine = m }) ≡ Ok (record c { machine = after }) = rw found.2 refl in
-    upto ∙ run_goes (suc j) j (record c { machine = m }) (record c { machine = after }) (omega arith) (counter_within m after found.2) gone
+    upto ∙ run_goes (suc j) j (record c { machine = m }) (record c { machine = after }) (omega arith)
+    (counter_within m after found.2) gone
 
 -- the machine of a course ran
-pub run_proceeds : (n k : ℕ) (c after : Course) → n ≤ k → steps n c.machine ≡ Ok after.machine → after ≡ record c { machine = after.machine } → run k c ≡ run (k - n) after
+pub run_proceeds : (n k : ℕ) (c after : Course) → n ≤ k → steps n c.machine ≡ Ok after.machine
+    → after ≡ record c { machine = after.machine } → run k c ≡ run (k - n) after
 run_proceeds n k c after within made same =
     run_steps n k (k - n) c after.machine (omega (arith, within)) made ∙ ap (run (k - n)) (sym same)
 
@@ -94,7 +109,8 @@ trapped c LoadAccessFault ne = refl
 trapped c StoreAddressMisaligned ne = refl
 trapped c StoreAccessFault ne = refl
 
-pub gone_on_trap : (c : Course) (e : Exception) → e ≢ EnvironmentCall → stepped c.machine ≡ Err e → gone_on c ≡ Err (Trapped (Raised e))
+pub gone_on_trap : (c : Course) (e : Exception) → e ≢ EnvironmentCall → stepped c.machine ≡ Err e
+    → gone_on c ≡ Err (Trapped (Raised e))
 unfolding gone_on
 gone_on_trap c e ne h = ap (upon_step c) h ∙ trapped c e ne
 
@@ -104,4 +120,5 @@ utf8_test = is_utf8-from_IsUtf8
 
 pub not_utf8_test : (bytes : List ℕ) → ¬ (IsUtf8 bytes) → is_utf8 bytes ≡ false
 not_utf8_test bytes never =
-    elim (is_utf8 bytes) as (λ v. is_utf8 bytes ≡ v → v ≡ false) [ true ↦ λ e. absurd (never (IsUtf8-from_is_utf8 bytes e)) | false ↦ λ e. refl ] refl
+    elim (is_utf8 bytes) as (λ v. is_utf8 bytes ≡ v
+    → v ≡ false) [ true ↦ λ e. absurd (never (IsUtf8-from_is_utf8 bytes e)) | false ↦ λ e. refl ] refl

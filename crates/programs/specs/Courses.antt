@@ -1,12 +1,14 @@
 -- A turn on its way: the machine, and what was sent and put out so far.
-use Rattle.std.specs.Prelude.{◌≡◌, ℕ, zero, suc, ◌+◌, ◌==◌, nat_lt, Bool, if◌then◌else◌, List, [], ◌∷◌, ◌++◌, length, Result, Ok, Err}
+use Rattle.std.specs.Prelude.{◌≡◌, ℕ, zero, suc, ◌+◌, ◌==◌, nat_lt, Bool, if◌then◌else◌, List, [], ◌∷◌, ◌++◌, length}
+use Rattle.std.specs.Prelude.{Result, Ok, Err}
 use Rattle.std.specs.Str.{is_utf8}
 use Rattle.riscv.specs.declared.fault.Exception.{Exception}
 use Rattle.riscv.specs.declared.fault.Exception.TheVariants.{EnvironmentCall}
 use Rattle.riscv.specs.declared.machine.Machine.{Machine}
 use Rattle.riscv.specs.Memories.{Words, bytes_from}
 use Rattle.riscv.specs.Machines.{advanced, content, stepped}
-use Rattle.programs.specs.declared.trap.Reason.TheVariants.{Raised, Spent, UnknownCall, TooMany, TooLong, OutOfRange, NotUtf8, NoUnit}
+use Rattle.programs.specs.declared.trap.Reason.TheVariants.{Raised, Spent, UnknownCall, TooMany, TooLong, OutOfRange}
+use Rattle.programs.specs.declared.trap.Reason.TheVariants.{NotUtf8, NoUnit}
 use Rattle.programs.specs.declared.trap.Cut.{Cut}
 use Rattle.programs.specs.declared.trap.Cut.TheVariants.{Trapped, Refused}
 use Rattle.programs.specs.declared.trap.Ending.{Ending}

@@ -1,5 +1,6 @@
 -- Texts that bring an image.
-use Rattle.std.specs.Prelude.{ℕ, ◌+◌, ◌==◌, nat_eq, nat_lt, Bool, true, false, not, ◌&&◌, ◌||◌, if◌then◌else◌, List, [], ◌∷◌, length, Option, Some, None, Result, Ok, Err, codes}
+use Rattle.std.specs.Prelude.{ℕ, ◌+◌, ◌==◌, nat_eq, nat_lt, Bool, true, false, not, ◌&&◌, ◌||◌, if◌then◌else◌, List, []}
+use Rattle.std.specs.Prelude.{◌∷◌, length, Option, Some, None, Result, Ok, Err, codes}
 use Rattle.std.specs.List.{starts_with}
 use Rattle.base64.specs.declared.decode.DecodeError.{DecodeError}
 use Rattle.base64.specs.Engines.{standard}
@@ -27,7 +28,8 @@ is_mark first = (first == 43) || (first == 61)
 abbrev pub begins_image : List ℕ → Bool
 begins_image rest = starts_with nat_eq rest (codes "UlYxA")
 
--- whether a text is a part of an image: one from outside with a mark, where there is no program, where an image has begun,
+-- whether a text is a part of an image: one from outside with a mark, where there is no program, where an image has
+-- begun,
 -- or where one begins with it
 abbrev pub is_part : Process → Source → List ℕ → Bool
 is_part process Outside (first ∷ rest) =
@@ -39,7 +41,10 @@ is_part process (FromUnit unit) text = false
 abbrev pub collected : Process → List ℕ → Option Process
 collected process bytes =
     if nat_lt 0x3f000 (process.loaded + length bytes) then None else
-    Some (record process { image = put_bytes process.image process.loaded bytes; loaded = process.loaded + length bytes })
+    Some (record process {
+      image = put_bytes process.image process.loaded bytes;
+      loaded = process.loaded + length bytes;
+    })
 
 -- the image over the memory
 abbrev pub over : Process → Process

@@ -2,9 +2,13 @@
 use Rattle.std.specs.Prelude.{ℕ, List, ◌++◌, codes, false}
 use Rattle.std.specs.Fmt.{digits}
 use Rattle.riscv.specs.declared.fault.Exception.{Exception}
-use Rattle.riscv.specs.declared.fault.Exception.TheVariants.{InstructionAddressMisaligned, InstructionAccessFault, IllegalInstruction, Breakpoint, LoadAddressMisaligned, LoadAccessFault, StoreAddressMisaligned, StoreAccessFault, EnvironmentCall}
+use Rattle.riscv.specs.declared.fault.Exception.TheVariants.{InstructionAddressMisaligned, InstructionAccessFault}
+use Rattle.riscv.specs.declared.fault.Exception.TheVariants.{IllegalInstruction, Breakpoint, LoadAddressMisaligned}
+use Rattle.riscv.specs.declared.fault.Exception.TheVariants.{LoadAccessFault, StoreAddressMisaligned, StoreAccessFault}
+use Rattle.riscv.specs.declared.fault.Exception.TheVariants.{EnvironmentCall}
 use Rattle.programs.specs.declared.trap.Reason.{Reason}
-use Rattle.programs.specs.declared.trap.Reason.TheVariants.{Raised, Spent, UnknownCall, TooMany, TooLong, OutOfRange, NotUtf8, NoUnit}
+use Rattle.programs.specs.declared.trap.Reason.TheVariants.{Raised, Spent, UnknownCall, TooMany, TooLong, OutOfRange}
+use Rattle.programs.specs.declared.trap.Reason.TheVariants.{NotUtf8, NoUnit}
 use Rattle.programs.specs.declared.trap.Trap.{Trap}
 
 abbrev pub exception_text : Exception → List ℕ

@@ -21,7 +21,8 @@ source_number (FromUnit unit) = unit
 -- ra, sp, and a0 to a4
 abbrev pub first_registers : Seat → Source → ℕ → List ℕ
 first_registers seat source len =
-    0 ∷ 0xfffffff0 ∷ 0x3f000 ∷ 0 ∷ 0 ∷ 0 ∷ 0 ∷ 0 ∷ 0 ∷ 0 ∷ 0x3f000 ∷ len ∷ source_number source ∷ seat.unit ∷ seat.home ∷ 0
+    0 ∷ 0xfffffff0 ∷ 0x3f000 ∷ 0 ∷ 0 ∷ 0 ∷ 0 ∷ 0 ∷ 0 ∷ 0 ∷ 0x3f000 ∷ len ∷ source_number source ∷ seat.unit
+    ∷ seat.home ∷ 0
     ∷ 0 ∷ 0 ∷ 0 ∷ 0 ∷ 0 ∷ 0 ∷ 0 ∷ 0 ∷ 0 ∷ 0 ∷ 0 ∷ 0 ∷ 0 ∷ 0 ∷ 0 ∷ 0 ∷ []
 
 -- the machine at the beginning of a turn: the text lies behind the stack, and the instruction behind the header comes

@@ -21,7 +21,8 @@ text_tokens : (d : Data) → ArePrintable (json_tokens (outline d)) → tokens (
 text_tokens d printable = ap tokens (sym (print-outline d)) ∙ tokens-print (json_tokens (outline d)) printable
 
 -- a value whose tokens are read as it is a step where it is one
-pub step_of_text : (d : Data) → ArePrintable (json_tokens (outline d)) → read_tokens (json_tokens (outline d)) ≡ Some d → step_of_tokens (tokens (compact_text d)) ≡ step_of d
+pub step_of_text : (d : Data) → ArePrintable (json_tokens (outline d))
+    → read_tokens (json_tokens (outline d)) ≡ Some d → step_of_tokens (tokens (compact_text d)) ≡ step_of d
 unfolding step_of_tokens
 step_of_text d printable read = ap step_of_tokens (text_tokens d printable) ∙ ap (λ o. o >>= step_of) read
 
@@ -30,23 +31,32 @@ pub post_text : (verb tenant text : List ℕ) (n u : ℕ) → n < 2 ^ 64 → u <
 unfolding ArePrintable value members
 post_text verb tenant text n u small few =
     let d = post_data verb n tenant text u in
-    step_of_text d (tt, (tt, (tt, (tt, (IsNumber-decimal n small, (tt, (tt, (tt, (tt, (tt, (IsNumber-decimal u few, (tt, tt))))))))))))
+    step_of_text d (
+      tt,
+      (
+        tt,
+        (tt, (tt, (IsNumber-decimal n small, (tt, (tt, (tt, (tt, (tt, (IsNumber-decimal u few, (tt, tt)))))))))),
+      ),
+    )
     (rw (number_of-decimal n small) (rw (number_of-decimal u few) refl))
 
 pub deliver_text : (verb tenant : List ℕ) (n : ℕ) → n < 2 ^ 64
     → step_of_tokens (tokens (compact_text (deliver_data verb n tenant))) ≡ step_of (deliver_data verb n tenant)
 unfolding ArePrintable value members
 deliver_text verb tenant n small =
-    step_of_text (deliver_data verb n tenant) (tt, (tt, (tt, (tt, (IsNumber-decimal n small, (tt, (tt, (tt, tt)))))))) (rw (number_of-decimal n small) refl)
+    step_of_text (deliver_data verb n tenant) (tt, (tt, (tt, (tt, (IsNumber-decimal n small, (tt, (tt, (tt, tt))))))))
+    (rw (number_of-decimal n small) refl)
 
 pub place_text : (verb tenant : List ℕ) (u : ℕ) → u < 2 ^ 64
     → step_of_tokens (tokens (compact_text (place_data verb tenant u))) ≡ step_of (place_data verb tenant u)
 unfolding ArePrintable value members
 place_text verb tenant u few =
-    step_of_text (place_data verb tenant u) (tt, (tt, (tt, (tt, (tt, (tt, (IsNumber-decimal u few, (tt, tt)))))))) (rw (number_of-decimal u few) refl)
+    step_of_text (place_data verb tenant u) (tt, (tt, (tt, (tt, (tt, (tt, (IsNumber-decimal u few, (tt, tt))))))))
+    (rw (number_of-decimal u few) refl)
 
 -- what was found of a line's step, where the line is a text of that step
-pub found : (line text : List ℕ) (form : Option Step) (o : Option Step) → line ≡ text → step_of_tokens (tokens text) ≡ form → IfSome o (λ s. form ≡ Some s)
+pub found : (line text : List ℕ) (form : Option Step) (o : Option Step) → line ≡ text
+    → step_of_tokens (tokens text) ≡ form → IfSome o (λ s. form ≡ Some s)
     → IfSome o (λ s. step_of_tokens (tokens line) ≡ Some s)
 found line text form None is same has = has
 found line text form (Some s) is same has = ap (λ l. step_of_tokens (tokens l)) is ∙ same ∙ has

@@ -1,5 +1,6 @@
 -- What tokens are no step: those of no object, and of one without the verb.
-use Rattle.std.proofs.Common.{◌≡◌, ℕ, Bool, Less, List, [], ◌∷◌, length, Option, Some, None, Err, option_map, option_and_then, codes, refl, ap, ◌∙◌, arith}
+use Rattle.std.proofs.Common.{◌≡◌, ℕ, Bool, Less, List, [], ◌∷◌, length, Option, Some, None, Err, option_map}
+use Rattle.std.proofs.Common.{option_and_then, codes, refl, ap, ◌∙◌, arith}
 use Rattle.std.specs.Prelude.{IsUtf8}
 use Rattle.std.specs.Ordering.{nat_cmp}
 use Rattle.std.specs.Cmp.Lexicographic.{slice_cmp}
@@ -51,7 +52,8 @@ no_number s [] = at (number_of s)
     at (Some n) = refl
 
 -- tokens that begin so
-starting : (t : Token) (ts : List Token) (o : Option (json.Json × List Token)) → value 127 (t ∷ ts) ≡ o → last_of o ≡ None → step_of_tokens (t ∷ ts) ≡ None
+starting : (t : Token) (ts : List Token) (o : Option (json.Json × List Token)) → value 127 (t ∷ ts) ≡ o
+    → last_of o ≡ None → step_of_tokens (t ∷ ts) ≡ None
 starting t ts o is none = ap last_of is ∙ none
 
 pub nothing_is_no_step : step_of_tokens [] ≡ None
@@ -61,7 +63,8 @@ pub closing_is_no_step : (ts : List Token) → step_of_tokens (Token.end_object 
 closing_is_no_step ts = starting Token.end_object ts None (value_is 127 (Token.end_object ∷ ts)) refl
 
 pub array_is_no_step : (ts : List Token) → step_of_tokens (Token.begin_array ∷ ts) ≡ None
-array_is_no_step ts = starting Token.begin_array ts (parse_map json.array (items (value 126) (length ts) ts)) (value-begin_array 127 ts (omega arith)) (no_array (items (value 126) (length ts) ts))
+array_is_no_step ts = starting Token.begin_array ts (parse_map json.array (items (value 126) (length ts) ts))
+    (value-begin_array 127 ts (omega arith)) (no_array (items (value 126) (length ts) ts))
 
 pub bracket_is_no_step : (ts : List Token) → step_of_tokens (Token.end_array ∷ ts) ≡ None
 bracket_is_no_step ts = starting Token.end_array ts None (value_is 127 (Token.end_array ∷ ts)) refl
@@ -95,11 +98,13 @@ pub bad_is_no_step : (ts : List Token) → step_of_tokens (Token.bad ∷ ts) ≡
 bad_is_no_step ts = starting Token.bad ts None (value_is 127 (Token.bad ∷ ts)) refl
 
 -- a token that was read
-pub read_is_no_step : (old new : List Token) (t u : ReadToken) → old ≡ token_of t ∷ new → t ≡ u → step_of_tokens (token_of u ∷ new) ≡ None → step_of_tokens old ≡ None
+pub read_is_no_step : (old new : List Token) (t u : ReadToken) → old ≡ token_of t ∷ new → t ≡ u
+    → step_of_tokens (token_of u ∷ new) ≡ None → step_of_tokens old ≡ None
 read_is_no_step old new t u is same none = ap step_of_tokens (is ∙ ap (λ t. token_of t ∷ new) same) ∙ none
 
 -- a member behind others
-skipped : (k l : List ℕ) → slice_cmp nat_cmp k l ≡ Less → (o : Option Data) (ms : Members) → get_member k (with_if l o ms) ≡ get_member k ms
+skipped : (k l : List ℕ) → slice_cmp nat_cmp k l ≡ Less → (o : Option Data) (ms : Members)
+    → get_member k (with_if l o ms) ≡ get_member k ms
 skipped k l less None ms = refl
 skipped k l less (Some d) ms = rw less refl
 
@@ -110,7 +115,8 @@ verbless_is_no_step b c e f g h =
     let k = codes "do" in
     let none : get_member k (chain None b c e f g h) ≡ None =
     skipped k (codes "kind") refl b _ ∙ skipped k (codes "letter") refl c _ ∙ skipped k (codes "number") refl e _
-    ∙ skipped k (codes "tenant") refl f _ ∙ skipped k (codes "text") refl g _ ∙ skipped k (codes "unit") refl h no_members in
+    ∙ skipped k (codes "tenant") refl f _ ∙ skipped k (codes "text") refl g _
+    ∙ skipped k (codes "unit") refl h no_members in
     ap (λ o. option_and_then as_str o >>= (λ verb. form_of verb (object (chain None b c e f g h)))) none
 
 pub verbless : (s : Seen) → s.verb ≡ None → step_of (object (seen_members s)) ≡ None
@@ -121,7 +127,8 @@ verbless s none =
     let f = option_map (λ t. string t.now) s.tenant in
     let g = option_map (λ t. string t.now) s.text in
     let h = option_map whole_data s.unit in
-    ap (λ v. step_of (object (chain (option_map (λ t. string t.now) v) b c e f g h))) none ∙ verbless_is_no_step b c e f g h
+    ap (λ v. step_of (object (chain (option_map (λ t. string t.now) v) b c e f g h))) none
+    ∙ verbless_is_no_step b c e f g h
 
 -- the step of a line is that of its tokens
 pub line_step : (line : List ℕ) → IsUtf8 line → step_of_line line ≡ step_of_tokens (tokens line)
@@ -129,6 +136,7 @@ unfolding step_of_line
 line_step line text = rw (is_utf8-from_IsUtf8 line text) refl
 
 -- a fault that is said of a line
-pub gives_fault : (fault : LineFault) (o : Option Step) → (fault ≡ Bad → o ≡ None) → Gives (λ (s : Step). s) (Err fault) o
+pub gives_fault : (fault : LineFault) (o : Option Step) → (fault ≡ Bad → o ≡ None)
+    → Gives (λ (s : Step). s) (Err fault) o
 gives_fault Bad o told = told refl
 gives_fault NoMemory o told = tt

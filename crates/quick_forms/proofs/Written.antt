@@ -1,5 +1,6 @@
 -- The text of each reply, part by part.
-use Rattle.std.proofs.Common.{◌≡◌, ◌∙◌, ap, sym, refl, ℕ, List, [], ◌∷◌, ◌++◌, append_assoc, append-nil, codes, decimal, Bool, true, false}
+use Rattle.std.proofs.Common.{◌≡◌, ◌∙◌, ap, sym, refl, ℕ, List, [], ◌∷◌, ◌++◌, append_assoc, append-nil, codes, decimal}
+use Rattle.std.proofs.Common.{Bool, true, false}
 use Rattle.std.specs.Prelude.{Some, None}
 use Rattle.json.specs.Token.{string}
 use Rattle.json.specs.Print.{escape_byte, quoted, print, print_from}
@@ -8,8 +9,11 @@ use Rattle.model.specs.Refusals.{refusal_name}
 use Rattle.model.specs.declared.names.Mark.{Mark}
 use Rattle.model.specs.declared.names.Start.{Start}
 use Rattle.model.specs.declared.refusals.Refusal.{Refusal}
-use Rattle.model.specs.declared.refusals.Refusal.TheVariants.{BadLine, NoTenant, AlreadyOpen, BadOpen, NoUnit, Down, Up, NoLetter, Wait, Orphan, Repeat, Gap, Quota, TooMuch, Unlogged, Limit, Store, Memory, Pending}
-use Rattle.model.specs.declared.replies.Reply.TheVariants.{Opened, Joined, Accepted, Flushed, Checkpointed, Killed, Restarted, Noticed, Released, Status, Stopped, Refused}
+use Rattle.model.specs.declared.refusals.Refusal.TheVariants.{BadLine, NoTenant, AlreadyOpen, BadOpen, NoUnit, Down, Up}
+use Rattle.model.specs.declared.refusals.Refusal.TheVariants.{NoLetter, Wait, Orphan, Repeat, Gap, Quota, TooMuch}
+use Rattle.model.specs.declared.refusals.Refusal.TheVariants.{Unlogged, Limit, Store, Memory, Pending}
+use Rattle.model.specs.declared.replies.Reply.TheVariants.{Opened, Joined, Accepted, Flushed, Checkpointed, Killed}
+use Rattle.model.specs.declared.replies.Reply.TheVariants.{Restarted, Noticed, Released, Status, Stopped, Refused}
 use Rattle.quick_forms.specs.Words.{up_text}
 use Rattle.forms.specs.Writing.{data_text, reply_text, pair, wholes, texts}
 
@@ -35,7 +39,8 @@ unfolding data_text escape_byte
 killed_text n = refl
 
 -- what stands behind the two numbers of a list
-pair_text : (a b : ℕ) (rest : List ℕ) → compact_text (pair a b) ++ rest ≡ codes "[" ++ (decimal a ++ (codes "," ++ (decimal b ++ (codes "]" ++ rest))))
+pair_text : (a b : ℕ) (rest : List ℕ)
+    → compact_text (pair a b) ++ rest ≡ codes "[" ++ (decimal a ++ (codes "," ++ (decimal b ++ (codes "]" ++ rest))))
 pair_text a b rest =
     ap (λ (xs : List ℕ). 91 ∷ xs) (append_assoc (decimal a) (44 ∷ (decimal b ++ 93 ∷ [])) rest
     ∙ ap (λ (xs : List ℕ). decimal a ++ 44 ∷ xs) (append_assoc (decimal b) (93 ∷ []) rest))
@@ -51,30 +56,38 @@ at_text at rest =
     ap (λ (xs : List ℕ). codes "{\"at\":" ++ xs) (pair_text at.incarnation at.index rest)
     ∙ sym (flat (codes "{\"at\":[") (decimal at.incarnation) (decimal at.index) (codes "]" ++ rest))
 
-pub checkpointed_text : (at : Mark) → reply_text (Checkpointed at) ≡ ((codes "{\"at\":[" ++ decimal at.incarnation) ++ (codes "," ++ decimal at.index)) ++ codes "],\"ok\":\"checkpoint\"}"
+pub checkpointed_text : (at : Mark) → reply_text (Checkpointed at)
+    ≡ ((codes "{\"at\":[" ++ decimal at.incarnation) ++ (codes "," ++ decimal at.index))
+    ++ codes "],\"ok\":\"checkpoint\"}"
 unfolding data_text escape_byte
 checkpointed_text at = at_text at (codes ",\"ok\":\"checkpoint\"}")
 
 pub restarted_text : (row : Start) → reply_text (Restarted row)
-    ≡ (codes "{\"ok\":\"restart\",\"row\":[" ++ decimal row.incarnation) ++ (codes "," ++ (decimal row.index ++ codes "]}"))
+    ≡ (codes "{\"ok\":\"restart\",\"row\":[" ++ decimal row.incarnation)
+    ++ (codes "," ++ (decimal row.index ++ codes "]}"))
 unfolding data_text escape_byte
-restarted_text row = ap (λ (xs : List ℕ). codes "{\"ok\":\"restart\",\"row\":" ++ xs) (pair_text row.incarnation row.index (codes "}"))
+restarted_text row =
+    ap (λ (xs : List ℕ). codes "{\"ok\":\"restart\",\"row\":" ++ xs) (pair_text row.incarnation row.index (codes "}"))
 
 pub noticed_row_text : (row : Start) → reply_text (Noticed (Some row))
-    ≡ (codes "{\"ok\":\"notice\",\"row\":[" ++ decimal row.incarnation) ++ (codes "," ++ (decimal row.index ++ codes "]}"))
+    ≡ (codes "{\"ok\":\"notice\",\"row\":[" ++ decimal row.incarnation)
+    ++ (codes "," ++ (decimal row.index ++ codes "]}"))
 unfolding data_text escape_byte
-noticed_row_text row = ap (λ (xs : List ℕ). codes "{\"ok\":\"notice\",\"row\":" ++ xs) (pair_text row.incarnation row.index (codes "}"))
+noticed_row_text row =
+    ap (λ (xs : List ℕ). codes "{\"ok\":\"notice\",\"row\":" ++ xs) (pair_text row.incarnation row.index (codes "}"))
 
 pub noticed_none_text : reply_text (Noticed None) ≡ codes "{\"ok\":\"notice\",\"row\":null}"
 unfolding data_text escape_byte
 noticed_none_text = refl
 
 pub accepted_text : (at : Mark) (held : ℕ) (letters : List ℕ) → reply_text (Accepted at held letters)
-    ≡ ((codes "{\"at\":[" ++ decimal at.incarnation) ++ (codes "," ++ decimal at.index)) ++ ((codes "],\"held\":" ++ decimal held)
+    ≡ ((codes "{\"at\":[" ++ decimal at.incarnation) ++ (codes "," ++ decimal at.index))
+    ++ ((codes "],\"held\":" ++ decimal held)
     ++ (codes ",\"letters\":[" ++ (items_text false (wholes letters) ++ codes ",\"ok\":\"accepted\"}")))
 unfolding data_text escape_byte
 accepted_text at held letters =
-    at_text at (codes ",\"held\":" ++ (decimal held ++ (codes ",\"letters\":[" ++ (items_text false (wholes letters) ++ codes ",\"ok\":\"accepted\"}"))))
+    at_text at (codes ",\"held\":" ++ (decimal held
+    ++ (codes ",\"letters\":[" ++ (items_text false (wholes letters) ++ codes ",\"ok\":\"accepted\"}"))))
 
 pub released_text : (outputs : List (List ℕ)) → reply_text (Released outputs)
     ≡ codes "{\"ok\":\"released\",\"outputs\":[" ++ (items_text false (texts outputs) ++ codes "}")
@@ -83,12 +96,23 @@ released_text outputs = refl
 
 pub status_text : (at : Mark) (held known outside released rows stable : ℕ) (up : Bool) (volatile : ℕ)
     → reply_text (Status up at held known outside released rows stable volatile)
-    ≡ ((codes "{\"at\":[" ++ decimal at.incarnation) ++ (codes "," ++ decimal at.index)) ++ ((codes "],\"held\":" ++ decimal held) ++ ((codes ",\"known\":" ++ decimal known) ++ ((codes ",\"ok\":\"status\",\"outside\":" ++ decimal outside) ++ ((codes ",\"released\":" ++ decimal released) ++ ((codes ",\"rows\":" ++ decimal rows) ++ ((codes ",\"stable\":" ++ decimal stable) ++ (up_text up ++ (codes ",\"volatile\":" ++ (decimal volatile ++ codes "}")))))))))
+    ≡ ((codes "{\"at\":[" ++ decimal at.incarnation) ++ (codes "," ++ decimal at.index))
+    ++ ((codes "],\"held\":" ++ decimal held)
+    ++ ((codes ",\"known\":" ++ decimal known) ++ ((codes ",\"ok\":\"status\",\"outside\":" ++ decimal outside)
+    ++ ((codes ",\"released\":" ++ decimal released)
+    ++ ((codes ",\"rows\":" ++ decimal rows) ++ ((codes ",\"stable\":" ++ decimal stable)
+    ++ (up_text up ++ (codes ",\"volatile\":" ++ (decimal volatile ++ codes "}")))))))))
 unfolding data_text escape_byte up_text
 status_text at held known outside released rows stable true volatile =
-    at_text at (codes ",\"held\":" ++ (decimal held ++ (codes ",\"known\":" ++ (decimal known ++ (codes ",\"ok\":\"status\",\"outside\":" ++ (decimal outside ++ (codes ",\"released\":" ++ (decimal released ++ (codes ",\"rows\":" ++ (decimal rows ++ (codes ",\"stable\":" ++ (decimal stable ++ (up_text true ++ (codes ",\"volatile\":" ++ (decimal volatile ++ codes "}")))))))))))))))
+    at_text at (codes ",\"held\":" ++ (decimal held ++ (codes ",\"known\":" ++ (decimal known
+    ++ (codes ",\"ok\":\"status\",\"outside\":" ++ (decimal outside ++ (codes ",\"released\":"
+    ++ (decimal released ++ (codes ",\"rows\":" ++ (decimal rows ++ (codes ",\"stable\":" ++ (decimal stable
+    ++ (up_text true ++ (codes ",\"volatile\":" ++ (decimal volatile ++ codes "}")))))))))))))))
 status_text at held known outside released rows stable false volatile =
-    at_text at (codes ",\"held\":" ++ (decimal held ++ (codes ",\"known\":" ++ (decimal known ++ (codes ",\"ok\":\"status\",\"outside\":" ++ (decimal outside ++ (codes ",\"released\":" ++ (decimal released ++ (codes ",\"rows\":" ++ (decimal rows ++ (codes ",\"stable\":" ++ (decimal stable ++ (up_text false ++ (codes ",\"volatile\":" ++ (decimal volatile ++ codes "}")))))))))))))))
+    at_text at (codes ",\"held\":" ++ (decimal held ++ (codes ",\"known\":" ++ (decimal known
+    ++ (codes ",\"ok\":\"status\",\"outside\":" ++ (decimal outside ++ (codes ",\"released\":"
+    ++ (decimal released ++ (codes ",\"rows\":" ++ (decimal rows ++ (codes ",\"stable\":" ++ (decimal stable
+    ++ (up_text false ++ (codes ",\"volatile\":" ++ (decimal volatile ++ codes "}")))))))))))))))
 
 -- the name of a refusal needs no escape
 name_text : (r : Refusal) → quoted (refusal_name r) ≡ codes "\"" ++ (refusal_name r ++ codes "\"")
@@ -115,10 +139,13 @@ name_text Pending = refl
 
 pub refused_text : (r : Refusal) → reply_text (Refused r) ≡ codes "{\"no\":\"" ++ (refusal_name r ++ codes "\"}")
 unfolding data_text escape_byte
-refused_text r = ap (λ (xs : List ℕ). codes "{\"no\":" ++ (xs ++ codes "}")) (name_text r) ∙ ap (λ (xs : List ℕ). codes "{\"no\":\"" ++ xs) (append_assoc (refusal_name r) (codes "\"") (codes "}"))
+refused_text r = ap (λ (xs : List ℕ). codes "{\"no\":" ++ (xs ++ codes "}")) (name_text r)
+    ∙ ap (λ (xs : List ℕ). codes "{\"no\":\"" ++ xs) (append_assoc (refusal_name r) (codes "\"") (codes "}"))
 
-pub stopped_text : (n : ℕ) (r : Refusal) → reply_text (Stopped n r) ≡ codes "{\"count\":" ++ (decimal n ++ (codes ",\"no\":\"" ++ (refusal_name r ++ codes "\"}")))
+pub stopped_text : (n : ℕ) (r : Refusal) → reply_text (Stopped n r) ≡ codes "{\"count\":"
+    ++ (decimal n ++ (codes ",\"no\":\"" ++ (refusal_name r ++ codes "\"}")))
 unfolding data_text escape_byte
 stopped_text n r =
     ap (λ (xs : List ℕ). codes "{\"count\":" ++ (decimal n ++ (codes ",\"no\":" ++ (xs ++ codes "}")))) (name_text r)
-    ∙ ap (λ (xs : List ℕ). codes "{\"count\":" ++ (decimal n ++ (codes ",\"no\":\"" ++ xs))) (append_assoc (refusal_name r) (codes "\"") (codes "}"))
+    ∙ ap (λ (xs : List ℕ). codes "{\"count\":" ++ (decimal n ++ (codes ",\"no\":\"" ++ xs)))
+    (append_assoc (refusal_name r) (codes "\"") (codes "}"))

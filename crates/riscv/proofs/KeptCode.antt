@@ -1,5 +1,6 @@
 -- The instructions that are kept beside the words of a page.
-use Rattle.std.proofs.Common.{◌≡◌, ◌≢◌, ◌∙◌, ◌<◌, ◌==◌, ℕ, zero, suc, true, false, List, length, get_or, set, refl, sym, ap, subst, arith, Option, Some, None}
+use Rattle.std.proofs.Common.{◌≡◌, ◌≢◌, ◌∙◌, ◌<◌, ◌==◌, ℕ, zero, suc, true, false, List, length, get_or, set, refl, sym}
+use Rattle.std.proofs.Common.{ap, subst, arith, Option, Some, None}
 use Rattle.std.specs.Prelude.{IfSome, unwrap_or, replicate}
 use Rattle.std.specs.Option.{option_map}
 use Rattle.std.proofs.lemmas.List.{get_or_default, get_or-set_other, length-set, length-replicate}
@@ -11,12 +12,14 @@ use Rattle.riscv.specs.Decoding.{instruction_of}
 use Rattle.riscv.specs.Memories.{zero_page}
 use Rattle.riscv.specs.Predecoding.{meaning, unread_words, unread_page, Reads, KeepsCode, Decodes}
 
-pub code_within : (code : Option (List Predecoded)) (words : List ℕ) (at : ℕ) → Decodes code words → length words ≡ 1024 → at < 1024 → IfSome code (λ xs. at < length xs)
+pub code_within : (code : Option (List Predecoded)) (words : List ℕ) (at : ℕ) → Decodes code words
+    → length words ≡ 1024 → at < 1024 → IfSome code (λ xs. at < length xs)
 code_within None words at h long within = tt
 code_within (Some code) words at h long within = omega (arith, h.size)
 
 -- the one at a place is what the word there says, where it was read
-pub read_at : (code : List Predecoded) (words : List ℕ) (at : ℕ) (p : Predecoded) → KeepsCode code words → length words ≡ 1024 → at < 1024 → p ≡ get_or code at p → Reads p (get_or words at 0)
+pub read_at : (code : List Predecoded) (words : List ℕ) (at : ℕ) (p : Predecoded) → KeepsCode code words
+    → length words ≡ 1024 → at < 1024 → p ≡ get_or code at p → Reads p (get_or words at 0)
 read_at code words at p h long within e =
     let kept : at < length code = omega (arith, h.size) in
     let there : at < length words = omega arith in
@@ -51,20 +54,24 @@ by_place j at P same other = elim (j == at) as (λ b. (j == at) ≡ b → P) [
 ] refl
 
 -- a word was written, and what it says is to be read again
-pub keeps_set : (code : List Predecoded) (words : List ℕ) (at n : ℕ) → length words ≡ 1024 → at < 1024 → KeepsCode code words → KeepsCode (set code at Unread) (set words at n)
+pub keeps_set : (code : List Predecoded) (words : List ℕ) (at n : ℕ) → length words ≡ 1024 → at < 1024
+    → KeepsCode code words → KeepsCode (set code at Unread) (set words at n)
 keeps_set code words at n long within h = record {
   size = length-set code at Unread ∙ (h.size ∙ sym (length-set words at n));
-  reads = λ j there never. by_place j at (meaning (get_or (set code at Unread) j Unread) ≡ instruction_of (get_or (set words at n) j 0))
+  reads = λ j there never.
+      by_place j at (meaning (get_or (set code at Unread) j Unread) ≡ instruction_of (get_or (set words at n) j 0))
       (λ e. absurd (never (get_or-set_at code at j Unread Unread e (omega (arith, h.size)))))
       (λ ne.
-      let own : get_or (set code at Unread) j Unread ≡ get_or code j Unread = get_or-set_other code at j Unread Unread ne in
+      let own : get_or (set code at Unread) j Unread ≡ get_or code j Unread =
+      get_or-set_other code at j Unread Unread ne in
       let word : get_or (set words at n) j 0 ≡ get_or words j 0 = get_or-set_other words at j n 0 ne in
       let inside : j < length words = omega (arith, there, length-set words at n) in
       rw (own, word) (h.reads j inside (λ e. never (own ∙ e))));
 }
 
 -- what a word says was read
-pub keeps_read : (code : List Predecoded) (words : List ℕ) (at : ℕ) (p : Predecoded) → length words ≡ 1024 → at < 1024 → meaning p ≡ instruction_of (get_or words at 0) → KeepsCode code words → KeepsCode (set code at p) words
+pub keeps_read : (code : List Predecoded) (words : List ℕ) (at : ℕ) (p : Predecoded) → length words ≡ 1024 → at < 1024
+    → meaning p ≡ instruction_of (get_or words at 0) → KeepsCode code words → KeepsCode (set code at p) words
 keeps_read code words at p long within said h = record {
   size = length-set code at p ∙ h.size;
   reads = λ j there never. by_place j at (meaning (get_or (set code at p) j Unread) ≡ instruction_of (get_or words j 0))
@@ -76,18 +83,26 @@ keeps_read code words at p long within said h = record {
       rw own (h.reads j there (λ e. never (own ∙ e))));
 }
 
-pub decodes_set : (code : Option (List Predecoded)) (words : List ℕ) (at n : ℕ) → length words ≡ 1024 → at < 1024 → Decodes code words → Decodes (option_map (λ xs. set xs at Unread) code) (set words at n)
+pub decodes_set : (code : Option (List Predecoded)) (words : List ℕ) (at n : ℕ) → length words ≡ 1024 → at < 1024
+    → Decodes code words → Decodes (option_map (λ xs. set xs at Unread) code) (set words at n)
 decodes_set None words at n long within h = tt
 decodes_set (Some code) words at n long within h = keeps_set code words at n long within h
 
-pub decodes_read : (code : Option (List Predecoded)) (words : List ℕ) (at : ℕ) (p : Predecoded) → length words ≡ 1024 → at < 1024 → meaning p ≡ instruction_of (get_or words at 0) → Decodes code words → Decodes (option_map (λ xs. set xs at p) code) words
+pub decodes_read : (code : Option (List Predecoded)) (words : List ℕ) (at : ℕ) (p : Predecoded)
+    → length words ≡ 1024 → at < 1024 → meaning p ≡ instruction_of (get_or words at 0) → Decodes code words
+    → Decodes (option_map (λ xs. set xs at p) code) words
 decodes_read None words at p long within said h = tt
 decodes_read (Some code) words at p long within said h = keeps_read code words at p long within said h
 
 -- a word was written to a page
-pub page_written : (words : List ℕ) (own after : Option (List ℕ)) (code part kept : Option (List Predecoded)) (at n : ℕ) → length words ≡ 1024 → at < 1024 → Decodes code words → own ≡ Some words → after ≡ option_map (λ xs. set xs at n) own → part ≡ code → kept ≡ option_map (λ xs. set xs at Unread) part → (length (unwrap_or after zero_page) ≡ 1024) × Decodes kept (unwrap_or after zero_page)
+pub page_written : (words : List ℕ) (own after : Option (List ℕ)) (code part kept : Option (List Predecoded))
+    (at n : ℕ) → length words ≡ 1024 → at < 1024 → Decodes code words → own ≡ Some words
+    → after ≡ option_map (λ xs. set xs at n) own → part ≡ code → kept ≡ option_map (λ xs. set xs at Unread) part
+    → (length (unwrap_or after zero_page) ≡ 1024) × Decodes kept (unwrap_or after zero_page)
 page_written words own after code part kept at n long within h e f g i =
-    let written : unwrap_or after zero_page ≡ set words at n = ap (λ o. unwrap_or o zero_page) (f ∙ ap (option_map (λ xs. set xs at n)) e) in
+    let written : unwrap_or after zero_page ≡ set words at n =
+    ap (λ o. unwrap_or o zero_page) (f ∙ ap (option_map (λ xs. set xs at n)) e) in
     let anew : kept ≡ option_map (λ xs. set xs at Unread) code = i ∙ ap (option_map (λ xs. set xs at Unread)) g in
-    let decodes : Decodes kept (set words at n) = subst (λ k. Decodes k (set words at n)) (sym anew) (decodes_set code words at n long within h) in
+    let decodes : Decodes kept (set words at n) =
+    subst (λ k. Decodes k (set words at n)) (sym anew) (decodes_set code words at n long within h) in
     (ap length written ∙ (length-set words at n ∙ long), subst (Decodes kept) (sym written) decodes)

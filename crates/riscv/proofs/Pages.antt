@@ -1,36 +1,47 @@
 -- Pages and bytes of a memory.
-use Rattle.std.proofs.Common.{◌≡◌, ◌∙◌, ◌<◌, ℕ, zero, suc, true, ◌+◌, ◌-◌, ◌/◌, ◌%◌, List, [], ◌∷◌, ◌++◌, length, get_or, drop, refl, sym, ap, append_assoc, add-one, drop-cons, arith}
+use Rattle.std.proofs.Common.{◌≡◌, ◌∙◌, ◌<◌, ℕ, zero, suc, true, ◌+◌, ◌-◌, ◌/◌, ◌%◌, List, [], ◌∷◌, ◌++◌, length}
+use Rattle.std.proofs.Common.{get_or, drop, refl, sym, ap, append_assoc, add-one, drop-cons, arith}
 use Rattle.std.proofs.lemmas.List.{get_or_default, length-replicate}
 use Rattle.std.specs.Prelude.{replicate, ◌&&◌}
 use Rattle.std.specs.List.{list_all}
 use Rattle.std.specs.Str.{bytes_eq}
 use Rattle.std.specs.Cmp.Lexicographic.{lists_equiv, nat_list_eq_equiv}
-use Rattle.riscv.specs.Memories.{Words, pages_equal, zero_page, zero_words, zero_pages, zeros, page_of, word_at, byte_at, bytes_from, put_byte, put_bytes}
+use Rattle.riscv.specs.Memories.{Words, pages_equal, zero_page, zero_words, zero_pages, zeros, page_of, word_at}
+use Rattle.riscv.specs.Memories.{byte_at, bytes_from, put_byte, put_bytes}
 
 -- a page that was read
-pub page_read : (memory : Words) (address : ℕ) (page : List ℕ) → page ≡ get_or memory (address / 4096) page → length memory ≡ 64 → address < 262144 → page_of memory address ≡ page
+pub page_read : (memory : Words) (address : ℕ) (page : List ℕ) → page ≡ get_or memory (address / 4096) page
+    → length memory ≡ 64 → address < 262144 → page_of memory address ≡ page
 page_read memory address page e l h =
     let within : address / 4096 < length memory = omega arith in
     get_or_default memory (address / 4096) [] page within ∙ sym e
 
-bytes_from-pos : (memory : Words) (address k : ℕ) → 0 < k → bytes_from memory address k ≡ byte_at memory address ∷ bytes_from memory (address + 1) (k - 1)
+bytes_from-pos : (memory : Words) (address k : ℕ) → 0 < k
+    → bytes_from memory address k ≡ byte_at memory address ∷ bytes_from memory (address + 1) (k - 1)
 bytes_from-pos memory address zero h = absurd (omega arith)
 bytes_from-pos memory address (suc k) h =
     let e : k ≡ suc k - 1 = omega arith in
     ap (λ j. byte_at memory address ∷ bytes_from memory (address + 1) j) e
 
 -- one more byte was read
-pub bytes_from_step : (memory : Words) (address n i : ℕ) (front : List ℕ) → i < n → (front ++ byte_at memory (address + i) ∷ []) ++ bytes_from memory (address + (i + 1)) (n - (i + 1)) ≡ front ++ bytes_from memory (address + i) (n - i)
+pub bytes_from_step : (memory : Words) (address n i : ℕ) (front : List ℕ) → i < n
+    → (front ++ byte_at memory (address + i) ∷ []) ++ bytes_from memory (address + (i + 1)) (n - (i + 1)) ≡ front
+    ++ bytes_from memory (address + i) (n - i)
 bytes_from_step memory address n i front h =
     let pos : 0 < n - i = omega arith in
     let places : address + i + 1 ≡ address + (i + 1) = omega arith in
     let counts : n - i - 1 ≡ n - (i + 1) = omega arith in
-    let first : bytes_from memory (address + i) (n - i) ≡ byte_at memory (address + i) ∷ bytes_from memory (address + i + 1) (n - i - 1) = bytes_from-pos memory (address + i) (n - i) pos in
-    let moved : byte_at memory (address + i) ∷ bytes_from memory (address + i + 1) (n - i - 1) ≡ byte_at memory (address + i) ∷ bytes_from memory (address + (i + 1)) (n - (i + 1)) = rw (places, counts) refl in
-    append_assoc front (byte_at memory (address + i) ∷ []) (bytes_from memory (address + (i + 1)) (n - (i + 1))) ∙ ap (λ xs. front ++ xs) (sym (first ∙ moved))
+    let first : bytes_from memory (address + i) (n - i) ≡ byte_at memory (address + i)
+    ∷ bytes_from memory (address + i + 1) (n - i - 1) = bytes_from-pos memory (address + i) (n - i) pos in
+    let moved : byte_at memory (address + i) ∷ bytes_from memory (address + i + 1) (n - i - 1) ≡ byte_at memory
+    (address + i) ∷ bytes_from memory (address + (i + 1)) (n - (i + 1)) = rw (places, counts) refl in
+    append_assoc front (byte_at memory (address + i) ∷ []) (bytes_from memory (address + (i + 1)) (n - (i + 1)))
+    ∙ ap (λ xs. front ++ xs) (sym (first ∙ moved))
 
 -- one more byte was written
-pub put_bytes_step : (memory : Words) (address : ℕ) (bytes : List ℕ) (i : ℕ) → i < length bytes → put_bytes (put_byte memory address (get_or bytes i 0)) (address + 1) (drop (i + 1) bytes) ≡ put_bytes memory address (drop i bytes)
+pub put_bytes_step : (memory : Words) (address : ℕ) (bytes : List ℕ) (i : ℕ) → i < length bytes
+    → put_bytes (put_byte memory address (get_or bytes i 0)) (address + 1) (drop (i + 1) bytes)
+    ≡ put_bytes memory address (drop i bytes)
 put_bytes_step memory address bytes i h = rw (add-one i) (sym (ap (put_bytes memory address) (drop-cons bytes i 0 h)))
 
 -- zeros are as many as they are, and each is 0
@@ -95,14 +106,16 @@ zeros_are pages n k e g h =
     filled ∙ first ∙ second
 
 -- what a walk through the pages finds is what `==` says of them and of zeros
-all_zeros : (pages : Words) (n k : ℕ) → length pages ≡ n → list_all (λ p. bytes_eq p (zero_words k)) pages ≡ pages_equal pages (zero_pages n k)
+all_zeros : (pages : Words) (n k : ℕ) → length pages ≡ n
+    → list_all (λ p. bytes_eq p (zero_words k)) pages ≡ pages_equal pages (zero_pages n k)
 unfolding zero_pages zero_words
 all_zeros [] zero k h = refl
 all_zeros [] (suc n) k h = absurd (omega arith)
 all_zeros (p ∷ ps) zero k h = absurd (omega arith)
 all_zeros (p ∷ ps) (suc n) k h = ap (λ b. bytes_eq p (replicate k 0) && b) (all_zeros ps n k (omega arith))
 
-pub are_zeros : (pages : Words) → length pages ≡ 64 → list_all (λ p. bytes_eq p zero_page) pages ≡ pages_equal pages zeros
+pub are_zeros : (pages : Words) → length pages ≡ 64
+    → list_all (λ p. bytes_eq p zero_page) pages ≡ pages_equal pages zeros
 unfolding zeros
 are_zeros pages h = all_zeros pages 64 1024 h
 

@@ -1,5 +1,6 @@
 -- The signed quotient and its remainder.
-use Rattle.std.proofs.Common.{◌≡◌, ◌≢◌, ◌∙◌, ◌<◌, ◌≤◌, ℕ, zero, suc, ◌/◌, ◌%◌, ◌^◌, ◌==◌, true, false, ℤ, pos, negsuc, neg_ℤ, refl, sym, ap, subst, arith, div-le_self}
+use Rattle.std.proofs.Common.{◌≡◌, ◌≢◌, ◌∙◌, ◌<◌, ◌≤◌, ℕ, zero, suc, ◌/◌, ◌%◌, ◌^◌, ◌==◌, true, false, ℤ, pos, negsuc}
+use Rattle.std.proofs.Common.{neg_ℤ, refl, sym, ap, subst, arith, div-le_self}
 use Rattle.std.specs.Prelude.{unsigned_abs}
 use Rattle.std.specs.Int.{w32}
 use Rattle.std.specs.Int.RustNames.{FitsSigned, int_div, int_rem}
@@ -13,7 +14,8 @@ use lib.Signed.{mag, mag_rem}
 use mir.Val.{of_z}
 
 pub apart : (m n : ℕ) → m ≢ n → (m == n) ≡ false
-apart m n ne = elim (m == n) as (λ v. (m == n) ≡ v → v ≡ false) [ true ↦ λ e. absurd (ne ((Decides-eqb m n).0 e)) | false ↦ λ e. refl ] refl
+apart m n ne = elim (m == n) as (λ v. (m == n) ≡ v
+    → v ≡ false) [ true ↦ λ e. absurd (ne ((Decides-eqb m n).0 e)) | false ↦ λ e. refl ] refl
 
 -- a number read by its sign is in the range of 32 bits
 signed_small : (n : ℕ) → n < 2 ^ 32 → mag (signed n) < 2 ^ 31
@@ -36,7 +38,8 @@ quotient_small (negsuc a) (negsuc zero) h f =
     omega (arith, div-le_self (suc a) 1)
 quotient_small (negsuc a) (negsuc (suc b)) h f = div_below (suc a) (suc (suc b)) (2 ^ 31) (omega arith) (omega arith)
 
-not_overflowing : (a b : ℕ) → a < 2 ^ 32 → b < 2 ^ 32 → overflows a b ≡ false → signed a ≡ negsuc 2147483647 → signed b ≢ negsuc 0
+not_overflowing : (a b : ℕ) → a < 2 ^ 32 → b < 2 ^ 32 → overflows a b ≡ false → signed a ≡ negsuc 2147483647
+    → signed b ≢ negsuc 0
 not_overflowing a b ha hb other e f =
     let a_is : a ≡ 2147483648 = sym (of_z-to_z w32 a ha) ∙ ap (of_z w32) e in
     let b_is : b ≡ 4294967295 = sym (of_z-to_z w32 b hb) ∙ ap (of_z w32) f in
@@ -55,10 +58,14 @@ pub signed_divides : SignedDivides
 signed_divides a b ha hb ne other =
     let test : (b == 0) ≡ false = apart b 0 ne in
     let small : mag (signed a) < 2 ^ 31 = signed_small a ha in
-    let q_fits : FitsSigned w32 (int_div (signed a) (signed b)) = record { sfits = quotient_small (signed a) (signed b) small (not_overflowing a b ha hb other) } in
-    let r_fits : FitsSigned w32 (int_rem (signed a) (signed b)) = record { sfits = omega (arith, small, mag_rem (signed a) (signed b)) } in
-    let q : signed (value_of Div a b) ≡ int_div (signed a) (signed b) = rw (test, other) (to_z-of_z w32 (int_div (signed a) (signed b)) q_fits) in
-    let r : signed (value_of Rem a b) ≡ int_rem (signed a) (signed b) = rw (test, other) (to_z-of_z w32 (int_rem (signed a) (signed b)) r_fits) in
+    let q_fits : FitsSigned w32 (int_div (signed a) (signed b)) =
+    record { sfits = quotient_small (signed a) (signed b) small (not_overflowing a b ha hb other) } in
+    let r_fits : FitsSigned w32 (int_rem (signed a) (signed b)) =
+    record { sfits = omega (arith, small, mag_rem (signed a) (signed b)) } in
+    let q : signed (value_of Div a b) ≡ int_div (signed a) (signed b) =
+    rw (test, other) (to_z-of_z w32 (int_div (signed a) (signed b)) q_fits) in
+    let r : signed (value_of Rem a b) ≡ int_rem (signed a) (signed b) =
+    rw (test, other) (to_z-of_z w32 (int_rem (signed a) (signed b)) r_fits) in
     record {
       sum = rw (q, r) (quot-rem (signed a) (signed b));
       size = rw r (rem_below (signed a) (signed b) (signed_some b hb ne));

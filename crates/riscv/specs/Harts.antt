@@ -19,9 +19,11 @@ machine_of registers counter memory = record { registers = registers; counter = 
 -- A hart did what is meant, and these are its registers and its program counter; or it left it to others, as it was.
 abbrev pub Does : Result (Unit {0}) Apart → Result Machine Exception → Machine → List ℕ → ℕ → Type 0
 Does (Ok done) meant before registers counter = meant ≡ Ok (record before { registers = registers; counter = counter })
-Does (Err (Raised e)) meant before registers counter = (meant ≡ Err e) × (registers ≡ before.registers) × (counter ≡ before.counter)
+Does (Err (Raised e)) meant before registers counter = (meant ≡ Err e) × (registers ≡ before.registers)
+    × (counter ≡ before.counter)
 Does (Err (Store writing rs1 rs2 offset)) meant before registers counter =
-    (meant ≡ executed before (instruction.Store writing rs1 rs2 offset)) × (registers ≡ before.registers) × (counter ≡ before.counter)
+    (meant ≡ executed before (instruction.Store writing rs1 rs2 offset)) × (registers ≡ before.registers)
+    × (counter ≡ before.counter)
 Does (Err Unread) meant before registers counter = ⊥
 
 -- what an instruction leaves that was left to others

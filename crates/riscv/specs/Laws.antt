@@ -1,8 +1,10 @@
 -- What follows from the definitions.
-use Rattle.std.specs.Prelude.{◌≡◌, ◌≢◌, ◌<◌, ℕ, ◌+◌, ◌-◌, ◌*◌, ◌%◌, ◌^◌, length, false, Some, Ok, ℤ, pos, negsuc, neg_ℤ, ◌+ℤ◌, ◌*ℤ◌, ◌≤ℤ◌, ◌<ℤ◌, unsigned_abs}
+use Rattle.std.specs.Prelude.{◌≡◌, ◌≢◌, ◌<◌, ℕ, ◌+◌, ◌-◌, ◌*◌, ◌%◌, ◌^◌, length, false, Some, Ok, ℤ, pos, negsuc, neg_ℤ}
+use Rattle.std.specs.Prelude.{◌+ℤ◌, ◌*ℤ◌, ◌≤ℤ◌, ◌<ℤ◌, unsigned_abs}
 use Rattle.riscv.specs.declared.machine.Machine.{Machine}
 use Rattle.riscv.specs.declared.instruction.Instruction.{Instruction}
-use Rattle.riscv.specs.declared.instruction.Instruction.TheVariants.{Lui, Auipc, Jal, Jalr, Branch, Load, Store, OpImm, Op, Fence, Ecall, Ebreak}
+use Rattle.riscv.specs.declared.instruction.Instruction.TheVariants.{Lui, Auipc, Jal, Jalr, Branch, Load, Store, OpImm}
+use Rattle.riscv.specs.declared.instruction.Instruction.TheVariants.{Op, Fence, Ecall, Ebreak}
 use Rattle.riscv.specs.declared.instruction.Operation.TheVariants.{Div, Divu, Rem, Remu}
 use Rattle.riscv.specs.declared.instruction.Reading.TheVariants.{Lb, Lh, Lw, Lbu, Lhu}
 use Rattle.riscv.specs.declared.instruction.Writing.TheVariants.{Sb, Sh, Sw}
@@ -34,7 +36,8 @@ HasSignOf (pos n) (negsuc m) = n ≡ 0
 HasSignOf (negsuc n) (pos m) = ⊥
 HasSignOf (negsuc n) (negsuc m) = Unit {0}
 
--- The same of signed numbers, where the quotient is not too large. The remainder is smaller than the divisor, and has the
+-- The same of signed numbers, where the quotient is not too large. The remainder is smaller than the divisor, and has
+-- the
 -- dividend's sign.
 pub record DividesSigned (a b : ℕ) : Type 0 where
   pub sum : signed (value_of Div a b) *ℤ signed b +ℤ signed (value_of Rem a b) ≡ signed a
@@ -79,7 +82,8 @@ IsOffset count n = IsExtended count n × (n % 2 ≡ 0)
 abbrev pub IsUpper : ℕ → Type 0
 IsUpper n = (n < 2 ^ 32) × (n % 2 ^ 12 ≡ 0)
 
--- the operands of an instruction are those of the word: its registers are the fields, and its immediate is in its format's range
+-- the operands of an instruction are those of the word: its registers are the fields, and its immediate is in its
+-- format's range
 abbrev pub HasOperandsOf : ℕ → Instruction → Type 0
 HasOperandsOf w (Lui d n) = IsRegister d (rd w) × IsUpper n
 HasOperandsOf w (Auipc d n) = IsRegister d (rd w) × IsUpper n

@@ -1,6 +1,9 @@
--- Memory: 64 pages of 1,024 words of 32 bits, from address 0 on. The word at an address is in page address / 4096, at place
--- address / 4 % 1024, and the byte at an address is at place address % 4 of that word, where place 0 is the lowest byte.
-use Rattle.std.specs.Prelude.{◌≡◌, ℕ, Bool, zero, suc, ◌+◌, ◌/◌, ◌%◌, List, [], ◌∷◌, replicate, slice_index, slice_index_or, slice_set, length, All}
+-- Memory: 64 pages of 1,024 words of 32 bits, from address 0 on. The word at an address is in page address / 4096, at
+-- place
+-- address / 4 % 1024, and the byte at an address is at place address % 4 of that word, where place 0 is the lowest
+-- byte.
+use Rattle.std.specs.Prelude.{◌≡◌, ℕ, Bool, zero, suc, ◌+◌, ◌/◌, ◌%◌, List, [], ◌∷◌, replicate, slice_index}
+use Rattle.std.specs.Prelude.{slice_index_or, slice_set, length, All}
 use Rattle.std.specs.Str.{bytes_eq}
 use Rattle.std.specs.Cmp.Lexicographic.{pointwise}
 use Rattle.riscv.specs.Bytes.{byte_in, half_in, with_byte, with_half}
@@ -46,7 +49,8 @@ half_at memory address = half_in (word_at memory address) (address % 4)
 
 -- the memory with another word, byte and half at an address
 abbrev pub put_word : Words → ℕ → ℕ → Words
-put_word memory address n = slice_set memory (address / 4096) (slice_set (page_of memory address) (address / 4 % 1024) n)
+put_word memory address n =
+    slice_set memory (address / 4096) (slice_set (page_of memory address) (address / 4 % 1024) n)
 
 abbrev pub put_byte : Words → ℕ → ℕ → Words
 put_byte memory address n = put_word memory address (with_byte (word_at memory address) (address % 4) n)

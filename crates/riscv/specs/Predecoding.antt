@@ -1,5 +1,6 @@
 -- What the instructions mean that are kept beside the words of a page.
-use Rattle.std.specs.Prelude.{◌≡◌, ◌≢◌, ◌<◌, ℕ, List, length, replicate, slice_index, slice_index_or, Option, Some, None}
+use Rattle.std.specs.Prelude.{◌≡◌, ◌≢◌, ◌<◌, ℕ, List, length, replicate, slice_index, slice_index_or, Option, Some}
+use Rattle.std.specs.Prelude.{None}
 use Rattle.riscv.specs.declared.instruction.Instruction.{Instruction}
 use Rattle.riscv.specs.declared.instruction.Instruction.TheVariants as instruction
 use Rattle.riscv.specs.declared.instruction.Comparison.TheVariants as comparison
@@ -7,7 +8,11 @@ use Rattle.riscv.specs.declared.instruction.Reading.TheVariants as reading
 use Rattle.riscv.specs.declared.instruction.Writing.TheVariants as writing
 use Rattle.riscv.specs.declared.instruction.Operation.TheVariants as operation
 use Rattle.riscv.specs.declared.predecoded.Predecoded.{Predecoded}
-use Rattle.riscv.specs.declared.predecoded.Predecoded.TheVariants.{Lui, Auipc, Jal, Jalr, Beq, Bne, Blt, Bge, Bltu, Bgeu, Lb, Lh, Lw, Lbu, Lhu, Sb, Sh, Sw, Addi, Slli, Slti, Sltiu, Xori, Srli, Srai, Ori, Andi, Add, Sub, Sll, Slt, Sltu, Xor, Srl, Sra, Or, And, Mul, OpImm, Op, Fence, Ecall, Ebreak, Illegal, Unread}
+use Rattle.riscv.specs.declared.predecoded.Predecoded.TheVariants.{Lui, Auipc, Jal, Jalr, Beq, Bne, Blt, Bge, Bltu}
+use Rattle.riscv.specs.declared.predecoded.Predecoded.TheVariants.{Bgeu, Lb, Lh, Lw, Lbu, Lhu, Sb, Sh, Sw, Addi, Slli}
+use Rattle.riscv.specs.declared.predecoded.Predecoded.TheVariants.{Slti, Sltiu, Xori, Srli, Srai, Ori, Andi, Add, Sub}
+use Rattle.riscv.specs.declared.predecoded.Predecoded.TheVariants.{Sll, Slt, Sltu, Xor, Srl, Sra, Or, And, Mul, OpImm}
+use Rattle.riscv.specs.declared.predecoded.Predecoded.TheVariants.{Op, Fence, Ecall, Ebreak, Illegal, Unread}
 use Rattle.riscv.specs.declared.storage.Storage.{Storage}
 use Rattle.riscv.specs.Decoding.{instruction_of}
 use Rattle.riscv.specs.Storages.{items_of, words_of}

@@ -8,4 +8,5 @@ pub returns : goal.returns
 unfolding outcome_text
 returns c =
     let is = c.in_ok-value.ensures ∙ ap (λ t. outcome_data t c.args.outcome.now) c.as_str.ensures in
-    c.in_ok-to_string.ensures.text (ap has_float is ∙ has_float-outcome c.args.tenant.now c.args.outcome.now) ∙ ap compact_text is
+    c.in_ok-to_string.ensures.text (ap has_float is ∙ has_float-outcome c.args.tenant.now c.args.outcome.now)
+    ∙ ap compact_text is

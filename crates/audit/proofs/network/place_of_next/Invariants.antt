@@ -5,4 +5,5 @@ use Rattle.audit.proofs.network.place_of_next.Given as goal
 abbrev pub invariant-loop-i : goal.invariant-loop-i
 invariant-loop-i l =
     (next_text l.source l.target (drop l.i l.packets) ≡ next_text l.source l.target l.packets)
-    × (take l.i l.packets ++ without_next l.source l.target (drop l.i l.packets) ≡ without_next l.source l.target l.packets)
+    × (take l.i l.packets ++ without_next l.source l.target (drop l.i l.packets)
+    ≡ without_next l.source l.target l.packets)

@@ -17,6 +17,8 @@ pub returns : goal.returns
 returns g c =
     let shown = c.in-Ok.block.now in
     let rested = c.fill_buf.follows.lender-at-none in
-    let filled = subst (FillKeeps _ (g.R.Read.remaining rested) (g.R.BufRead.consumable_len rested)) c.in-Ok.is c.fill_buf.follows.holds-at-none in
-    let moved = Consumes_shown _ _ _ _ shown (length shown) (omega arith) c.in-Ok.ensures.front c.in-Ok.ensures.end filled.0 filled.1 c.consume.ensures.bytes in
+    let filled = subst (FillKeeps _ (g.R.Read.remaining rested)
+    (g.R.BufRead.consumable_len rested)) c.in-Ok.is c.fill_buf.follows.holds-at-none in
+    let moved = Consumes_shown _ _ _ _ shown (length shown)
+    (omega arith) c.in-Ok.ensures.front c.in-Ok.ensures.end filled.0 filled.1 c.consume.ensures.bytes in
     (shown, subst (Consumes _ _) (take_all (length shown) shown (omega arith)) moved.0, c.measure_bytes.ensures)

@@ -17,5 +17,6 @@ loop-byte-preserved c =
 
 pub returns : goal.returns
 returns c = λ all is.
-    subst (λ l. IsMeasured (all ++ l) c.args.from c.loop-byte.measured) (take_all c.loop-byte.byte-index c.args.bytes.now c.loop-byte-test.false)
+    subst (λ l. IsMeasured (all ++ l) c.args.from c.loop-byte.measured)
+    (take_all c.loop-byte.byte-index c.args.bytes.now c.loop-byte-test.false)
     (c.loop-byte.invariant.measured all is)

@@ -6,4 +6,5 @@ use Rattle.forms.proofs.reading.all_texts.Given as goal
 
 -- the texts so far, before those of the items to come, are those of all items
 abbrev pub invariant-loop-item : goal.invariant-loop-item
-invariant-loop-item l = option_map (λ rest. l.texts.items ++ rest) (texts_of (items_view (drop l.item-index l.items))) ≡ texts_of (items_view l.items)
+invariant-loop-item l = option_map (λ rest. l.texts.items ++ rest) (texts_of (items_view (drop l.item-index l.items)))
+    ≡ texts_of (items_view l.items)

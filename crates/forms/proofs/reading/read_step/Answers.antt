@@ -6,4 +6,5 @@ pub returns-in-Ok : goal.returns-in-Ok
 returns-in-Ok c = rw (step_of_line-read c.args.line.now _ c.in-Ok.ensures.ok.0 c.in-Ok.ensures.ok.1) c.step.ensures
 
 pub returns-else-is_memory : goal.returns-else-is_memory
-returns-else-is_memory c = step_of_line-none c.args.line.now (c.in-Err.ensures.err (λ m. true≢false (sym (c.is_memory.ensures.1 m) ∙ c.if-is_memory.false)))
+returns-else-is_memory c = step_of_line-none c.args.line.now
+    (c.in-Err.ensures.err (λ m. true≢false (sym (c.is_memory.ensures.1 m) ∙ c.if-is_memory.false)))

@@ -16,7 +16,8 @@ returns-clause-text c =
 pub returns-clause-reads_back : goal.returns-clause-reads_back
 returns-clause-reads_back c =
     let is = c.in_ok-value.ensures in
-    c.in_ok-to_string.ensures.reads_back (subst (λ d. depth d ≤ max_depth) (sym is) (depth-reply c.args.reply.now)) ∙ ap Some is
+    c.in_ok-to_string.ensures.reads_back (subst (λ d. depth d ≤ max_depth) (sym is) (depth-reply c.args.reply.now))
+    ∙ ap Some is
 
 pub returns-clause-one_line : goal.returns-clause-one_line
 returns-clause-one_line c = one_line _ c.in_ok-to_string.ensures.compact

@@ -6,4 +6,5 @@ use Rattle.quick_forms.proofs.replies.numbers.Given as goal
 -- what was written, and the numbers that are left, are all
 abbrev pub invariant-loop-letter : goal.invariant-loop-letter
 invariant-loop-letter l =
-    l.out.items ++ items_text l.later (wholes (drop l.letter-index l.letters)) ≡ l.initial.out.items ++ items_text false (wholes l.letters)
+    l.out.items ++ items_text l.later (wholes (drop l.letter-index l.letters)) ≡ l.initial.out.items
+    ++ items_text false (wholes l.letters)

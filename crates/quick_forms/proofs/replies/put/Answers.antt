@@ -5,4 +5,5 @@ use Rattle.quick_forms.proofs.replies.put.Goals as goal
 
 pub returns-in-Status : goal.returns-in-Status
 returns-in-Status c =
-    subst (λ (r : Reply). OnOk c.status.result (c.status.new.out.items ≡ c.args.out.now.items ++ reply_text r)) (sym c.in-Status.is) c.status.ensures
+    subst (λ (r : Reply). OnOk c.status.result (c.status.new.out.items ≡ c.args.out.now.items ++ reply_text r))
+    (sym c.in-Status.is) c.status.ensures

@@ -10,11 +10,18 @@ use Rattle.quick_forms.proofs.steps.member.Goals as goal
 pub returns-in_ok-seen-in-Some-String-clause-ok : goal.returns-in_ok-seen-in-Some-String-clause-ok
 returns-in_ok-seen-in-Some-String-clause-ok c =
     let t = c.in-Some-String.text.now in
-    let first : c.args.reader.now ≡ Token.string t ∷ c.next.new.self = grind arith in
-    (string t, λ m. ap (λ ts. converted of_json (value m ts)) first ∙ string_read m t _, c.in_ok-seen-in-Some-String.ensures)
+    let first : c.args.reader.now ≡ Token.string t ∷ c.next.new.self = grind arith in (
+      string t,
+      λ m. ap (λ ts. converted of_json (value m ts)) first ∙ string_read m t _,
+      c.in_ok-seen-in-Some-String.ensures,
+    )
 
 pub returns-in_ok-seen-in-Some-Number-clause-ok : goal.returns-in_ok-seen-in-Some-Number-clause-ok
 returns-in_ok-seen-in-Some-Number-clause-ok c =
     let t = c.in-Some-Number.text.now in
-    let first : c.args.reader.now ≡ Token.number t ∷ c.next.new.self = grind arith in
-    (whole_data c.in_ok-n-in-Some-Number.n, λ m. ap (λ ts. converted of_json (value m ts)) first ∙ number_read m t c.in_ok-n-in-Some-Number.n _ c.in_ok-n-in-Some-Number.ensures, c.in_ok-seen-in-Some-Number.ensures)
+    let first : c.args.reader.now ≡ Token.number t ∷ c.next.new.self = grind arith in (
+      whole_data c.in_ok-n-in-Some-Number.n,
+      λ m. ap (λ ts. converted of_json (value m ts)) first
+          ∙ number_read m t c.in_ok-n-in-Some-Number.n _ c.in_ok-n-in-Some-Number.ensures,
+      c.in_ok-seen-in-Some-Number.ensures,
+    )

@@ -22,11 +22,13 @@ members-preserved c =
     let lesser = done.shorter in (
       n - 1,
       omega (arith, l.invariant.1),
-      λ m. l.invariant.2 m ∙ member_read (value m) (seen_members l.seen) n k l.reader s r done.ok.0 (omega (arith, l.invariant.1)) named (done.ok.1 m)
+      λ m. l.invariant.2 m ∙ member_read (value m) (seen_members l.seen) n k l.reader s r done.ok.0
+          (omega (arith, l.invariant.1)) named (done.ok.1 m)
           ∙ ap (λ found. converted (λ ms. of_members ms found) (members (value m) (n - 1) r)) (sym done.ok.2),
     )
 
 pub returns : goal.returns
 returns c =
     let l = c.members in
-    λ m. l.invariant.2 m ∙ members_over (value m) (seen_members l.seen) l.invariant.0 l.reader c.next_key.new.self l.invariant.1 (grind arith)
+    λ m. l.invariant.2 m ∙ members_over (value m)
+    (seen_members l.seen) l.invariant.0 l.reader c.next_key.new.self l.invariant.1 (grind arith)

@@ -9,7 +9,9 @@ use Rattle.quick_forms.proofs.steps.members.Given as goal
 abbrev pub invariant-members : goal.invariant-members
 invariant-members l =
     (n : ℕ) × (length l.reader ≤ n)
-    × ((m : ℕ) → converted (λ ms. of_members ms no_members) (members (value m) (length l.initial.reader) l.initial.reader) ≡ converted (λ ms. of_members ms (seen_members l.seen)) (members (value m) n l.reader))
+    × ((m : ℕ)
+    → converted (λ ms. of_members ms no_members) (members (value m) (length l.initial.reader) l.initial.reader)
+    ≡ converted (λ ms. of_members ms (seen_members l.seen)) (members (value m) n l.reader))
 
 abbrev pub decreases-members : goal.decreases-members
 decreases-members l = length l.reader

@@ -11,7 +11,8 @@ abbrev pub invariant-loop-apart : goal.invariant-loop-apart
 invariant-loop-apart l = record {
   some : 0 < l.left;
   fewer : l.left ≤ l.most;
-  made : steps (l.most - l.left) (machine_of l.fn.registers l.fn.from l.memory) ≡ Ok (machine_of l.registers l.counter l.memory);
+  made : steps (l.most - l.left) (machine_of l.fn.registers l.fn.from l.memory)
+      ≡ Ok (machine_of l.registers l.counter l.memory);
   page : (l.page ≡ l.fn.from / 4096) × (l.counter / 4096 ≡ l.fn.from / 4096);
   inside : (l.counter % 4 ≡ 0) × (l.counter < 262144);
   says : 1 < l.most → Says l.code l.memory l.counter;

@@ -10,5 +10,6 @@ use Rattle.riscv.proofs.memory.are_zero.Goals as goal
 pub returns : goal.returns
 returns c =
     let walked : c.all.result ≡ list_all (λ p. bytes_eq p zero_page) c.args.pages.now =
-    all_from_yields_List (λ p. bytes_eq p zero_page) _ _ c.all.result c.all.ensures.ran (YieldsList-from_slice c.args.pages.now cc) (λ x b q k. search (rules, tests)) in
+    all_from_yields_List (λ p. bytes_eq p zero_page) _ _ c.all.result c.all.ensures.ran
+    (YieldsList-from_slice c.args.pages.now cc) (λ x b q k. search (rules, tests)) in
     walked ∙ are_zeros c.args.pages.now c.requires
