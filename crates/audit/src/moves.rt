@@ -1,7 +1,8 @@
 //! Moves of a run without failures.
 
 ghost use Rattle.std.specs.Prelude.{◌≡◌, IfOk, map, slice_get};
-ghost use Rattle.model.specs.FailureFree.{takes_text, takes_letter, moved, run_from, new_worker, next_text, without_next as without_next_of};
+ghost use Rattle.model.specs.FailureFree.{takes_text, takes_letter, moved, run_from, new_worker, next_text};
+ghost use Rattle.model.specs.FailureFree.{without_next as without_next_of};
 ghost use Rattle.model.specs.declared.moves.Move.TheVariants.{Join};
 ghost use Rattle.audit.specs.Working.{AreInOrder, Makes};
 

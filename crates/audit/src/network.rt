@@ -1,7 +1,9 @@
 //! Units at work, and the packets between them.
 
-ghost use Rattle.std.specs.Prelude.{◌≡◌, ◌<◌, ◌∷◌, [], ◌++◌, IfOk, OnOk, MatchOption, length, nat_lt, slice_get, slice_set, Some};
-ghost use Rattle.model.specs.FailureFree.{is_between as is_between_of, next_text, without_next, new_worker, works_on, Worker as WorkerOf};
+ghost use Rattle.std.specs.Prelude.{◌≡◌, ◌<◌, ◌∷◌, [], ◌++◌, IfOk, OnOk, MatchOption, length, nat_lt, slice_get};
+ghost use Rattle.std.specs.Prelude.{slice_set, Some};
+ghost use Rattle.model.specs.FailureFree.{is_between as is_between_of, next_text, without_next, new_worker, works_on};
+ghost use Rattle.model.specs.FailureFree.{Worker as WorkerOf};
 ghost use Rattle.audit.specs.Working.{AreInOrder, after_turn, packets_from, IsNowhere, IsFirst};
 
 use handler::{Handler, Turn};

@@ -1,8 +1,8 @@
 //! A handler of one's own: charges and refunds, on `recall`.
 //!
 //! The program has the words of `recall`, `--journal` among them, with units of two kinds. A `ledger`
-//! keeps the balances and decides; a `card`, which is unit 1, puts out what really moves money. An output that has left can't be taken back,
-//! so `recall` lets it go only when everything that it depends on is logged.
+//! keeps the balances and decides; a `card`, which is unit 1, puts out what really moves money. An output that has
+//! left can't be taken back, so `recall` lets it go only when everything that it depends on is logged.
 //!
 //! - `billing`: the handler, thin over the others, which carries the law of the trait;
 //! - `role`: what the units are for, in place of the bare numbers of kinds;

@@ -1,6 +1,7 @@
 //! The work of one step, whichever the tenant.
 
-ghost use Rattle.std.specs.Prelude.{◌≡◌, ◌≤◌, [], ◌∷◌, ◌++◌, ℕ, List, IfOk, IfNone, IfSome, IsOk, OnOk, OnErr, Option, None, Some, false, bytes_eq};
+ghost use Rattle.std.specs.Prelude.{◌≡◌, ◌≤◌, [], ◌∷◌, ◌++◌, ℕ, List, IfOk, IfNone, IfSome, IsOk, OnOk, OnErr, Option};
+ghost use Rattle.std.specs.Prelude.{None, Some, false, bytes_eq};
 ghost use Rattle.indexmap.specs.IndexMap.{IsUnchanged, get, keys};
 ghost use Rattle.model.specs.Addresses.{addressed};
 ghost use Rattle.model.specs.World.{World};
@@ -14,7 +15,8 @@ ghost use Rattle.book.specs.Entries.{memory_reply as reply_of_memory};
 ghost use Rattle.model.specs.Keeping.{Keeping};
 ghost use Rattle.book.specs.Keeping.{KeepsAt, KeepsOnAt};
 ghost use Rattle.book.specs.Standing.{KeepTexts};
-ghost use Rattle.book.specs.History.{DidAt, IsAnswered, HoldsAsBefore, KeepsOthers, LogsAt, StepsAt, holding, opened_by};
+ghost use Rattle.book.specs.History.{DidAt, IsAnswered, HoldsAsBefore, KeepsOthers, LogsAt, StepsAt, holding};
+ghost use Rattle.book.specs.History.{opened_by};
 
 use handler::{Ask, Done, Handler};
 use indexmap::IndexMap;

@@ -1,6 +1,7 @@
 //! The book of all tenants.
 
-ghost use Rattle.std.specs.Prelude.{◌≡◌, ◌+◌, ◌≤◌, [], ◌∷◌, ◌++◌, IfOk, OnOk, OnErr, MatchOption, None, Some, vec_len, vec_capacity};
+ghost use Rattle.std.specs.Prelude.{◌≡◌, ◌+◌, ◌≤◌, [], ◌∷◌, ◌++◌, IfOk, OnOk, OnErr, MatchOption, None, Some, vec_len};
+ghost use Rattle.std.specs.Prelude.{vec_capacity};
 ghost use Rattle.model.specs.Alone.{alone};
 ghost use Rattle.model.specs.History.{IsLegal, own, pairs, replies_to};
 ghost use Rattle.model.specs.declared.replies.Who.TheVariants.{Caller};
@@ -9,7 +10,8 @@ ghost use Rattle.book.specs.Commits.{Commits, needed};
 ghost use Rattle.book.specs.Entries.{CountsDevice, IsEntered};
 ghost use Rattle.book.specs.Keeping.{FootprintAfter, kept_after};
 ghost use Rattle.book.specs.Standing.{IsHostOf};
-ghost use Rattle.book.specs.History.{IsIsolated, IsRecordedIn, IsSaidHonestly, Ran, entries_of, opened, released_at, table_at, world_of};
+ghost use Rattle.book.specs.History.{IsIsolated, IsRecordedIn, IsSaidHonestly, Ran, entries_of, opened, released_at};
+ghost use Rattle.book.specs.History.{table_at, world_of};
 
 use crate::answer::memory_reply;
 use crate::committed::Committed;

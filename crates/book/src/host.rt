@@ -12,7 +12,8 @@ ghost use Rattle.book.specs.Commits.{needed, needs_at};
 ghost use Rattle.book.specs.Entries.{IsAdded};
 ghost use Rattle.book.specs.History.{HoldsAsBefore, IsAnswered, opened, receiver_at, world_of};
 ghost use Rattle.book.specs.Keeping.{FootprintAfter, kept_after};
-ghost use Rattle.book.specs.Standing.{Carries, KeepTexts, ReplaysAsWell, CommitsHonestly, EntersHonestly, HostReplays, IsHostOf, held_by};
+ghost use Rattle.book.specs.Standing.{Carries, KeepTexts, ReplaysAsWell, CommitsHonestly, EntersHonestly, HostReplays};
+ghost use Rattle.book.specs.Standing.{IsHostOf, held_by};
 
 use crate::answer::{Tenants, answer, answer_with, ask, give_up, memory_reply};
 use crate::committed::Committed;
@@ -75,7 +76,8 @@ impl<H: Handler, S: Store> Host<H, S> {
     #[inline(always)]
     pub(crate) fn answer(&mut self, step: &Step) -> Result<Answer, NoMemory>
         ensures kept { IfOk result (λ a. a.kept ≡ a.reply) }
-        ensures answered { IfOk result (λ a. IsAnswered H.meaning step.now a.said a.reply (held_by self.old) (held_by self.new)) }
+        ensures answered { IfOk result (λ a. IsAnswered H.meaning step.now a.said a.reply
+            (held_by self.old) (held_by self.new)) }
         ensures kill { (tenant : List ℕ) (unit : ℕ) → step.now ≡ Step.Kill tenant unit → IsOk result }
         ensures err { OnErr result (HoldsAsBefore (held_by self.old) (held_by self.new)) }
         ensures texts { KeepTexts (held_by self.old).at → KeepTexts (held_by self.new).at }
@@ -97,7 +99,8 @@ impl<H: Handler, S: Store> Host<H, S> {
         worked: Done<H>,
     ) -> Result<Option<Answer>, NoMemory>
         ensures fresh { IfOk result (λ o. (w : Option World)
-            → StandsAt H.meaning (addressed step.now).0 ((held_by self.old).at (addressed step.now).0) w self.old.log.records
+            → StandsAt H.meaning (addressed step.now).0
+            ((held_by self.old).at (addressed step.now).0) w self.old.log.records
             → WasFresh (needs_at H.meaning w (addressed step.now).1) worked.input o) }
         ensures kept { IfOk result (λ o. IfSome o (λ a. a.kept ≡ a.reply)) }
         ensures answered { IfOk result (λ o.
@@ -118,8 +121,8 @@ impl<H: Handler, S: Store> Host<H, S> {
     }
 
     /// Does a step. Whichever book the host stood for, and whoever gave the step: it is entered there with its reply,
-    /// and the host stands for that book then; or there was no memory for it, and tenants and records are as they were. A
-    /// kill takes no memory, and is always entered.
+    /// and the host stands for that book then; or there was no memory for it, and tenants and records are as they
+    /// were. A kill takes no memory, and is always entered.
     pub fn step(&mut self, step: Step) -> Reply
         ensures entered { (who : Who)
             → Carries (IsHostOf H.meaning) (EntersHonestly H.meaning who step result) self.old self.new }

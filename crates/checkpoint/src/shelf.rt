@@ -1,9 +1,11 @@
 //! The shelf and its calls.
 
-ghost use Rattle.std.specs.Prelude.{◌≡◌, ◌≤◌, [], ◌∷◌, ◌++◌, None, IfOk, IsTrue, OnErr, MatchOption, Some, ◌+◌, ◌<◌, drop, false, true, nat_lt, slice_get, length};
+ghost use Rattle.std.specs.Prelude.{◌≡◌, ◌≤◌, [], ◌∷◌, ◌++◌, None, IfOk, IsTrue, OnErr, MatchOption, Some, ◌+◌, ◌<◌};
+ghost use Rattle.std.specs.Prelude.{drop, false, true, nat_lt, slice_get, length};
 ghost use Rattle.std.specs.List.{list_all, list_any, position_or_len, prefix_len};
 ghost use Rattle.std.specs.Option.{option_copied, option_map_or};
-ghost use Rattle.checkpoint.specs.Shelves.{based_at, cut_at, has_index, is_at, is_within, later_of as later_by, nearest_of, put_on, tops, making_room, AllAbove, IsNearest, IsTop, Rises};
+ghost use Rattle.checkpoint.specs.Shelves.{based_at, cut_at, has_index, is_at, is_within, later_of as later_by};
+ghost use Rattle.checkpoint.specs.Shelves.{nearest_of, put_on, tops, making_room, AllAbove, IsNearest, IsTop, Rises};
 
 use crate::snapshot::Snapshot;
 use model::{MAX_CHECKPOINTS, NoMemory};

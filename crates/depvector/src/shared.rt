@@ -9,8 +9,8 @@ use model::{Mark, Marks, NoMemory, Unit};
 use std::alloc::Global;
 use std::marker::Model;
 
-/// A vector that is done, seen as the list of its marks: that of an interval, of its letters and of its record. Copies of
-/// a long one share one place in memory; a short one lies in the value itself.
+/// A vector that is done, seen as the list of its marks: that of an interval, of its letters and of its record.
+/// Copies of a long one share one place in memory; a short one lies in the value itself.
 #[derive(Drop)]
 pub struct SharedVector {
     marks: Marks,

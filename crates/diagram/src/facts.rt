@@ -1,4 +1,5 @@
-//! What the elements of a page tell its script: attributes that have numbers and names of intervals, and no text of a step.
+//! What the elements of a page tell its script: attributes that have numbers and names of intervals, and no text of a
+//! step.
 
 use crate::interval::{Interval, Removal};
 use crate::layout::Layout;
@@ -85,8 +86,8 @@ pub(crate) fn add_place(
     Ok(())
 }
 
-/// Adds what is known of an interval: its name, its mark, when it came to be, was logged, left and was undone, the interval
-/// before it, and the last interval of each unit in its past.
+/// Adds what is known of an interval: its name, its mark, when it came to be, was logged, left and was undone, the
+/// interval before it, and the last interval of each unit in its past.
 pub(crate) fn add_facts<'a>(
     page: &mut String,
     view: &View<'_, 'a>,
@@ -127,8 +128,8 @@ fn add_before<'a>(
     Ok(())
 }
 
-/// Adds the names of the last interval of each unit in the interval's past. A beginning sends nothing, so that of another
-/// unit's alone no interval depends.
+/// Adds the names of the last interval of each unit in the interval's past. A beginning sends nothing, so that of
+/// another unit's alone no interval depends.
 fn add_past(page: &mut String, interval: &Interval<'_>) -> Result<(), NoMemory> {
     page.push_str(" data-past=\"")?;
     let mut separator = "";

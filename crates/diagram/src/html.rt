@@ -21,14 +21,15 @@ use std::alloc::Global;
 /// The end of the page that is drawn where no tenant is open.
 const NOTHING: &str = "</style>\n</head>\n<body>\n<p>no tenant is open</p>\n</body>\n</html>\n";
 
-/// Draws a tenant's diagram as one page of HTML that shows what depends on what, by the tenant's entries of a history, and
-/// `lines`, the number of the input's line of each entry of the history; an entry past their end has none.
+/// Draws a tenant's diagram as one page of HTML that shows what depends on what, by the tenant's entries of a
+/// history, and `lines`, the number of the input's line of each entry of the history; an entry past their end has
+/// none.
 ///
 /// The page needs nothing else: its policy allows its own style and its own script, by their hashes, and nothing from
 /// elsewhere. Each text of a step stands in it as text alone. With no tenant the page says so, and has no script.
 ///
-/// It takes time and memory by the length of the history, whatever the window; handlers are asked once for each accepted
-/// receipt. `NoMemory` is the only error.
+/// It takes time and memory by the length of the history, whatever the window; handlers are asked once for each
+/// accepted receipt. `NoMemory` is the only error.
 pub fn draw_page<H: Handler>(
     alloc: Global,
     handler: &H,
@@ -64,8 +65,8 @@ pub fn draw_page<H: Handler>(
     Ok(page)
 }
 
-/// Adds the events that the slider goes over: those of the columns that are drawn, and the end of the history behind them
-/// where it isn't drawn.
+/// Adds the events that the slider goes over: those of the columns that are drawn, and the end of the history behind
+/// them where it isn't drawn.
 fn add_range(page: &mut String, view: &View<'_, '_>) -> Result<(), NoMemory> {
     let (first, end) = (view.layout.columns.first, view.layout.columns.end);
     let last = if end < view.picture.columns {

@@ -8,8 +8,8 @@ use crate::notes::add_letter;
 use model::NoMemory;
 use std::alloc::Global;
 
-/// Adds an arrow for each receipt of a letter, and a short one for each letter, which is seen while no interval on a path
-/// has received it.
+/// Adds an arrow for each receipt of a letter, and a short one for each letter, which is seen while no interval on a
+/// path has received it.
 pub(crate) fn add_letters(
     alloc: Global,
     page: &mut String,

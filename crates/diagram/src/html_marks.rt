@@ -9,8 +9,8 @@ use crate::style::{BADGE_HIT, HELD, HIT, RELEASED};
 use model::NoMemory;
 use std::alloc::Global;
 
-/// Adds a mark for each interval in a column that is drawn, and a badge for what it put out; of others that one of these
-/// depends on, what is known of them, where that isn't settled before the first column that is drawn.
+/// Adds a mark for each interval in a column that is drawn, and a badge for what it put out; of others that one of
+/// these depends on, what is known of them, where that isn't settled before the first column that is drawn.
 pub(crate) fn add_intervals(
     alloc: Global,
     page: &mut String,

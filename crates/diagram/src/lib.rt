@@ -13,9 +13,10 @@
 //! The picture follows from the entries alone: `replay` works the handler's turns over the accepted
 //! receipts, which tell to whom each letter went and what was put out, and the replies tell the rest.
 //! `interval` and `picture` have what it then knows, as plain values, and `page`, `marks`, `letters`
-//! and `notes` write that as SVG. `html`, `html_marks` and `html_letters` write the page, whose elements have as attributes
-//! what its script asks for (`facts`); the script (`page_script`), the style and the page's frame (`template`) are made of the
-//! files in `page/` by `page/make`. `escape` carries a contract: no text from a step can end or open an element.
+//! and `notes` write that as SVG. `html`, `html_marks` and `html_letters` write the page, whose elements have as
+//! attributes what its script asks for (`facts`); the script (`page_script`), the style and the page's frame
+//! (`template`) are made of the files in `page/` by `page/make`. `escape` carries a contract: no text from a step can
+//! end or open an element.
 #![tactic(auto)]
 
 mod escape;

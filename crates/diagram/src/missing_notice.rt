@@ -14,8 +14,8 @@ pub struct MissingNotice {
     pub unit: Unit,
 }
 
-/// Why a letter has to wait, by the entries of a history and the rows of the tenant's table; none where it has not. Takes
-/// time by the history.
+/// Why a letter has to wait, by the entries of a history and the rows of the tenant's table; none where it has not.
+/// Takes time by the history.
 ///
 /// # Errors
 ///

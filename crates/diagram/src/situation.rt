@@ -53,8 +53,8 @@ pub struct Situation<'a> {
 }
 
 impl<'a> Situation<'a> {
-    /// That of a tenant, by its entries of a history. Takes time and memory by the history; handlers are asked once for each
-    /// accepted receipt.
+    /// That of a tenant, by its entries of a history. Takes time and memory by the history; handlers are asked once
+    /// for each accepted receipt.
     ///
     /// # Errors
     ///

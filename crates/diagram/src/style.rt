@@ -1,7 +1,7 @@
 //! What each page has, whatever it shows.
 
-/// The colours, as plain values that whatever draws SVG takes: light ones, and dark ones on top for those that know what
-/// the reader prefers. They stand in a `style` element.
+/// The colours, as plain values that whatever draws SVG takes: light ones, and dark ones on top for those that know
+/// what the reader prefers. They stand in a `style` element.
 pub(crate) const COLOURS: &str = r#"
 svg { background: #ffffff; font: 12px sans-serif; }
 text { fill: #1f2328; stroke: #ffffff; paint-order: stroke; stroke-width: 3px; stroke-linejoin: round; }

@@ -21,8 +21,8 @@ pub struct Done {
     pub outputs: u64,
 }
 
-/// What the driver remembers between two lines. After a fault it isn't to be used again: a new one is driven over the same
-/// lines.
+/// What the driver remembers between two lines. After a fault it isn't to be used again: a new one is driven over the
+/// same lines.
 #[derive(Drop)]
 pub struct Driver {
     alloc: Global,

@@ -7,7 +7,9 @@ ghost use Rattle.model.specs.declared.replies.Who.{Who as WhoOf};
 ghost use Rattle.book.specs.Entries.{IsEntered};
 ghost use Rattle.book.specs.Standing.{Carries, EntersHonestly, IsHostOf};
 ghost use Rattle.lines.specs.Doing.{DoesBy, TakesSteps};
-ghost use Rattle.driver.specs.Driving.{AreRounds, BookDrives, Broken, Drove, DroveAllBy, DroveSomeBy, HostDrives, IsRound, IsStepRound, Round, Took, Wrote, chore_step, lines_told, outputs_of, round_text};
+ghost use Rattle.driver.specs.Driving.{AreRounds, BookDrives, Broken, Drove, DroveAllBy, DroveSomeBy, HostDrives};
+ghost use Rattle.driver.specs.Driving.{IsRound, IsStepRound, Round, Took, Wrote, chore_step, lines_told, outputs_of};
+ghost use Rattle.driver.specs.Driving.{round_text};
 
 use crate::chore::Chore;
 use crate::driver::{Done, Driver, Subject, hear, refusal_of, subject_of};
@@ -29,9 +31,9 @@ use std::io::{BufRead, Write};
 /// The driver gives its steps as the caller, so that the book's history is legal as any other. It depends on the lines
 /// alone, so that the same lines give the same bytes.
 ///
-/// `Read` comes only where the reader failed, `Write` only where the writer failed, and `NoMemory` where there was none for
-/// the buffer, for a text that is written, for what the driver remembers, or for a step that it gave. After each the book
-/// holds the steps so far, and what is written is a beginning of what they tell.
+/// `Read` comes only where the reader failed, `Write` only where the writer failed, and `NoMemory` where there was
+/// none for the buffer, for a text that is written, for what the driver remembers, or for a step that it gave. After
+/// each the book holds the steps so far, and what is written is a beginning of what they tell.
 pub fn drive<R: BufRead, W: Write, H: Handler, S: Store>(
     alloc: Global,
     reader: &mut Counted<R>,
@@ -89,7 +91,8 @@ pub fn drive_host<R: BufRead, W: Write, H: Handler, S: Store>(
         writer,
         host,
         &|host: &mut Host<H, S>, step: Step| -> Reply
-            ensures { (who : WhoOf) → Carries (IsHostOf H.meaning) (EntersHonestly H.meaning who step result) host.entry.now host.exit.now }
+            ensures { (who : WhoOf) → Carries (IsHostOf H.meaning)
+                (EntersHonestly H.meaning who step result) host.entry.now host.exit.now }
         { host.step(step) },
         &|host: &Host<H, S>, tenant: &TenantName, letter: Letter| -> Option<Unit> {
             host.receiver(tenant, letter)
@@ -304,8 +307,8 @@ fn do_step<B, F: Fn(&mut B, Step) -> Reply>(book: &mut B, step: &F, read: Step) 
     step(book, read)
 }
 
-// Carries on for a tenant behind a line with this reply: after a restart the other units are given a notice, the letters
-// are delivered, what the units took is logged, and what is firm is released.
+// Carries on for a tenant behind a line with this reply: after a restart the other units are given a notice, the
+// letters are delivered, what the units took is logged, and what is firm is released.
 fn carry_on<
     W: Write,
     B,
@@ -528,8 +531,8 @@ fn put_left<W: Write>(
     }
 }
 
-// Takes in what a step of the driver was answered, and tells why it was refused, if it was. Where there was no memory for
-// it the driver can't go on as it would have.
+// Takes in what a step of the driver was answered, and tells why it was refused, if it was. Where there was no memory
+// for it the driver can't go on as it would have.
 fn hear_chore<B, G: Fn(&B, &TenantName, Letter) -> Option<Unit>>(
     flow: &mut Flow,
     book: &B,

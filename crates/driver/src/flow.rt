@@ -339,8 +339,8 @@ impl Flow {
         }
     }
 
-    /// The first letters that wait and weren't told of, or wait for another reason since, at most so many. They are told of
-    /// then.
+    /// The first letters that wait and weren't told of, or wait for another reason since, at most so many. They are
+    /// told of then.
     pub(crate) fn news(&mut self, alloc: Global, most: usize) -> Result<Vec<Waiting>, NoMemory> {
         let mut news = Vec::new(alloc);
         tell_of(&mut self.letters, most, &mut news)?;

@@ -2,14 +2,16 @@
 //!
 //! - `drive`, `drive_host` (`driving`): answer each line of a reader as `serve` does, and then carry on for its tenant:
 //!   letters are delivered, what they made is logged, and what is firm is released, a line for each text.
-//! - `Driver`: what it remembers between two lines, a `Flow` for each open tenant: which units are up and hold something,
-//!   and the letters that wait (`Waiting`).
+//! - `Driver`: what it remembers between two lines, a `Flow` for each open tenant: which units are up and hold
+//!   something, and the letters that wait (`Waiting`).
 //! - `Chore`: a step that it gives. It delivers, flushes, notices and releases, and gives no other step.
 //! - `outputs`: the line of a text that left.
-//! - `released_is_told`, `book_released_is_told` (`laws`): each unit's output lines, and the outputs in its `release` replies, are what it released.
+//! - `released_is_told`, `book_released_is_told` (`laws`): each unit's output lines, and the outputs in its `release`
+//!   replies, are what it released.
 //!
-//! What the driver does depends on the lines alone: not on a clock, nor on how the input comes. So the same lines give the
-//! same bytes. `specs/Driving` says what is written, whatever the driver chooses to do; what it chooses is read and tested.
+//! What the driver does depends on the lines alone: not on a clock, nor on how the input comes. So the same lines
+//! give the same bytes. `specs/Driving` says what is written, whatever the driver chooses to do; what it chooses is
+//! read and tested.
 //!
 //! For a host whose user has inputs and wants outputs. A caller:
 //!

@@ -41,11 +41,11 @@ impl<'a, R: Eprint + Clock> Gate for Counting<'a, R> {
     }
 }
 
-/// Runs each file as a feed, all at once over a store in memory, and then writes the reply lines to standard output, feed
-/// by feed in the order of the words. Tells the status to end with: 0 where all lines are answered, 1 after a fault of
-/// input, output, memory or threads; where the feeds can't be read or run, nothing is written. Where it is asked for, it
-/// audits each open tenant after the last reply; 1 too where an audit doesn't say yes. Where it `shows`, a bar tells how
-/// far the steps are.
+/// Runs each file as a feed, all at once over a store in memory, and then writes the reply lines to standard output,
+/// feed by feed in the order of the words. Tells the status to end with: 0 where all lines are answered, 1 after a
+/// fault of input, output, memory or threads; where the feeds can't be read or run, nothing is written. Where it is
+/// asked for, it audits each open tenant after the last reply; 1 too where an audit doesn't say yes. Where it
+/// `shows`, a bar tells how far the steps are.
 pub fn feeds_on<
     R: Threads + Wait + Sync + Files<File = File> + Print + Eprint + Clock + AllocGlobal,
     L: Log,

@@ -31,8 +31,8 @@ pub(crate) fn run<
     Ok(run_feeds(rt, alloc, handler, store, feeds, gate)?)
 }
 
-/// Runs the feeds, and leaves the closed book as it is: the program ends soon, and the proof of what a book lets go of is
-/// long.
+/// Runs the feeds, and leaves the closed book as it is: the program ends soon, and the proof of what a book lets go
+/// of is long.
 pub(crate) fn run_through<
     R: Threads + Wait + Sync,
     H: Handler + Copy + Send + Sync,

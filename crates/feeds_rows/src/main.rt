@@ -2,8 +2,8 @@
 //! turn which another feed made stale is asked for again, and that a run with ample memory and threads gives a book.
 //!
 //! - `meeting`: threads that wait for each other;
-//! - `gates`: what is put around the turns of feeds; `telling`: a store and a writer that tell of their first call; `together`: a handler
-//!   whose turns wait for each other;
+//! - `gates`: what is put around the turns of feeds; `telling`: a store and a writer that tell of their first call;
+//!   `together`: a handler whose turns wait for each other;
 //! - `steps`: the steps of feeds;
 //! - `at_once`, `logged`, `stale`, `whole`: the rows. Each prints what was seen.
 #![tactic(auto)]

@@ -1,8 +1,8 @@
 //! A turn that another feed makes stale.
 //!
-//! Unit 0 is a `tee`, which sends a letter to unit 1, a `count`, upon each text. Feed 0 opens the tenant, posts to unit 0
-//! three times, and delivers some of the letters; feed 1, once these are made, posts to unit 1. Each delivery changes the
-//! state that the post's turn was asked for.
+//! Unit 0 is a `tee`, which sends a letter to unit 1, a `count`, upon each text. Feed 0 opens the tenant, posts to
+//! unit 0 three times, and delivers some of the letters; feed 1, once these are made, posts to unit 1. Each delivery
+//! changes the state that the post's turn was asked for.
 
 ghost use Rattle.std.specs.Prelude.{◌<◌, ◌^◌, IfOk, vec_len};
 

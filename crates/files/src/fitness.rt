@@ -46,8 +46,8 @@ impl Display for Unfit {
     }
 }
 
-/// Why a file that was asked must not be written to, if so. What the system doesn't tell, as where `/proc` isn't mounted,
-/// is taken to be well.
+/// Why a file that was asked must not be written to, if so. What the system doesn't tell, as where `/proc` isn't
+/// mounted, is taken to be well.
 pub fn why_unfit<R: Files>(rt: &R, found: &Metadata) -> Option<Unfit> {
     if let Some(kind) = unfit_kind(found) {
         return Some(kind);

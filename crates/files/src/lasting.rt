@@ -24,9 +24,9 @@ pub enum Standing {
 }
 
 /// A file to which bytes are appended. Before each block that is appended
-/// it is looked whether the path still names this file, as long as it was left. After a write or a sync that failed it is
-/// cut back to the bytes that were synced before, as far as the device lets it: a sync that is asked for again may say yes
-/// to bytes that are lost.
+/// it is looked whether the path still names this file, as long as it was left. After a write or a sync that failed
+/// it is cut back to the bytes that were synced before, as far as the device lets it: a sync that is asked for again
+/// may say yes to bytes that are lost.
 #[derive(Drop)]
 pub struct LastingFile<'a, R> {
     rt: &'a R,

@@ -3,7 +3,8 @@
 //! - `fill_descriptors`: the descriptors of the standard streams are taken before any file is opened;
 //! - `open_journal` (`opening`): the file of `run --journal`, found fit, locked, cut to whole lines and synced;
 //! - `LastingFile` (`lasting`): that file as lines are appended to it, which is cut back where that fails;
-//! - `About`: the page beside a journal, which tells whose it is and was; `Takeover`: whether another may go on with it;
+//! - `About`: the page beside a journal, which tells whose it is and was; `Takeover`: whether another may go on with
+//!   it;
 //! - `Told` (`telling`): how many lines and bytes a journal has;
 //! - `make_log` (`log_file`): the file of `run --log`, and `LogFile`, which tells that it fails;
 //! - `Fitness` (`fitness`): why a file must not be written to.

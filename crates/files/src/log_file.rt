@@ -56,8 +56,8 @@ impl<'a, L: Log, W: Write> Write for LogFile<'a, L, W> {
     }
 }
 
-/// Makes the log's file anew, for its owner alone: it has every text. A device or a pipe is taken as it is; whoever reads a
-/// pipe is waited for, which is told. None where it can't be made, which is told.
+/// Makes the log's file anew, for its owner alone: it has every text. A device or a pipe is taken as it is; whoever
+/// reads a pipe is waited for, which is told. None where it can't be made, which is told.
 pub fn make_log<R: Files<File = File>, L: Log>(rt: &R, told: &L, path: &str) -> Option<File> {
     let kind = match fs::metadata(rt, path) {
         Ok(found) => why_unfit(rt, &found),

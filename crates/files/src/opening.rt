@@ -1,4 +1,5 @@
-//! The file of `run --journal`: found fit, locked, known to be a journal of this program, and cut to whole lines that last.
+//! The file of `run --journal`: found fit, locked, known to be a journal of this program, and cut to whole lines that
+//! last.
 
 use crate::about::{About, Owner, write_about};
 use crate::fitness::{Unfit, why_unfit};
@@ -16,8 +17,8 @@ use std::time::Clock;
 use std::{fs, io};
 use terminal::{BLOCK, Plural};
 
-/// A journal that this run has for itself, whose bytes are whole lines, synced. The next read of the file gives its first
-/// byte.
+/// A journal that this run has for itself, whose bytes are whole lines, synced. The next read of the file gives its
+/// first byte.
 #[derive(Drop)]
 pub struct JournalFile<'a, R> {
     pub file: LastingFile<'a, R>,
@@ -47,9 +48,9 @@ enum Ownership {
 /// Opens the journal, or makes it, with mode 0600, and its page beside it. A last line that isn't whole is cut off, and
 /// what a crash of the machine left of it. How many lines there are is told, where there are some or one was cut off.
 ///
-/// Where that fails it is told, and the status to end with is given: 2 where `from` is past the last line, and then nothing
-/// is changed; 1 where another run has the journal, where the file is unfit or not known to be a journal of this program
-/// and its handler, and isn't to be taken over, or where it can't be opened, read, cut or synced.
+/// Where that fails it is told, and the status to end with is given: 2 where `from` is past the last line, and then
+/// nothing is changed; 1 where another run has the journal, where the file is unfit or not known to be a journal of
+/// this program and its handler, and isn't to be taken over, or where it can't be opened, read, cut or synced.
 pub fn open_journal<'a, R: Files<File = File> + Clock, L: Log>(
     rt: &'a R,
     told: &L,
@@ -167,8 +168,8 @@ fn cannot_read<L: Log>(told: &L, path: &str, error: &io::Error) -> u8 {
     1
 }
 
-/// Whose the journal is by the page beside it. One that has bytes and isn't this program's is refused, but for what is to be
-/// taken over.
+/// Whose the journal is by the page beside it. One that has bytes and isn't this program's is refused, but for what
+/// is to be taken over.
 fn owned_by<R: Files<File = File>, L: Log>(
     rt: &R,
     told: &L,

@@ -21,8 +21,8 @@ fn read_tail(alloc: Global, file: &File, length: u64) -> io::Result<Vec<u8>> {
     Ok(block)
 }
 
-/// How many bytes of the file can be trusted, which has so many: those before the first byte 0 of its last block. No run
-/// writes such a byte, so there is a page that never reached the disk.
+/// How many bytes of the file can be trusted, which has so many: those before the first byte 0 of its last block. No
+/// run writes such a byte, so there is a page that never reached the disk.
 pub(crate) fn trusted_length(alloc: Global, file: &File, length: u64) -> io::Result<u64> {
     let block = read_tail(alloc, file, length)?;
     match block.iter().position(|byte| *byte == 0) {
@@ -31,8 +31,8 @@ pub(crate) fn trusted_length(alloc: Global, file: &File, length: u64) -> io::Res
     }
 }
 
-/// Writes the last block over itself, and syncs the file: what is read of it may stand in memory alone, after a sync that
-/// failed, and a sync of what was not written since may say yes to bytes that are lost.
+/// Writes the last block over itself, and syncs the file: what is read of it may stand in memory alone, after a sync
+/// that failed, and a sync of what was not written since may say yes to bytes that are lost.
 pub(crate) fn make_last(alloc: Global, file: &File, length: u64) -> io::Result<()> {
     let block = read_tail(alloc, file, length)?;
     file.write_all_at(block.as_slice(), begin_of(length))?;

@@ -5,7 +5,11 @@
 
 ghost use Rattle.std.specs.Prelude.{◌≡◌, ◌≤◌, ℕ, IfOk};
 ghost use Rattle.serde_json.specs.View.{view, items_view};
-ghost use Rattle.forms.specs.Reading.{Gives, greatest_byte, greatest_word, text_at, name_at, byte_at, word_at, whole_at, texts_of, texts_at, has_keys, one_if_has, quota_of, quota_at, optimism_at, place_of, open_form, join_form, post_form, deliver_form, flush_form, checkpoint_form, kill_form, restart_form, notice_form, release_form, status_form, step_of, step_of_line};
+ghost use Rattle.forms.specs.Reading.{Gives, greatest_byte, greatest_word, text_at, name_at, byte_at, word_at};
+ghost use Rattle.forms.specs.Reading.{whole_at, texts_of, texts_at, has_keys, one_if_has, quota_of, quota_at};
+ghost use Rattle.forms.specs.Reading.{optimism_at, place_of, open_form, join_form, post_form, deliver_form, flush_form};
+ghost use Rattle.forms.specs.Reading.{checkpoint_form, kill_form, restart_form, notice_form, release_form, status_form};
+ghost use Rattle.forms.specs.Reading.{step_of, step_of_line};
 
 use crate::fault::LineFault;
 use model::{

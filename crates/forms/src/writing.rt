@@ -4,7 +4,8 @@ ghost use Rattle.std.specs.Prelude.{◌≡◌, ◌≢◌, All, IfOk, string_byte
 ghost use Rattle.serde_json.specs.Data.{array};
 ghost use Rattle.serde_json.specs.Read.{read};
 ghost use Rattle.serde_json.specs.View.{view};
-ghost use Rattle.forms.specs.Writing.{IsStatus, wholes, texts, accepted_data, checkpointed_data, restarted_data, noticed_data, released_data, reply_data, reply_text};
+ghost use Rattle.forms.specs.Writing.{IsStatus, wholes, texts, accepted_data, checkpointed_data, restarted_data};
+ghost use Rattle.forms.specs.Writing.{noticed_data, released_data, reply_data, reply_text};
 
 use model::{Letter, Mark, NoMemory, Reply, Start, Text};
 use serde_json::{Value, json};

@@ -1,11 +1,13 @@
 //! The sample handler: echo, relay, count, adder and tee.
 
-ghost use Rattle.std.specs.Prelude.{◌≡◌, ◌<◌, ◌+◌, ◌-◌, ◌*◌, ◌&&◌, nat_le, IfOk, MatchOption, option_map, List, ℕ, ◌∷◌, [], true, false, codes};
+ghost use Rattle.std.specs.Prelude.{◌≡◌, ◌<◌, ◌+◌, ◌-◌, ◌*◌, ◌&&◌, nat_le, IfOk, MatchOption, option_map, List, ℕ, ◌∷◌};
+ghost use Rattle.std.specs.Prelude.{[], true, false, codes};
 ghost use Rattle.std.specs.List.{list_all};
 ghost use Rattle.handler.specs.Kinds.{number_of};
 ghost use Rattle.handler.specs.States.{states_equal};
 ghost use Rattle.model.specs.Handler.{Turn as TurnOf};
-ghost use Rattle.model.specs.Sample.{State, kind_named, sample, echo, relay, tee, count, tell, adder, greatest, is_number, value_of, number_in};
+ghost use Rattle.model.specs.Sample.{State, kind_named, sample, echo, relay, tee, count, tell, adder, greatest};
+ghost use Rattle.model.specs.Sample.{is_number, value_of, number_in};
 
 use crate::handler::Handler;
 use crate::turn::Turn;

@@ -41,8 +41,8 @@ fn share_sends(sends: &mut Vec<(Unit, Text)>, text: &Text)
 }
 
 impl<S> Turn<S> {
-    /// Lets what the unit passes on of the text that it received share its place. It stays the same turn, and this takes no
-    /// memory.
+    /// Lets what the unit passes on of the text that it received share its place. It stays the same turn, and this
+    /// takes no memory.
     pub(crate) fn share(&mut self, received: &Text)
         ensures { self.new ≡ self.old }
     {

@@ -26,8 +26,8 @@ pub struct Terminals {
 }
 
 /// Reads the words of the command line, does what they ask for, and tells the status to end with: 0 where it is done, 1
-/// after a fault of a file, the input, the output, memory or threads, or an audit that isn't ok, 2 where the words are bad,
-/// and 3 where a line was refused, if that is asked for.
+/// after a fault of a file, the input, the output, memory or threads, or an audit that isn't ok, 2 where the words
+/// are bad, and 3 where a line was refused, if that is asked for.
 pub fn run_program<
     R: Threads
         + Wait

@@ -23,8 +23,8 @@ pub(crate) fn shows_bar(terminals: Terminals, verbosity: Verbosity) -> bool {
     verbosity != Verbosity::Quiet && terminals.errors
 }
 
-/// `run` or `drive`: with a log that is written, where a file is named for it, or with one in memory. Reasons are told to a
-/// terminal unasked.
+/// `run` or `drive`: with a log that is written, where a file is named for it, or with one in memory. Reasons are
+/// told to a terminal unasked.
 pub(crate) fn run_as_asked<
     R: Threads + Wait + Sync + Files<File = File> + Clock + Print + Eprint + Input + AllocGlobal,
     H: Handler + Copy,
@@ -61,8 +61,8 @@ pub(crate) fn run_as_asked<
     status
 }
 
-/// `run`, while a thread writes a line of progress after each so many seconds, where that is asked for: also while the run
-/// waits for lines. Where there is no thread for it no such line is written, and that is told.
+/// `run`, while a thread writes a line of progress after each so many seconds, where that is asked for: also while
+/// the run waits for lines. Where there is no thread for it no such line is written, and that is told.
 fn run_reported<
     R: Threads + Wait + Sync + Files<File = File> + Clock + Print + Eprint + Input + AllocGlobal,
     L: Log,

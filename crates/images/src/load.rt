@@ -41,8 +41,8 @@ fn read_file<R: Files<File = File> + AllocGlobal>(
     Ok((bytes.len() as u64 <= MAX_FILE_BYTES).then_some(bytes))
 }
 
-/// `load`: writes the step lines that load an image to standard output, and tells the status to end with: 0 where they are
-/// written, 1 where the file can't be read or has no image or the output fails, 2 where a word is bad.
+/// `load`: writes the step lines that load an image to standard output, and tells the status to end with: 0 where
+/// they are written, 1 where the file can't be read or has no image or the output fails, 2 where a word is bad.
 pub fn load_on<R: Files<File = File> + Clock + Print + AllocGlobal, L: Log>(
     rt: &R,
     told: &L,

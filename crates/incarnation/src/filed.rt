@@ -1,6 +1,7 @@
 //! The rows of one unit.
 
-ghost use Rattle.std.specs.Prelude.{◌≡◌, ℕ, ◌+◌, ◌-◌, ◌<◌, ◌≤◌, ◌∷◌, [], ◌++◌, IfOk, OnErr, IsTrue, length, slice_get, Some, slice_index, ◌↔◌};
+ghost use Rattle.std.specs.Prelude.{◌≡◌, ℕ, ◌+◌, ◌-◌, ◌<◌, ◌≤◌, ◌∷◌, [], ◌++◌, IfOk, OnErr, IsTrue, length, slice_get};
+ghost use Rattle.std.specs.Prelude.{Some, slice_index, ◌↔◌};
 ghost use Rattle.model.specs.declared.names.Row.{Row};
 ghost use Rattle.std.specs.List.{fold};
 ghost use Rattle.incarnation.specs.Filed.{nothing_filed, is_told_by, place_below, LosesAt};

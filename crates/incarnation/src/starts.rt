@@ -1,6 +1,7 @@
 //! The starts of a unit's rows, among which the first low one is found in a constant time.
 
-ghost use Rattle.std.specs.Prelude.{◌≡◌, ◌+◌, ◌-◌, ◌<◌, ◌≤◌, ◌^◌, ◌∷◌, [], ◌++◌, ℕ, List, IfOk, IsTrue, OnErr, length, slice_index};
+ghost use Rattle.std.specs.Prelude.{◌≡◌, ◌+◌, ◌-◌, ◌<◌, ◌≤◌, ◌^◌, ◌∷◌, [], ◌++◌, ℕ, List, IfOk, IsTrue, OnErr, length};
+ghost use Rattle.std.specs.Prelude.{slice_index};
 ghost use Rattle.incarnation.specs.Starts.{AllHigh, AreLows, IsBelowLast, IsFirstLow};
 
 use model::NoMemory;

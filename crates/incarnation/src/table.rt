@@ -1,6 +1,7 @@
 //! The table and its look-ups.
 
-ghost use Rattle.std.specs.Prelude.{◌≡◌, ◌+◌, ◌<◌, ◌≤◌, ℕ, ◌∷◌, [], ◌++◌, IfOk, MatchOption, OnErr, Some, length, slice_get, take};
+ghost use Rattle.std.specs.Prelude.{◌≡◌, ◌+◌, ◌<◌, ◌≤◌, ℕ, ◌∷◌, [], ◌++◌, IfOk, MatchOption, OnErr, Some, length};
+ghost use Rattle.std.specs.Prelude.{slice_get, take};
 ghost use Rattle.model.specs.World.{incarnation_of, mark_told, mark_lost};
 ghost use Rattle.incarnation.specs.Filed.{filed_at, filed_of, nothing_filed, with_row, Ordered};
 ghost use Rattle.incarnation.specs.Rows.{rows_of as rows_of_unit, incarnation_at as incarnation_by};

@@ -19,9 +19,9 @@ pub fn goes_on<H: Handler>()
     ensures { GoesOn H.meaning }
 {}
 
-/// A run, as a whole. Of each new host that was served lines there is a book that began with an empty history, was served
-/// them with these replies, and for which the host stands then: its history is legal, and what the store said in it is
-/// honest. So what is said of books holds of the replies of hosts, which store no history.
+/// A run, as a whole. Of each new host that was served lines there is a book that began with an empty history, was
+/// served them with these replies, and for which the host stands then: its history is legal, and what the store said
+/// in it is honest. So what is said of books holds of the replies of hosts, which store no history.
 pub fn host_runs<H: Handler>()
     ensures { HostRuns H.meaning }
 {}

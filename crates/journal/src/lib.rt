@@ -1,4 +1,5 @@
-//! What a run that goes on from the lines of an earlier one needs beside a list of them that lasts, which `durable` has.
+//! What a run that goes on from the lines of an earlier one needs beside a list of them that lasts, which `durable`
+//! has.
 //!
 //! - `DurableReplies`: a writer of replies that lets none through that a later run may not keep, as
 //!   `memory_is_told` says.

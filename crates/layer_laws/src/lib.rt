@@ -7,11 +7,13 @@
 //! `is_orphan` of a past's vector are the definitions' tests of that past.
 #![tactic(auto)]
 
-ghost use Rattle.layer_laws.specs.Laws.{FirstOrphanCuts, FrontiersTell, SessionsGoOn, SessionsTell, UnstableAreCounted, NodeVectorsAreMade, VolatileLogsFollow};
+ghost use Rattle.layer_laws.specs.Laws.{FirstOrphanCuts, FrontiersTell, SessionsGoOn, SessionsTell, UnstableAreCounted};
+ghost use Rattle.layer_laws.specs.Laws.{NodeVectorsAreMade, VolatileLogsFollow};
 
 use handler::Handler;
 
-/// A node's vector is what `widen`, `join` and `set_own` make of those of the node before it and of its letter's sender.
+/// A node's vector is what `widen`, `join` and `set_own` make of those of the node before it and of its letter's
+/// sender.
 pub fn vectors_are_made<H: Handler>()
     ensures { NodeVectorsAreMade H.meaning }
 {}

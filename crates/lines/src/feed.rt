@@ -49,8 +49,8 @@ pub fn read_feed<R: BufRead>(
     }
 }
 
-/// The step of a line that was heard, or why it gives none: `Bad` where it is no step, as one that is too long always is, and
-/// `NoMemory` where there was no memory to read it.
+/// The step of a line that was heard, or why it gives none: `Bad` where it is no step, as one that is too long always
+/// is, and `NoMemory` where there was no memory to read it.
 pub fn read_heard(
     alloc: Global,
     scratch: &mut Scratch,

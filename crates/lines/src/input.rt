@@ -1,6 +1,7 @@
 //! The next line of an input.
 
-ghost use Rattle.std.specs.Prelude.{◌≡◌, ◌≢◌, ◌<◌, ◌≤◌, ◌==◌, IfOk, IfErr, OnOk, OnErr, if◌then◌else◌, length, vec_capacity};
+ghost use Rattle.std.specs.Prelude.{◌≡◌, ◌≢◌, ◌<◌, ◌≤◌, ◌==◌, IfOk, IfErr, OnOk, OnErr, if◌then◌else◌, length};
+ghost use Rattle.std.specs.Prelude.{vec_capacity};
 ghost use Rattle.std.specs.Io.KnownBytes.{Keeps};
 ghost use Rattle.model.specs.Failures.{HasRisen};
 ghost use Rattle.lines.specs.Parts.{Takes, TakesPart, IsLineRead};
@@ -25,8 +26,8 @@ pub enum LineRead {
 /// Reads a line, of which `held` has all bytes then, unless it is too long. Before each read that may wait, what was
 /// written is flushed: that is where the last read didn't show that there is more, as `ahead` tells.
 ///
-/// `Read` comes only where the reader failed, and `Write` only where the writer failed. At most a part of a line is taken
-/// then.
+/// `Read` comes only where the reader failed, and `Write` only where the writer failed. At most a part of a line is
+/// taken then.
 pub fn read_line<R: BufRead, W: Write>(
     reader: &mut Counted<R>,
     writer: &mut Counted<W>,
@@ -75,7 +76,8 @@ pub fn line_kind(is_long: bool) -> LineRead
 
 /// What stands before the end of the input: a line without a line feed, or none.
 pub fn heard_at_end(held: &[u8], is_long: bool) -> LineRead
-    ensures { result ≡ (if is_long then LineRead.Long else if length held.now == 0 then LineRead.End else LineRead.Line) }
+    ensures { result
+        ≡ (if is_long then LineRead.Long else if length held.now == 0 then LineRead.End else LineRead.Line) }
 {
     if is_long {
         LineRead::Long

@@ -7,8 +7,9 @@
 //!   which end failed. What raises the count is private to the module `counted`.
 //! - `FuseReader`: a reader for tests, which fails before a line.
 //! - `part` and `input`: a line is read a part at a time, in one buffer whatever its length.
-//! - `read_line`, `put_reply`, `put_bytes`, `flush_unless`: what another loop over lines is made of, as `driver` has one;
-//!   `fill`, `Part`, `line_kind`, `heard_at_end`, `read_heard`: what a loop is made of that reads a line in parts.
+//! - `read_line`, `put_reply`, `put_bytes`, `flush_unless`: what another loop over lines is made of, as `driver` has
+//!   one; `fill`, `Part`, `line_kind`, `heard_at_end`, `read_heard`: what a loop is made of that reads a line in
+//!   parts.
 //! - `read_step`, `write_reply` and `LineFault` are those of `forms`: what one line means.
 //!
 //! A line ends at a line feed, which is no part of it; what follows the last line feed is a line

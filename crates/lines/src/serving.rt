@@ -1,6 +1,7 @@
 //! Serving.
 
-ghost use Rattle.std.specs.Prelude.{◌≡◌, ◌≢◌, ◌<◌, ◌≤◌, ℕ, List, [], IfErr, IfOk, OnOk, OnErr, All, length, vec_capacity, Some};
+ghost use Rattle.std.specs.Prelude.{◌≡◌, ◌≢◌, ◌<◌, ◌≤◌, ℕ, List, [], IfErr, IfOk, OnOk, OnErr, All, length};
+ghost use Rattle.std.specs.Prelude.{vec_capacity, Some};
 ghost use Rattle.std.specs.Io.KnownBytes.{Appends};
 ghost use Rattle.model.specs.Failures.{HasRisen};
 ghost use Rattle.model.specs.declared.replies.Reply.{Reply as ReplyOf};
@@ -11,7 +12,9 @@ ghost use Rattle.model.specs.declared.replies.Who.TheVariants.{Caller};
 ghost use Rattle.book.specs.Entries.{IsEntered};
 ghost use Rattle.book.specs.Standing.{Carries, EntersHonestly, IsHostOf};
 ghost use Rattle.lines.specs.Doing.{DoesBy, TakesSteps};
-ghost use Rattle.lines.specs.Serving.{AnsweredLineBy, Serves, EntersEach, HostServes, IsRemembered, reply_line, reply_upon, ServedAll, ServedAllBy, ServedSome, ServedSomeBy, ServesBy, Took, Broken};
+ghost use Rattle.lines.specs.Serving.{AnsweredLineBy, Serves, EntersEach, HostServes, IsRemembered, reply_line};
+ghost use Rattle.lines.specs.Serving.{reply_upon, ServedAll, ServedAllBy, ServedSome, ServedSomeBy, ServesBy, Took};
+ghost use Rattle.lines.specs.Serving.{Broken};
 
 use crate::counted::Counted;
 use crate::fault::ServeFault;
@@ -63,8 +66,8 @@ pub fn serve<R: BufRead, W: Write, H: Handler, S: Store>(
     )
 }
 
-/// The same by a host: whichever book it stood for before, what is written are the replies of that book, and the host then
-/// stands for the book after them.
+/// The same by a host: whichever book it stood for before, what is written are the replies of that book, and the host
+/// then stands for the book after them.
 pub fn serve_host<R: BufRead, W: Write, H: Handler, S: Store>(
     alloc: Global,
     reader: &mut Counted<R>,
@@ -87,7 +90,8 @@ pub fn serve_host<R: BufRead, W: Write, H: Handler, S: Store>(
         writer,
         host,
         &|host: &mut Host<H, S>, step: Step| -> Reply
-            ensures { (who : WhoOf) → Carries (IsHostOf H.meaning) (EntersHonestly H.meaning who step result) host.entry.now host.exit.now }
+            ensures { (who : WhoOf) → Carries (IsHostOf H.meaning)
+                (EntersHonestly H.meaning who step result) host.entry.now host.exit.now }
         { host.step(step) },
     )
 }

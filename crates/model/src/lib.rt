@@ -4,8 +4,8 @@
 //! What they mean is defined in `specs/`: the graph of state intervals (`Nodes`), the world of one
 //! tenant (`World`), what each step answers and leaves (`Steps`), a tenant alone (`Alone`), runs
 //! without failures (`FailureFree`), histories of all tenants (`History`), the records that a store
-//! is given (`Records`), what is kept of a tenant's past (`Keeping`) and the sample handler (`Sample`). The worked examples are computed in
-//! `proofs/Rows`. `proofs/Places` has small lemmas that the crates above share.
+//! is given (`Records`), what is kept of a tenant's past (`Keeping`) and the sample handler (`Sample`). The worked
+//! examples are computed in `proofs/Rows`. `proofs/Places` has small lemmas that the crates above share.
 #![tactic(auto)]
 
 mod fault;

@@ -1,6 +1,7 @@
 //! Texts and lists that contracts see by their content.
 
-ghost use Rattle.std.specs.Prelude.{◌≡◌, ◌+◌, ◌<◌, ◌^◌, ℕ, List, Some, None, if◌then◌else◌, IfOk, IfSome, length, string_bytes};
+ghost use Rattle.std.specs.Prelude.{◌≡◌, ◌+◌, ◌<◌, ◌^◌, ℕ, List, Some, None, if◌then◌else◌, IfOk, IfSome, length};
+ghost use Rattle.std.specs.Prelude.{string_bytes};
 ghost use Rattle.std.specs.List.{list_all};
 ghost use Rattle.std.specs.Str.{bytes_eq};
 ghost use Rattle.std.proofs.Common.{rules};
@@ -146,8 +147,8 @@ impl Text {
         Ok(Text { storage })
     }
 
-    /// Gives its place up for the other's, where it is long and has the same bytes: then both share one. It stays the same
-    /// text, and this takes no memory.
+    /// Gives its place up for the other's, where it is long and has the same bytes: then both share one. It stays the
+    /// same text, and this takes no memory.
     #[inline(always)]
     pub fn share_with(&mut self, other: &Text)
         ensures { self.new ≡ self.old }
@@ -175,7 +176,8 @@ impl Eq for Text {
     ghost laws = { Prim.search (comparing, rules) };
 }
 
-/// A list of texts, seen as the list of their bytes. Copies share one place in memory, which goes with the last of them.
+/// A list of texts, seen as the list of their bytes. Copies share one place in memory, which goes with the last of
+/// them.
 #[derive(Debug, Drop)]
 pub struct Texts {
     texts: ArcSlice<Text>,
@@ -255,8 +257,8 @@ impl Eq for Texts {
     ghost laws = { Prim.search (comparing, rules) };
 }
 
-/// A list of letters, seen as the list of their numbers. A short one lies in the value itself; copies of any other share
-/// one place in memory, which goes with the last of them.
+/// A list of letters, seen as the list of their numbers. A short one lies in the value itself; copies of any other
+/// share one place in memory, which goes with the last of them.
 #[derive(Debug, Drop)]
 pub struct Letters {
     letters: ShortList<Letter>,

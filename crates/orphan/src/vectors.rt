@@ -94,7 +94,8 @@ pub fn count_unstable(marks: &[Mark], table: &StartTable, stable_lengths: &[u64]
 }
 
 /// Whether some entry is lost, or does not stand within the unit's stable length, for a vector's marks, unit 0 first.
-/// There is a stable length for each entry. Takes no memory, and a constant time for each entry up to the first such one.
+/// There is a stable length for each entry. Takes no memory, and a constant time for each entry up to the first such
+/// one.
 pub fn any_unstable(marks: &[Mark], table: &StartTable, stable_lengths: &[u64]) -> bool
     requires few { length marks.now ≤ 256 }
     requires given { length marks.now ≤ length stable_lengths.now }

@@ -17,7 +17,8 @@ fn incarnation_bits(marks: &[Mark]) -> u32
     bits
 }
 
-/// Whether a mark is of a later incarnation than the first. All are looked at: to stop at the first such one takes longer.
+/// Whether a mark is of a later incarnation than the first. All are looked at: to stop at the first such one takes
+/// longer.
 fn any_later(marks: &[Mark]) -> bool
     ensures { result ≡ list_any (λ g. not (g.incarnation == 0)) marks.now }
 {

@@ -1,6 +1,7 @@
 //! The outputs of a unit that wait.
 
-ghost use Rattle.std.specs.Prelude.{◌≡◌, ◌+◌, ◌-◌, ◌<◌, ◌≤◌, ◌∷◌, [], ◌++◌, IfOk, MatchOption, OnErr, Some, true, false, length, drop, nat_lt, slice_get, None};
+ghost use Rattle.std.specs.Prelude.{◌≡◌, ◌+◌, ◌-◌, ◌<◌, ◌≤◌, ◌∷◌, [], ◌++◌, IfOk, MatchOption, OnErr, Some, true};
+ghost use Rattle.std.specs.Prelude.{false, length, drop, nat_lt, slice_get, None};
 ghost use Rattle.std.specs.List.{prefix_len};
 ghost use Rattle.std.specs.VecDeque.{deque_capacity, deque_len};
 ghost use Rattle.output_commit.specs.Holds.{held_below, front_is_firm as is_front_firm, held_of};

@@ -1,6 +1,7 @@
 //! What left.
 
-ghost use Rattle.std.specs.Prelude.{◌≡◌, ◌+◌, ◌<◌, ◌≤◌, ◌∷◌, [], ◌++◌, IfErr, IfOk, IsOk, OnErr, OnOk, length, max, vec_capacity, vec_len, ◌≢◌, ℕ};
+ghost use Rattle.std.specs.Prelude.{◌≡◌, ◌+◌, ◌<◌, ◌≤◌, ◌∷◌, [], ◌++◌, IfErr, IfOk, IsOk, OnErr, OnOk, length, max};
+ghost use Rattle.std.specs.Prelude.{vec_capacity, vec_len, ◌≢◌, ℕ};
 ghost use Rattle.output_commit.specs.Holds.{IsOut, gone_of, line_of, line_texts, room_of};
 
 use crate::held::Held;

@@ -1,7 +1,8 @@
 //! Texts that bring an image.
 
 ghost use Rattle.std.specs.Prelude.{◌≡◌, ◌≤◌, IfOk, true, false, [], ◌∷◌, codes};
-ghost use Rattle.programs.specs.Loading.{saying, is_mark, begins_image, is_part, collected, installed, with_bytes, with_part, loading};
+ghost use Rattle.programs.specs.Loading.{saying, is_mark, begins_image, is_part, collected, installed, with_bytes};
+ghost use Rattle.programs.specs.Loading.{with_part, loading};
 ghost use Rattle.model.specs.declared.names.Source.TheVariants.{Outside};
 ghost use Rattle.base64.specs.Engines.{standard};
 ghost use Rattle.base64.specs.GeneralPurpose.{decode_of};
@@ -48,8 +49,8 @@ fn is_mark(first: u8) -> bool
     first == 43 || first == 61
 }
 
-/// Whether a text from outside is a part of an image: one that is marked as such, where there is no program, where an image
-/// has begun, or where one begins with it.
+/// Whether a text from outside is a part of an image: one that is marked as such, where there is no program, where an
+/// image has begun, or where one begins with it.
 pub(crate) fn is_part(process: &Process, text: &str) -> bool
     ensures { result ≡ is_part process.now Outside text.now }
 {

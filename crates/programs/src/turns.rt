@@ -83,7 +83,8 @@ fn give_up(alloc: Global, process: &Process, ending: Ending) -> Result<Turn<Proc
 
 /// The turn of a machine that stands at the beginning of one.
 fn run_from(alloc: Global, process: &Process, machine: Machine) -> Result<Turn<Process>, NoMemory>
-    ensures { IfOk result (λ t. t ≡ turn_of process.now (run 1000000 (record { machine = machine; sends = []; outputs = [] }))) }
+    ensures { IfOk result
+        (λ t. t ≡ turn_of process.now (run 1000000 (record { machine = machine; sends = []; outputs = [] }))) }
 {
     match Course::new(alloc, machine).run(alloc) {
         Ok(course) => finish(alloc, process, course),

@@ -4,7 +4,8 @@
 //! of `forms`, and take its way where a line is none of the quick ones.
 //!
 //! - `read_step` (`steps`): the step that a line is; quick are `post`, `deliver`, `join` and the steps that name a
-//!   tenant and a unit alone, with whole numbers, and their keys in any order. Those in their shortest form (`shortest`)
+//!   tenant and a unit alone, with whole numbers, and their keys in any order. Those in their shortest form
+//! (`shortest`)
 //!   are compared with it.
 //! - `write_reply` (`replies`): the line that tells a reply, put behind what a buffer holds: the words of its text, and
 //!   its numbers, names and texts between them.

@@ -1,15 +1,18 @@
 //! The step of a line, token by token.
 
-ghost use Rattle.std.specs.Prelude.{◌≡◌, ◌<◌, ℕ, ◌∷◌, codes, length, Some, None, Err, IfOk, IfSome, IsTrue, IsUtf8, MatchBool, MatchOption, OnOk, slice_index, ◌==◌};
+ghost use Rattle.std.specs.Prelude.{◌≡◌, ◌<◌, ℕ, ◌∷◌, codes, length, Some, None, Err, IfOk, IfSome, IsTrue, IsUtf8};
+ghost use Rattle.std.specs.Prelude.{MatchBool, MatchOption, OnOk, slice_index, ◌==◌};
 ghost use Rattle.json.specs.Json as grammar;
 ghost use Rattle.json.specs.Lex.{tokens};
 ghost use Rattle.json.specs.Token.Token.{begin_object};
 ghost use Rattle.json.specs.Word.{is_space as is_space_of};
-ghost use Rattle.serde_json.specs.Data.{Data, unsigned, number as of_number, string, object as object_data, put, no_members};
+ghost use Rattle.serde_json.specs.Data.{Data, unsigned, number as of_number, string, object as object_data, put};
+ghost use Rattle.serde_json.specs.Data.{no_members};
 ghost use Rattle.serde_json.specs.Read.{number_of, of_json, of_members, converted};
 ghost use Rattle.forms.specs.Reading.{Gives, step_of, step_of_line};
 ghost use Rattle.forms.specs.declared.fault.LineFault as LineFault;
-ghost use Rattle.quick_forms.specs.Seen.{seen_members, read_tokens, step_of_tokens, whole_data, post_data, deliver_data, join_data, place_data};
+ghost use Rattle.quick_forms.specs.Seen.{seen_members, read_tokens, step_of_tokens, whole_data, post_data};
+ghost use Rattle.quick_forms.specs.Seen.{deliver_data, join_data, place_data};
 
 use crate::shortest::shortest;
 use fast_float::Numeral;
@@ -18,7 +21,8 @@ use json::{Invalid, Reader, Scratch, Token};
 use model::{Letter, MAX_INDEX, NoMemory, Step, TenantName, Text, Unit};
 use std::alloc::Global;
 
-/// From how many bytes on many are looked at together. Of fewer the standard library tells as fast, with less around it.
+/// From how many bytes on many are looked at together. Of fewer the standard library tells as fast, with less around
+/// it.
 const FEW_BYTES: usize = 64;
 
 /// The last value of each key so far.

@@ -62,8 +62,8 @@ pub fn add_remedies(text: &mut String, steps: &[Remedy]) -> Result<(), NoMemory>
     Ok(())
 }
 
-/// What the first output waits for that a release of the unit left behind, and what would help, in one sentence; none where
-/// it left nothing.
+/// What the first output waits for that a release of the unit left behind, and what would help, in one sentence; none
+/// where it left nothing.
 ///
 /// # Errors
 ///

@@ -12,9 +12,9 @@ use std::alloc::Global;
 /// What would help where there was no memory.
 const MEMORY: &str = "there was no memory: give it again";
 
-/// Why a line was refused, and what would help, in one sentence: `post: unit 3 is down: restart it first`. The line has no
-/// line feed at its end. Of a line that is too long its first 65,537 bytes are enough. `kinds` are those that the handler
-/// knows: of an unknown one they are told.
+/// Why a line was refused, and what would help, in one sentence: `post: unit 3 is down: restart it first`. The line
+/// has no line feed at its end. Of a line that is too long its first 65,537 bytes are enough. `kinds` are those that
+/// the handler knows: of an unknown one they are told.
 ///
 /// # Errors
 ///

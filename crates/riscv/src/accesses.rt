@@ -104,7 +104,9 @@ pub(crate) fn load(
     offset: u32,
 ) -> Result<(), Apart>
     requires { counter.old % 4 ≡ 0 }
-    ensures does { Does result (executed (machine_of registers.old counter.old memory.now) (Instruction.Load reading rd rs1 offset)) (machine_of registers.old counter.old memory.now) registers.new counter.new }
+    ensures does { Does result
+        (executed (machine_of registers.old counter.old memory.now) (Instruction.Load reading rd rs1 offset))
+        (machine_of registers.old counter.old memory.now) registers.new counter.new }
     ensures aligned { OnOk result (counter.new % 4 ≡ 0) }
     ensures read { result ≢ Err Apart.Unread }
 {

@@ -2,7 +2,8 @@
 
 ghost use Rattle.std.specs.Prelude.{◌≡◌, ◌/◌, ◌*◌, ◌%◌, ◌<◌, ◌^◌, int_lt, int_div, pos};
 ghost use Rattle.std.specs.Int.{int_shr};
-ghost use Rattle.riscv.specs.Arithmetic.{signed, unsigned, flag, upper_product, quotient, remainder, quotient_unsigned, remainder_unsigned, value_of, is_taken};
+ghost use Rattle.riscv.specs.Arithmetic.{signed, unsigned, flag, upper_product, quotient, remainder, quotient_unsigned};
+ghost use Rattle.riscv.specs.Arithmetic.{remainder_unsigned, value_of, is_taken};
 
 use crate::instruction::{Comparison, Operation};
 

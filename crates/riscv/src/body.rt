@@ -25,8 +25,8 @@ fn zeros() -> &'static [u32]
 
 /// 1,024 words, seen as their list. Copies share one place, until one of them is written.
 ///
-/// Beside the words it keeps what those say that were carried out. A word that is written over is forgotten, and the others stay,
-/// since data and code may lie in one page.
+/// Beside the words it keeps what those say that were carried out. A word that is written over is forgotten, and the
+/// others stay, since data and code may lie in one page.
 #[derive(Debug, Drop)]
 pub(crate) struct Body {
     words: Storage<u32>,

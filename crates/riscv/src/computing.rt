@@ -1,5 +1,5 @@
-//! The instructions that compute, and those that jump. Each form is one function that takes what it computes or compares as a
-//! word of its own; where that is a constant, nothing of the others is left in the program.
+//! The instructions that compute, and those that jump. Each form is one function that takes what it computes or
+//! compares as a word of its own; where that is a constant, nothing of the others is left in the program.
 
 ghost use Rattle.std.specs.Prelude.{◌≡◌, ◌≢◌, ◌%◌, Ok, Err, OnOk, slice_index};
 ghost use Rattle.riscv.specs.Arithmetic.{value_of};
@@ -66,7 +66,8 @@ pub(crate) fn op_imm(
     rs1: Register,
     n: u32,
 ) -> Result<(), Apart>
-    ensures value { registers.new ≡ with_register registers.old rd (value_of operation (slice_index registers.old rs1) n) }
+    ensures value { registers.new
+        ≡ with_register registers.old rd (value_of operation (slice_index registers.old rs1) n) }
     ensures next { counter.new ≡ plus counter.old 4 }
     ensures ok { result ≡ Ok tt }
 {
@@ -84,7 +85,8 @@ pub(crate) fn op(
     rs1: Register,
     rs2: Register,
 ) -> Result<(), Apart>
-    ensures value { registers.new ≡ with_register registers.old rd (value_of operation (slice_index registers.old rs1) (slice_index registers.old rs2)) }
+    ensures value { registers.new ≡ with_register registers.old rd
+        (value_of operation (slice_index registers.old rs1) (slice_index registers.old rs2)) }
     ensures next { counter.new ≡ plus counter.old 4 }
     ensures ok { result ≡ Ok tt }
 {
@@ -116,7 +118,8 @@ fn put_apart(
     rs1: Register,
     rs2: Register,
 )
-    ensures { registers.new ≡ with_register registers.old rd (value_of operation (slice_index registers.old rs1) (slice_index registers.old rs2)) }
+    ensures { registers.new ≡ with_register registers.old rd
+        (value_of operation (slice_index registers.old rs1) (slice_index registers.old rs2)) }
 {
     let value = operate(operation, read(registers, rs1), read(registers, rs2));
     put(registers, rd, value);
@@ -132,7 +135,8 @@ pub(crate) fn op_imm_apart(
     rs1: Register,
     n: u32,
 ) -> Result<(), Apart>
-    ensures value { registers.new ≡ with_register registers.old rd (value_of operation (slice_index registers.old rs1) n) }
+    ensures value { registers.new
+        ≡ with_register registers.old rd (value_of operation (slice_index registers.old rs1) n) }
     ensures next { counter.new ≡ plus counter.old 4 }
     ensures ok { result ≡ Ok tt }
 {
@@ -151,7 +155,8 @@ pub(crate) fn op_apart(
     rs1: Register,
     rs2: Register,
 ) -> Result<(), Apart>
-    ensures value { registers.new ≡ with_register registers.old rd (value_of operation (slice_index registers.old rs1) (slice_index registers.old rs2)) }
+    ensures value { registers.new ≡ with_register registers.old rd
+        (value_of operation (slice_index registers.old rs1) (slice_index registers.old rs2)) }
     ensures next { counter.new ≡ plus counter.old 4 }
     ensures ok { result ≡ Ok tt }
 {
@@ -163,7 +168,8 @@ pub(crate) fn op_apart(
 /// Jumps, with the address of the next instruction in a register.
 #[inline(always)]
 fn link(registers: &mut [u32; 32], counter: &mut u32, rd: Register, to: u32) -> Result<(), Apart>
-    ensures does { (memory : Words) → Does result (linked (machine_of registers.old counter.old memory) rd to) (machine_of registers.old counter.old memory) registers.new counter.new }
+    ensures does { (memory : Words) → Does result (linked (machine_of registers.old counter.old memory) rd to)
+        (machine_of registers.old counter.old memory) registers.new counter.new }
     ensures aligned { OnOk result (counter.new % 4 ≡ 0) }
     ensures read { result ≢ Err Apart.Unread }
 {
@@ -182,7 +188,9 @@ pub(crate) fn jal(
     rd: Register,
     offset: u32,
 ) -> Result<(), Apart>
-    ensures does { (memory : Words) → Does result (executed (machine_of registers.old counter.old memory) (Instruction.Jal rd offset)) (machine_of registers.old counter.old memory) registers.new counter.new }
+    ensures does { (memory : Words)
+        → Does result (executed (machine_of registers.old counter.old memory) (Instruction.Jal rd offset))
+        (machine_of registers.old counter.old memory) registers.new counter.new }
     ensures aligned { OnOk result (counter.new % 4 ≡ 0) }
     ensures read { result ≢ Err Apart.Unread }
 {
@@ -200,7 +208,9 @@ pub(crate) fn jalr(
     rs1: Register,
     offset: u32,
 ) -> Result<(), Apart>
-    ensures does { (memory : Words) → Does result (executed (machine_of registers.old counter.old memory) (Instruction.Jalr rd rs1 offset)) (machine_of registers.old counter.old memory) registers.new counter.new }
+    ensures does { (memory : Words)
+        → Does result (executed (machine_of registers.old counter.old memory) (Instruction.Jalr rd rs1 offset))
+        (machine_of registers.old counter.old memory) registers.new counter.new }
     ensures aligned { OnOk result (counter.new % 4 ≡ 0) }
     ensures read { result ≢ Err Apart.Unread }
 {
@@ -220,7 +230,9 @@ pub(crate) fn branch(
     offset: u32,
 ) -> Result<(), Apart>
     requires { counter.old % 4 ≡ 0 }
-    ensures does { (memory : Words) → Does result (executed (machine_of registers.now counter.old memory) (Instruction.Branch comparison rs1 rs2 offset)) (machine_of registers.now counter.old memory) registers.now counter.new }
+    ensures does { (memory : Words) → Does result
+        (executed (machine_of registers.now counter.old memory) (Instruction.Branch comparison rs1 rs2 offset))
+        (machine_of registers.now counter.old memory) registers.now counter.new }
     ensures aligned { OnOk result (counter.new % 4 ≡ 0) }
     ensures read { result ≢ Err Apart.Unread }
 {

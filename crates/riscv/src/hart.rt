@@ -17,8 +17,8 @@ use crate::instruction::{Comparison, Operation, Reading, Writing};
 use crate::memory::Memory;
 use crate::predecoded::Predecoded;
 
-/// Carries out an instruction, if the registers and reads of the memory are enough for it, and goes on to the instruction that comes.
-/// Each line is one of the manual's: all of them stand here, so that one jump leads to each.
+/// Carries out an instruction, if the registers and reads of the memory are enough for it, and goes on to the
+/// instruction that comes. Each line is one of the manual's: all of them stand here, so that one jump leads to each.
 #[tactic(auto, unfolding(crate::specs::Machines::executed))]
 #[inline(always)]
 pub(crate) fn pass(
@@ -28,7 +28,9 @@ pub(crate) fn pass(
     instruction: &Predecoded,
 ) -> Result<(), Apart>
     requires { counter.old % 4 ≡ 0 }
-    ensures does { instruction.now ≢ Predecoded.Unread → Does result (decoded (machine_of registers.old counter.old memory.now) (meaning instruction.now)) (machine_of registers.old counter.old memory.now) registers.new counter.new }
+    ensures does { instruction.now ≢ Predecoded.Unread
+        → Does result (decoded (machine_of registers.old counter.old memory.now) (meaning instruction.now))
+        (machine_of registers.old counter.old memory.now) registers.new counter.new }
     ensures unread { instruction.now ≡ Predecoded.Unread → result ≡ Err Apart.Unread }
     ensures kept { result ≡ Err Apart.Unread → (registers.new ≡ registers.old) × (counter.new ≡ counter.old) }
     ensures aligned { OnOk result (counter.new % 4 ≡ 0) }
@@ -93,8 +95,8 @@ pub(crate) struct Pause {
     pub(crate) apart: Option<Apart>,
 }
 
-/// Carries out instructions of one page, at most so many, the first of which is at hand: what its words say is kept, so none is
-/// looked for.
+/// Carries out instructions of one page, at most so many, the first of which is at hand: what its words say is kept,
+/// so none is looked for.
 #[inline(always)]
 pub(crate) fn pass_within(
     registers: &mut [u32; 32],
@@ -110,7 +112,8 @@ pub(crate) fn pass_within(
     requires within { from < 262144 }
     requires says { 1 < most → Says code.now memory.now from }
     requires some { 0 < most }
-    ensures { Pauses result.left most result.apart (machine_of registers.old from memory.now) (machine_of registers.new result.counter memory.now) }
+    ensures { Pauses result.left most result.apart (machine_of registers.old from memory.now)
+        (machine_of registers.new result.counter memory.now) }
 {
     let page = from / 4096;
     let mut counter = from;

@@ -1,7 +1,8 @@
 //! What follows from the definitions: each law is the contract of a function that does nothing, by the
 //! words of the contracts of `decode` and `Machine::step`. The statements stand in `specs/Laws`.
 
-ghost use Rattle.riscv.specs.Laws.{WordsAreBytes, ZeroStaysZero, UnsignedDivides, SignedDivides, BytesAreKept, HalvesAreKept, WordsAreKept, OperandsAreFields};
+ghost use Rattle.riscv.specs.Laws.{WordsAreBytes, ZeroStaysZero, UnsignedDivides, SignedDivides, BytesAreKept};
+ghost use Rattle.riscv.specs.Laws.{HalvesAreKept, WordsAreKept, OperandsAreFields};
 
 /// The bytes of an aligned word lie one behind the other, the lowest first.
 pub fn words_are_bytes()
@@ -30,8 +31,8 @@ pub fn stores_are_kept()
     ensures words { WordsAreKept }
 {}
 
-/// The operands of a decoded instruction are those of the word: its registers are the fields of the word, and its immediate
-/// is in the range of its format.
+/// The operands of a decoded instruction are those of the word: its registers are the fields of the word, and its
+/// immediate is in the range of its format.
 pub fn operands_are_fields()
     ensures { OperandsAreFields }
 {}

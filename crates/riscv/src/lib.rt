@@ -12,8 +12,8 @@
 //! - `words_are_bytes` and the functions beside it: laws that follow from the definitions.
 //!
 //! `specs/` says in the manual's terms what a step is: `Decoding`, `Arithmetic`, `Memories` and
-//! `Machines`. `Machine::step` makes just that step, and `Machine::run` makes such steps, so a program runs alike wherever
-//! it is run again.
+//! `Machines`. `Machine::step` makes just that step, and `Machine::run` makes such steps, so a program runs alike
+//! wherever it is run again.
 //!
 //! For the writer of a handler whose units run programs. A caller:
 //!

@@ -34,7 +34,8 @@ pub struct Ran {
 #[cold]
 #[inline(never)]
 fn fetch_exception(counter: u32) -> Exception
-    ensures { result ≡ (if counter % 4 == 0 then Exception.InstructionAccessFault else Exception.InstructionAddressMisaligned) }
+    ensures { result
+        ≡ (if counter % 4 == 0 then Exception.InstructionAccessFault else Exception.InstructionAddressMisaligned) }
 {
     if counter % 4 != 0 {
         Exception::InstructionAddressMisaligned

@@ -7,7 +7,8 @@ ghost use Rattle.riscv.specs.Decoding.{instruction_of};
 ghost use Rattle.riscv.specs.Predecoding.{meaning};
 ghost use Rattle.riscv.specs.Harts.{Says};
 ghost use Rattle.riscv.specs.Bytes.{byte_in, half_in, with_byte, with_half};
-ghost use Rattle.riscv.specs.Memories.{pages_equal, zeros, byte_at, half_at, word_at, put_byte, put_half, put_word, bytes_from, put_bytes};
+ghost use Rattle.riscv.specs.Memories.{pages_equal, zeros, byte_at, half_at, word_at, put_byte, put_half, put_word};
+ghost use Rattle.riscv.specs.Memories.{bytes_from, put_bytes};
 
 use crate::page::Page;
 use crate::predecoded::{Predecoded, predecode};

@@ -35,7 +35,8 @@ pub(crate) fn next(counter: u32) -> u32
 /// Jumps.
 #[inline(always)]
 pub(crate) fn jump(counter: &mut u32, to: u32) -> Result<(), Apart>
-    ensures result { result ≡ (if to % 4 == 0 then Ok tt else Err (Apart.Raised Exception.InstructionAddressMisaligned)) }
+    ensures result { result
+        ≡ (if to % 4 == 0 then Ok tt else Err (Apart.Raised Exception.InstructionAddressMisaligned)) }
     ensures counter { counter.new ≡ (if to % 4 == 0 then to else counter.old) }
 {
     if to % 4 == 0 {

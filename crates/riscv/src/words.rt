@@ -1,7 +1,11 @@
 //! Words as instructions: the formats and tables of the manual.
 
 ghost use Rattle.std.specs.Prelude.{◌≡◌, ◌+◌, ◌<◌, ◌^◌};
-ghost use Rattle.riscv.specs.Decoding.{bits, extended, opcode, rd, funct3, rs1, rs2, funct7, immediate_i, immediate_s, immediate_b, immediate_u, immediate_j, comparison_at, reading_at, writing_at, base_operation, multiply_operation, other_operation, operation_at, immediate_operation, branch_of, load_of, store_of, immediate_of, register_of, jump_of, fence_of, system_of, instruction_of};
+ghost use Rattle.riscv.specs.Decoding.{bits, extended, opcode, rd, funct3, rs1, rs2, funct7, immediate_i, immediate_s};
+ghost use Rattle.riscv.specs.Decoding.{immediate_b, immediate_u, immediate_j, comparison_at, reading_at, writing_at};
+ghost use Rattle.riscv.specs.Decoding.{base_operation, multiply_operation, other_operation, operation_at};
+ghost use Rattle.riscv.specs.Decoding.{immediate_operation, branch_of, load_of, store_of, immediate_of, register_of};
+ghost use Rattle.riscv.specs.Decoding.{jump_of, fence_of, system_of, instruction_of};
 
 use crate::instruction::{Comparison, Instruction, Operation, Reading, Writing};
 use crate::register::Register;

@@ -1,6 +1,7 @@
 //! What is kept of a path: its intervals from the base on, and the records of the volatile ones.
 
-ghost use Rattle.std.specs.Prelude.{◌≡◌, ◌+◌, ◌<◌, ◌≤◌, ◌^◌, ◌∷◌, [], ◌++◌, ◌-◌, IfOk, OnErr, None, length, drop, cond, slice_index_or};
+ghost use Rattle.std.specs.Prelude.{◌≡◌, ◌+◌, ◌<◌, ◌≤◌, ◌^◌, ◌∷◌, [], ◌++◌, ◌-◌, IfOk, OnErr, None, length, drop, cond};
+ghost use Rattle.std.specs.Prelude.{slice_index_or};
 ghost use Rattle.std.specs.List.{position_or_len};
 ghost use Rattle.depvector.specs.Vectors.{begun_vector};
 ghost use Rattle.orphan.specs.Tests.{is_orphan_by};

@@ -1,6 +1,7 @@
 //! How far a unit has come.
 
-ghost use Rattle.std.specs.Prelude.{◌≡◌, ◌+◌, ◌<◌, ◌≤◌, ◌^◌, ◌↔◌, ℕ, IfOk, IsTrue, OnErr, Some, length, nat_lt, option_map};
+ghost use Rattle.std.specs.Prelude.{◌≡◌, ◌+◌, ◌<◌, ◌≤◌, ◌^◌, ◌↔◌, ℕ, IfOk, IsTrue, OnErr, Some, length, nat_lt};
+ghost use Rattle.std.specs.Prelude.{option_map};
 ghost use Rattle.std.specs.List.{filter};
 ghost use Rattle.session.specs.Counts.{sent_to, widened_counts};
 ghost use Rattle.layer_laws.specs.Laws.{sent_all};

@@ -1,6 +1,7 @@
 //! The unit and its calls.
 
-ghost use Rattle.std.specs.Prelude.{◌≡◌, ◌+◌, ◌<◌, ◌≤◌, ◌^◌, ◌∷◌, [], ◌++◌, ◌-◌, IfOk, IfSome, IsTrue, OnErr, Some, None, option_map, ℕ, List, length, drop, take, slice_get, slice_index_or, false};
+ghost use Rattle.std.specs.Prelude.{◌≡◌, ◌+◌, ◌<◌, ◌≤◌, ◌^◌, ◌∷◌, [], ◌++◌, ◌-◌, IfOk, IfSome, IsTrue, OnErr, Some};
+ghost use Rattle.std.specs.Prelude.{None, option_map, ℕ, List, length, drop, take, slice_get, slice_index_or, false};
 ghost use Rattle.std.specs.List.{position};
 ghost use Rattle.std.specs.Option.{is_some, option_copied};
 ghost use Rattle.model.specs.declared.records.Record.{Record as RecordOf};
@@ -11,7 +12,10 @@ ghost use Rattle.session.specs.Counts.{widened_counts};
 ghost use Rattle.compact.specs.Compact.{Progress as ProgressOf};
 ghost use Rattle.compact.specs.Laws.{replayed};
 ghost use Rattle.compact.specs.Steps.{from_outside};
-ghost use Rattle.rollback.specs.Units.{asking, begun_unit, checkpointed, cut_behind, effects_of, forgotten, killed_recovering, marked_stable, places, records_to, restored, stable_places, took, widened_to, BeginsBy, CountsOutside, CountsFit, IsTarget, KeepsShelved, OrphansAreTail};
+ghost use Rattle.rollback.specs.Units.{asking, begun_unit, checkpointed, cut_behind, effects_of, forgotten};
+ghost use Rattle.rollback.specs.Units.{killed_recovering, marked_stable, places, records_to, restored, stable_places};
+ghost use Rattle.rollback.specs.Units.{took, widened_to, BeginsBy, CountsOutside, CountsFit, IsTarget, KeepsShelved};
+ghost use Rattle.rollback.specs.Units.{OrphansAreTail};
 
 use crate::effects::Effects;
 use crate::interval::Interval;

@@ -3,7 +3,10 @@
 //! stands in `specs/Seen`, the laws in `specs/Laws`.
 #![tactic(auto)]
 
-ghost use Rattle.rollback_laws.specs.Laws.{BeginningsAreSeen, CheckpointsAreSeen, FirstOrphansAreSeen, FlushesAreSeen, ForgettingIsSeen, FrontiersAreSeen, JoinsAreSeen, KillsAreSeen, LastVectorsAreSeen, MarksAreSeen, OrphansAreSeen, PlacesAreSeen, ReceiptsAreSeen, RestoresAreSeen, TurnsAreSeen, UnitsAreReady};
+ghost use Rattle.rollback_laws.specs.Laws.{BeginningsAreSeen, CheckpointsAreSeen, FirstOrphansAreSeen, FlushesAreSeen};
+ghost use Rattle.rollback_laws.specs.Laws.{ForgettingIsSeen, FrontiersAreSeen, JoinsAreSeen, KillsAreSeen};
+ghost use Rattle.rollback_laws.specs.Laws.{LastVectorsAreSeen, MarksAreSeen, OrphansAreSeen, PlacesAreSeen};
+ghost use Rattle.rollback_laws.specs.Laws.{ReceiptsAreSeen, RestoresAreSeen, TurnsAreSeen, UnitsAreReady};
 
 use handler::Handler;
 

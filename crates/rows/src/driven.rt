@@ -1,5 +1,5 @@
-//! Rows of flows that run themselves, over a store that fails: what a driver writes by a book, and by a host. Only there is
-//! something lost that a letter rests on, so that it has to wait, or is an orphan.
+//! Rows of flows that run themselves, over a store that fails: what a driver writes by a book, and by a host. Only
+//! there is something lost that a letter rests on, so that it has to wait, or is an orphan.
 
 use crate::calls::{drive_all, drive_all_by_host};
 use crate::failing::{failing_calls, is_step};

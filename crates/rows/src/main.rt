@@ -15,8 +15,8 @@
 //! A book that is done with is not let go of: the program ends soon, and the proof of what a book lets go of is long.
 //!
 //! `once NAME` does the steps of a row of `kept-` once, over a store that never fails, and tells
-//! whether some step found no memory. `book NAME` and `host NAME` print what a driver writes of a row of `driven-`, and end
-//! with an error where it didn't come to the end.
+//! whether some step found no memory. `book NAME` and `host NAME` print what a driver writes of a row of `driven-`,
+//! and end with an error where it didn't come to the end.
 #![tactic(auto)]
 
 mod answers;

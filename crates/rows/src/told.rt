@@ -1,9 +1,9 @@
 //! Rows of what a book tells.
 //!
-//! A line is a step of a caller; or `logger` and a step; or `feed`, the feed's number, the step's place in it, and a step.
-//! The lines that come out are, for each open tenant in the order of opening and for tenant `nobody`: its replies, what
-//! its units released, its rows, and the audit; then who gave each entry and how many records the store took of it; and
-//! the replies of a new book that runs the same steps at once.
+//! A line is a step of a caller; or `logger` and a step; or `feed`, the feed's number, the step's place in it, and a
+//! step. The lines that come out are, for each open tenant in the order of opening and for tenant `nobody`: its
+//! replies, what its units released, its rows, and the audit; then who gave each entry and how many records the store
+//! took of it; and the replies of a new book that runs the same steps at once.
 
 use crate::answers::push_replies;
 use crate::calls::{self, Books, name_of, new_book, outcome_line, step_of};

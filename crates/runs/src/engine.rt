@@ -22,8 +22,8 @@ use words::RunWords;
 /// The status of a run that refused a line, where that is asked for.
 const REFUSED: u8 = 3;
 
-/// What steps are done on: a host, which stores no history, or a book where the run asks for what needs one: audits, and
-/// the reasons of refusals.
+/// What steps are done on: a host, which stores no history, or a book where the run asks for what needs one: audits,
+/// and the reasons of refusals.
 enum Stepped<H: Handler, S: Store> {
     Host(Host<H, S>),
     Book(Book<H, S>),
@@ -31,8 +31,8 @@ enum Stepped<H: Handler, S: Store> {
 
 /// What answers lines, and carries on behind each where that is asked for.
 ///
-/// It isn't let go of by itself: the process ends with the run, and to let go of each text would take a fifth of its time
-/// (`forget`).
+/// It isn't let go of by itself: the process ends with the run, and to let go of each text would take a fifth of its
+/// time (`forget`).
 pub(crate) struct Engine<H: Handler, S: Store> {
     stepped: Stepped<H, S>,
     driver: Option<Driver>,
@@ -70,8 +70,8 @@ impl<H: Handler, S: Store> Engine<H, S> {
         }
     }
 
-    /// Answers each line, and tells how many there were. Where `explained` is a number, a book tells why each was refused,
-    /// and so many lines came before the first.
+    /// Answers each line, and tells how many there were. Where `explained` is a number, a book tells why each was
+    /// refused, and so many lines came before the first.
     pub(crate) fn answer_all<L: Log, R: BufRead, W: Write>(
         &mut self,
         told: &L,

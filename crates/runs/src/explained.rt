@@ -1,5 +1,5 @@
-//! `run --explain` and `drive --explain`: lines are answered one by one, and each refusal is told with its reason, and each
-//! letter that waits, and what a release left behind.
+//! `run --explain` and `drive --explain`: lines are answered one by one, and each refusal is told with its reason,
+//! and each letter that waits, and what a release left behind.
 
 use crate::hosted::Hosted;
 use crate::waits::tell_news;
@@ -19,15 +19,15 @@ use std::{io, str};
 /// A line that is no longer than it may be, with its line feed.
 const WHOLE_LINE: u64 = MAX_LINE_BYTES as u64 + 1;
 
-/// How many entries of the history may be followed for a line, and for all lines together besides, to tell what a release
-/// left behind: so that takes no longer than the lines do.
+/// How many entries of the history may be followed for a line, and for all lines together besides, to tell what a
+/// release left behind: so that takes no longer than the lines do.
 const FOLLOWED: u64 = 4;
 
 const FOLLOWED_BESIDES: u64 = 1_000_000;
 
-/// Answers each line as `serve` answers it, or as `drive` does where there is a driver, and tells for each that was refused its number, why, and what would help.
-/// Each reply is out before its reason, and before the next line is read. `before` lines came before the first. Tells how
-/// many lines there were.
+/// Answers each line as `serve` answers it, or as `drive` does where there is a driver, and tells for each that was
+/// refused its number, why, and what would help. Each reply is out before its reason, and before the next line is
+/// read. `before` lines came before the first. Tells how many lines there were.
 pub(crate) fn serve_explained<L: Log, R: BufRead, W: Write, H: Handler, S: Store>(
     told: &L,
     alloc: Global,

@@ -1,5 +1,5 @@
-//! `run --journal` and `drive --journal`: the lines of the journal are stepped again, and then those of the input, each of
-//! which stands in the journal before it is stepped.
+//! `run --journal` and `drive --journal`: the lines of the journal are stepped again, and then those of the input,
+//! each of which stands in the journal before it is stepped.
 
 use crate::engine::Engine;
 use crate::hosted::Hosted;
@@ -54,9 +54,9 @@ type Input<'a, F, R> = Counted<BufReader<Journaled<NoZeros<R>, LastingFile<'a, F
 /// What writes the lines of a run.
 type Output<W> = Counted<DurableReplies<Skipping<W>>>;
 
-/// Steps the lines of the journal, answers those that were asked for, and then answers each line of the input. Tells the
-/// status to end with, as `run_on` does; 1 too where the journal fails, or where a step finds no memory: its line stands
-/// unanswered in the journal.
+/// Steps the lines of the journal, answers those that were asked for, and then answers each line of the input. Tells
+/// the status to end with, as `run_on` does; 1 too where the journal fails, or where a step finds no memory: its line
+/// stands unanswered in the journal.
 pub fn run_journaled<
     L: Log,
     F: Files<File = File>,

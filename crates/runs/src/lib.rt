@@ -1,8 +1,8 @@
 //! `run` and `drive`, for any handler: step lines in, reply lines out, and of `drive` what was released.
 //!
 //! - `run_on` (`run`): reads and writes by blocks;
-//! - `run_journaled` (`journaled_run`): the same behind a journal, thin over `durable` and `journal`, which carry their own
-//!   theorems;
+//! - `run_journaled` (`journaled_run`): the same behind a journal, thin over `durable` and `journal`, which carry
+//!   their own theorems;
 //! - `Engine`: a host, or a book where the past is asked for, thin over `serve_host` and `serve` of `lines`, and over
 //!   `drive_host` and `drive` of `driver`, which carry the theorems;
 //! - `explained`: each refusal with its reason, thin over `serve` or `drive` for each line, and over `reasons`;

@@ -14,10 +14,10 @@ use std::io::{BufReader, BufWriter, Read, Write};
 use terminal::{BLOCK, Plural};
 use words::RunWords;
 
-/// Answers each line of the input, over a store that acknowledged nothing yet, and tells the status to end with: 0 where
-/// all lines are answered, 1 after a fault of input, output or memory. Where it is asked for, each refusal is told with its
-/// reason, and each open tenant is audited after the last line; 1 too where an audit doesn't say yes, and else 3 where a
-/// line was refused, if that is asked for.
+/// Answers each line of the input, over a store that acknowledged nothing yet, and tells the status to end with: 0
+/// where all lines are answered, 1 after a fault of input, output or memory. Where it is asked for, each refusal is
+/// told with its reason, and each open tenant is audited after the last line; 1 too where an audit doesn't say yes,
+/// and else 3 where a line was refused, if that is asked for.
 pub fn run_on<L: Log, R: Read + Drop, W: Write + Drop, H: Handler + Copy, S: Store>(
     told: &L,
     alloc: Global,

@@ -3,7 +3,8 @@
 ghost use Rattle.std.specs.Prelude.{◌≡◌, ◌+◌, ◌<◌, ◌≤◌, ◌^◌, ◌↔◌, ℕ, IfOk, IsTrue, OnErr, length, slice_index_or};
 ghost use Rattle.session.specs.Arrivals.{arrival_of};
 ghost use Rattle.model.specs.Lists.{padded};
-ghost use Rattle.session.specs.Counts.{advanced, no_counts, nothing, sent_one, sent_to, taken_from, widened_counts, HasRoom, IsCounted};
+ghost use Rattle.session.specs.Counts.{advanced, no_counts, nothing, sent_one, sent_to, taken_from, widened_counts};
+ghost use Rattle.session.specs.Counts.{HasRoom, IsCounted};
 
 use crate::arrival::Arrival;
 use crate::exchange::Exchange;

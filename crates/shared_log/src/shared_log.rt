@@ -1,6 +1,7 @@
 //! The log of all tenants.
 
-ghost use Rattle.std.specs.Prelude.{◌≡◌, ◌≢◌, ◌<◌, ◌≤◌, ◌+◌, ◌++◌, ◌∷◌, [], All, IfOk, OnOk, OnErr, Some, length, slice_get, take, drop};
+ghost use Rattle.std.specs.Prelude.{◌≡◌, ◌≢◌, ◌<◌, ◌≤◌, ◌+◌, ◌++◌, ◌∷◌, [], All, IfOk, OnOk, OnErr, Some, length};
+ghost use Rattle.std.specs.Prelude.{slice_get, take, drop};
 ghost use Rattle.model.specs.Failures.{HasRisen};
 ghost use Rattle.shared_log.specs.Index.{listed, OtherLists, SameLists};
 ghost use Rattle.shared_log.specs.Logged.{places_of, AllKept, OthersKept, IsHeld, Grows, KeepsContents, emptied};

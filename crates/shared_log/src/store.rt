@@ -1,6 +1,7 @@
 //! Stores.
 
-ghost use Rattle.std.specs.Prelude.{◌≡◌, ◌≢◌, ◌<◌, ◌≤◌, ◌+◌, ◌++◌, ◌∷◌, [], IfOk, OnOk, OnErr, List, length, slice_get, slice_set, Some, None};
+ghost use Rattle.std.specs.Prelude.{◌≡◌, ◌≢◌, ◌<◌, ◌≤◌, ◌+◌, ◌++◌, ◌∷◌, [], IfOk, OnOk, OnErr, List, length, slice_get};
+ghost use Rattle.std.specs.Prelude.{slice_set, Some, None};
 ghost use Rattle.model.specs.Failures.{HasRisen};
 ghost use Rattle.shared_log.specs.Logged.{IsHeld};
 
@@ -35,8 +36,8 @@ pub trait Store: Drop {
     /// The acknowledged records, in order, and empty places for those that were forgotten.
     ghost log: { Self → List (Option Record) };
 
-    /// How often the device failed. The count stays at its greatest, where it passes as risen. A call that isn't answered
-    /// `Device` leaves it as it was, and one that is raises it by one at most: it isn't tried again.
+    /// How often the device failed. The count stays at its greatest, where it passes as risen. A call that isn't
+    /// answered `Device` leaves it as it was, and one that is raises it by one at most: it isn't tried again.
     ghost failures: { Self → ℕ };
 
     /// Keeps a record, or leaves all as it was.

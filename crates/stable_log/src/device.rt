@@ -11,7 +11,8 @@ use std::io::Write;
 use std::marker::Model;
 use written::{Failed, flush_all, put_all};
 
-/// A writer, with a count of its failures. It is open until one, and closed from then on. The count stays at its greatest.
+/// A writer, with a count of its failures. It is open until one, and closed from then on. The count stays at its
+/// greatest.
 #[derive(Drop)]
 pub(crate) struct Device<W> {
     writer: W,
@@ -87,8 +88,8 @@ impl<W> Device<W> {
 }
 
 impl<W: Write> Device<W> {
-    /// Writes all of the bytes to an open device and flushes them. Where that fails a beginning of them is written, and the
-    /// device is closed.
+    /// Writes all of the bytes to an open device and flushes them. Where that fails a beginning of them is written,
+    /// and the device is closed.
     pub(crate) fn put(&mut self, bytes: &[u8]) -> Result<(), Failed>
         requires { self.old.is_closed ≡ false }
         ensures ok { OnOk result (Appends (W.contents self.old.writer) (W.contents self.new.writer) bytes.now) }

@@ -1,6 +1,7 @@
 //! A store that fails.
 
-ghost use Rattle.std.specs.Prelude.{◌≡◌, ◌≢◌, ◌<◌, ◌≤◌, ◌+◌, ◌-◌, ◌^◌, ◌++◌, ◌∷◌, [], IfOk, OnOk, OnErr, None, length, slice_get, slice_set, Some, true, false};
+ghost use Rattle.std.specs.Prelude.{◌≡◌, ◌≢◌, ◌<◌, ◌≤◌, ◌+◌, ◌-◌, ◌^◌, ◌++◌, ◌∷◌, [], IfOk, OnOk, OnErr, None, length};
+ghost use Rattle.std.specs.Prelude.{slice_get, slice_set, Some, true, false};
 ghost use Rattle.model.specs.Failures.{HasRisen};
 ghost use Rattle.shared_log.specs.Logged.{IsHeld};
 ghost use Rattle.stable_log.specs.Fuses.{is_one_of};

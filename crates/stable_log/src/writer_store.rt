@@ -1,6 +1,7 @@
 //! A store that writes its records.
 
-ghost use Rattle.std.specs.Prelude.{◌≡◌, ◌≢◌, ◌<◌, ◌≤◌, ◌+◌, ◌++◌, ◌∷◌, [], IfOk, OnOk, OnErr, None, length, slice_get, slice_set, string_bytes, Some, true, false};
+ghost use Rattle.std.specs.Prelude.{◌≡◌, ◌≢◌, ◌<◌, ◌≤◌, ◌+◌, ◌++◌, ◌∷◌, [], IfOk, OnOk, OnErr, None, length, slice_get};
+ghost use Rattle.std.specs.Prelude.{slice_set, string_bytes, Some, true, false};
 ghost use Rattle.std.specs.Io.KnownBytes.{Appends, Keeps};
 ghost use Rattle.model.specs.Failures.{HasRisen};
 ghost use Rattle.written.specs.Beginnings.{AppendsBeginning};

@@ -1,7 +1,8 @@
 //! Callers of the small crates, each of some ten lines: what the first page of a crate shows stands here, and is
 //! proved.
 
-ghost use Rattle.std.specs.Prelude.{◌≡◌, ◌++◌, ◌∷◌, ◌<◌, ◌≤◌, ◌&&◌, [], IfOk, IsTrue, OnErr, length, not, slice_set, take};
+ghost use Rattle.std.specs.Prelude.{◌≡◌, ◌++◌, ◌∷◌, ◌<◌, ◌≤◌, ◌&&◌, [], IfOk, IsTrue, OnErr, length, not, slice_set};
+ghost use Rattle.std.specs.Prelude.{take};
 ghost use Rattle.std.specs.Option.{option_map_or};
 ghost use Rattle.checkpoint.specs.Shelves.{nearest_of};
 ghost use Rattle.depvector.specs.Vectors.{joined};

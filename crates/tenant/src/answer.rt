@@ -88,8 +88,8 @@ impl Answer {
     }
 }
 
-/// The answer to a receipt, in few bytes until it is given: the mark of the new interval, the outputs then held, and the
-/// letters that it made, twice.
+/// The answer to a receipt, in few bytes until it is given: the mark of the new interval, the outputs then held, and
+/// the letters that it made, twice.
 #[derive(Drop)]
 pub(crate) struct Acceptance {
     at: Mark,

@@ -1,6 +1,7 @@
 //! The step `checkpoint`.
 
-ghost use Rattle.std.specs.Prelude.{◌≡◌, ◌≤◌, ◌<◌, IfOk, List, OnErr, Some, bytes_eq, false, length, slice_get, slice_set, ℕ};
+ghost use Rattle.std.specs.Prelude.{◌≡◌, ◌≤◌, ◌<◌, IfOk, List, OnErr, Some, bytes_eq, false, length, slice_get};
+ghost use Rattle.std.specs.Prelude.{slice_set, ℕ};
 ghost use Rattle.model.specs.World.{World};
 ghost use Rattle.model.specs.declared.steps.TenantStep.TheVariants.{Checkpoint};
 ghost use Rattle.tenant.specs.Keeping.{KeepsOn};
@@ -54,8 +55,8 @@ impl<H: Handler> Tenant<H> {
         Ok(())
     }
 
-    /// Shelves a snapshot of a unit that is up and has nothing volatile, from which it can go back later. Then each unit
-    /// forgets what is firm for good.
+    /// Shelves a snapshot of a unit that is up and has nothing volatile, from which it can go back later. Then each
+    /// unit forgets what is firm for good.
     ///
     /// # Errors
     ///

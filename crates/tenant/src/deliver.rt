@@ -1,6 +1,7 @@
 //! The step `deliver`.
 
-ghost use Rattle.std.specs.Prelude.{◌≡◌, ◌<◌, ◌^◌, ℕ, List, IfNone, IfOk, MatchOption, None, OnErr, Some, is_some, length, slice_get, true};
+ghost use Rattle.std.specs.Prelude.{◌≡◌, ◌<◌, ◌^◌, ℕ, List, IfNone, IfOk, MatchOption, None, OnErr, Some, is_some};
+ghost use Rattle.std.specs.Prelude.{length, slice_get, true};
 ghost use Rattle.model.specs.declared.records.Record.{Record as RecordOf};
 ghost use Rattle.model.specs.Steps.{deliver as deliver_of};
 ghost use Rattle.model.specs.World.{World};

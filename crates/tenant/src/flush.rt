@@ -1,6 +1,8 @@
 //! The step `flush`.
 
-ghost use Rattle.std.specs.Prelude.{◌≡◌, ◌≢◌, ◌⊎◌, ◌<◌, ◌≤◌, ◌++◌, ◌∷◌, [], ◌↔◌, All, IfOk, IfErr, IsOkAnd, IsTrue, MatchOption, None, OnOk, OnErr, length, map, take, slice_get, slice_set, Some, true, false, List, ℕ, ◌+◌, bytes_eq};
+ghost use Rattle.std.specs.Prelude.{◌≡◌, ◌≢◌, ◌⊎◌, ◌<◌, ◌≤◌, ◌++◌, ◌∷◌, [], ◌↔◌, All, IfOk, IfErr, IsOkAnd, IsTrue};
+ghost use Rattle.std.specs.Prelude.{MatchOption, None, OnOk, OnErr, length, map, take, slice_get, slice_set, Some};
+ghost use Rattle.std.specs.Prelude.{true, false, List, ℕ, ◌+◌, bytes_eq};
 ghost use Rattle.model.specs.Failures.{HasRisen};
 ghost use Rattle.model.specs.Steps.{flush_reply as flush_reply_of};
 ghost use Rattle.model.specs.World.{World};
@@ -202,8 +204,9 @@ impl<H: Handler> Tenant<H> {
         );
     }
 
-    /// Logs the unit's volatile records, from the front, and the frontiers of all units go on. Where a record was added,
-    /// each unit forgets what is firm for good. Where there was no memory for the first record, nothing is changed.
+    /// Logs the unit's volatile records, from the front, and the frontiers of all units go on. Where a record was
+    /// added, each unit forgets what is firm for good. Where there was no memory for the first record, nothing is
+    /// changed.
     ///
     /// # Errors
     ///

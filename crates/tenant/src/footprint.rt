@@ -74,8 +74,8 @@ impl<H: Handler> Tenant<H> {
         }
     }
 
-    /// How long the lists are that are kept of this unit, if the unit is there, by whichever world the tenant stands for,
-    /// and whatever checkpoints it has. Takes no memory, and time by the number of letters.
+    /// How long the lists are that are kept of this unit, if the unit is there, by whichever world the tenant stands
+    /// for, and whatever checkpoints it has. Takes no memory, and time by the number of letters.
     pub fn footprint(&self, unit: Unit) -> Option<Footprint>
         ensures { (name : List ℕ) (w : World) (records : List (Option Record)) (shelves : List Shelf)
             → Stands H.meaning name self.now w records → KeepsPast self.now w shelves

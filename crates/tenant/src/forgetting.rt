@@ -4,7 +4,8 @@ ghost use Rattle.std.specs.Prelude.{◌≡◌, ◌<◌, List, Some, length, slic
 ghost use Rattle.model.specs.World.{World};
 ghost use Rattle.compact.specs.Forgetting.{without_content};
 ghost use Rattle.rollback.specs.Units.{places};
-ghost use Rattle.tenant.specs.Bases.{IsBeside, LetsGo, emptied_all, emptied_by, given_up, moved_kept, moved_letters, moved_member, next_base, passed};
+ghost use Rattle.tenant.specs.Bases.{IsBeside, LetsGo, emptied_all, emptied_by, given_up, moved_kept, moved_letters};
+ghost use Rattle.tenant.specs.Bases.{moved_member, next_base, passed};
 ghost use Rattle.tenant.specs.Keeping.{Bases, KeepsPast, based_one};
 ghost use Rattle.tenant.specs.Kept.{Member as MemberOf};
 ghost use Rattle.model.specs.Keeping.{Shelf, where_added};

@@ -3,7 +3,10 @@
 //! They speak of the worlds that a tenant can come to by the definitions that the contract of
 //! `Tenant::step` cites. Their statements stand in `theory/specs/Laws`.
 
-ghost use Rattle.theory.specs.Laws.{FirmStays, PathsKept, ChainLaw, ForksAreLost, CertificateLaw, ReleasedAreFirm, ReleasedGrow, ReleaseIsWhole, HeldCanGo, LaxCanGo, VectorsTell, VectorsJoin, FirmByVector, UnstableByVector, StatesAreFolds, NumbersAlongPaths, NoOrphans, NoNoticeAppends, CoursesReach, StaysOpen, ReleasedStay, StaysWithin};
+ghost use Rattle.theory.specs.Laws.{FirmStays, PathsKept, ChainLaw, ForksAreLost, CertificateLaw, ReleasedAreFirm};
+ghost use Rattle.theory.specs.Laws.{ReleasedGrow, ReleaseIsWhole, HeldCanGo, LaxCanGo, VectorsTell, VectorsJoin};
+ghost use Rattle.theory.specs.Laws.{FirmByVector, UnstableByVector, StatesAreFolds, NumbersAlongPaths, NoOrphans};
+ghost use Rattle.theory.specs.Laws.{NoNoticeAppends, CoursesReach, StaysOpen, ReleasedStay, StaysWithin};
 
 use handler::Handler;
 
@@ -22,7 +25,8 @@ pub fn chain<H: Handler>()
     ensures { ChainLaw H.meaning }
 {}
 
-/// Of two nodes of one unit that are not on one line, the one of the lesser incarnation is lost by the rows by which the other is not blind.
+/// Of two nodes of one unit that are not on one line, the one of the lesser incarnation is lost by the rows by which
+/// the other is not blind.
 pub fn forks_are_lost<H: Handler>()
     ensures { ForksAreLost H.meaning }
 {}

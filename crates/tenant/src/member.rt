@@ -1,6 +1,7 @@
 //! One unit of a tenant.
 
-ghost use Rattle.std.specs.Prelude.{◌≡◌, ◌≢◌, ◌++◌, ◌+◌, ◌-◌, ◌<◌, ◌≤◌, ℕ, IfOk, IfSome, OnErr, Some, min, length, option_map, slice_index, true};
+ghost use Rattle.std.specs.Prelude.{◌≡◌, ◌≢◌, ◌++◌, ◌+◌, ◌-◌, ◌<◌, ◌≤◌, ℕ, IfOk, IfSome, OnErr, Some, min, length};
+ghost use Rattle.std.specs.Prelude.{option_map, slice_index, true};
 ghost use Rattle.std.specs.Option.{is_some};
 ghost use Rattle.output_commit.specs.Holds.{gone_of as count_of, room_of, line_texts};
 ghost use Rattle.compact.specs.Compact.{Unit as UnitOf};
@@ -14,7 +15,9 @@ ghost use Rattle.session.specs.Counts.{widened_counts};
 ghost use Rattle.rollback_laws.specs.Seen.{IsSeen};
 ghost use Rattle.tenant.specs.Bases.{next_base, rebased_member};
 ghost use Rattle.tenant.specs.Keeping.{shelved_count};
-ghost use Rattle.tenant.specs.Kept.{begun_member, checkpointed_member, firm_texts, flushed_member, killed_member, outputs_to, released_member, fitted_member, kept_length, live_count, returned_member, IsNext, received_member};
+ghost use Rattle.tenant.specs.Kept.{begun_member, checkpointed_member, firm_texts, flushed_member, killed_member};
+ghost use Rattle.tenant.specs.Kept.{outputs_to, released_member, fitted_member, kept_length, live_count};
+ghost use Rattle.tenant.specs.Kept.{returned_member, IsNext, received_member};
 
 use crate::releasing;
 use handler::{Done, Handler};

@@ -1,6 +1,7 @@
 //! The step `notice`.
 
-ghost use Rattle.std.specs.Prelude.{◌≡◌, ◌⊎◌, ◌≤◌, ◌<◌, IfOk, IsOkAnd, OnErr, List, ℕ, Some, ◌+◌, false, bytes_eq, length, nat_le, slice_get, slice_set};
+ghost use Rattle.std.specs.Prelude.{◌≡◌, ◌⊎◌, ◌≤◌, ◌<◌, IfOk, IsOkAnd, OnErr, List, ℕ, Some, ◌+◌, false, bytes_eq};
+ghost use Rattle.std.specs.Prelude.{length, nat_le, slice_get, slice_set};
 ghost use Rattle.rollback.specs.Units.{places};
 ghost use Rattle.model.specs.World.{World};
 ghost use Rattle.model.specs.declared.replies.End.TheVariants.{Device};

@@ -93,7 +93,8 @@ impl<H: Handler> Tenant<H> {
     pub fn give_up(&mut self, unit: Unit)
         ensures stands { (name : List ℕ) (w : World) (records : List (Option Record))
             → Stands H.meaning name self.old w records → Stands H.meaning name self.new w records }
-        ensures past { (w : World) (shelves : List Shelf) → KeepsPast self.old w shelves → KeepsPast self.new w shelves }
+        ensures past { (w : World) (shelves : List Shelf) → KeepsPast self.old w shelves
+            → KeepsPast self.new w shelves }
     {
         if usize::from(unit.number()) < self.outlet.len() {
             self.outlet.give_up(unit);

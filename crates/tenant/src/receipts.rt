@@ -1,6 +1,7 @@
 //! A receipt, once its turn is worked: what it adds and answers.
 
-ghost use Rattle.std.specs.Prelude.{◌≡◌, ◌+◌, ◌<◌, ◌≤◌, ◌^◌, ◌++◌, IfOk, IfErr, None, OnErr, Some, length, slice_get, slice_set};
+ghost use Rattle.std.specs.Prelude.{◌≡◌, ◌+◌, ◌<◌, ◌≤◌, ◌^◌, ◌++◌, IfOk, IfErr, None, OnErr, Some, length, slice_get};
+ghost use Rattle.std.specs.Prelude.{slice_set};
 ghost use Rattle.model.specs.Lists.{numbers_from};
 ghost use Rattle.model.specs.Nodes.{sends_within};
 ghost use Rattle.model.specs.declared.refusals.Refusal.TheVariants.{Down};
@@ -8,7 +9,8 @@ ghost use Rattle.handler.specs.Inputs.{turn_upon_input};
 ghost use Rattle.session.specs.Counts.{advanced};
 ghost use Rattle.compact.specs.Steps.{letters_by as letters_of};
 ghost use Rattle.rollback.specs.Units.{asking, places};
-ghost use Rattle.tenant.specs.Kept.{IsNext, Member as MemberOf, next_record_of, next_reply_of, next_vector_of, received_kept, received_member};
+ghost use Rattle.tenant.specs.Kept.{IsNext, Member as MemberOf, next_record_of, next_reply_of, next_vector_of};
+ghost use Rattle.tenant.specs.Kept.{received_kept, received_member};
 ghost use Rattle.tenant.specs.Outcomes.{IsPlain};
 ghost use Rattle.tenant.specs.Plans.{IsPlan, IsPlanned, arrived};
 
@@ -215,7 +217,8 @@ impl<H: Handler> Tenant<H> {
         })
     }
 
-    /// What a receipt adds and answers that passed the tests before its turn, or why it is refused for what its turn makes.
+    /// What a receipt adds and answers that passed the tests before its turn, or why it is refused for what its turn
+    /// makes.
     #[inline(always)]
     pub(crate) fn planned(
         &self,

@@ -1,6 +1,7 @@
 //! The firm outputs of one unit, on their way out.
 
-ghost use Rattle.std.specs.Prelude.{◌≡◌, ◌≢◌, ◌++◌, ◌∷◌, [], ◌<◌, ◌≤◌, ◌+◌, ◌-◌, ℕ, IfOk, MatchBool, MatchOption, drop, length, slice_index, false};
+ghost use Rattle.std.specs.Prelude.{◌≡◌, ◌≢◌, ◌++◌, ◌∷◌, [], ◌<◌, ◌≤◌, ◌+◌, ◌-◌, ℕ, IfOk, MatchBool, MatchOption, drop};
+ghost use Rattle.std.specs.Prelude.{length, slice_index, false};
 ghost use Rattle.output_commit.specs.Holds.{front_is_firm, gone_of as count_of, room_of, line_texts};
 ghost use Rattle.tenant.specs.Kept.{AreMoved, firm_texts, unfirm};
 

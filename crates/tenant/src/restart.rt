@@ -1,6 +1,7 @@
 //! The step `restart`.
 
-ghost use Rattle.std.specs.Prelude.{◌≡◌, ◌⊎◌, ◌≤◌, ◌<◌, ◌+◌, IfNone, IfOk, IsOkAnd, OnErr, List, ℕ, false, bytes_eq, length, slice_get};
+ghost use Rattle.std.specs.Prelude.{◌≡◌, ◌⊎◌, ◌≤◌, ◌<◌, ◌+◌, IfNone, IfOk, IsOkAnd, OnErr, List, ℕ, false, bytes_eq};
+ghost use Rattle.std.specs.Prelude.{length, slice_get};
 ghost use Rattle.model.specs.World.{World, incarnation_of};
 ghost use Rattle.model.specs.declared.replies.End.TheVariants.{Device};
 ghost use Rattle.model.specs.declared.steps.TenantStep.TheVariants.{Restart};

@@ -1,12 +1,15 @@
 //! A unit goes back: what a restart, and a notice that cuts, have in common.
 
-ghost use Rattle.std.specs.Prelude.{◌≡◌, ◌≢◌, ◌⊎◌, ◌<◌, ◌≤◌, ◌+◌, ◌-◌, ◌∷◌, [], ◌++◌, IfOk, IfNone, IfSome, IsOkAnd, OnOk, OnErr, Err, MatchOption, None, Option, Some, List, ℕ, drop, length, nat_le, slice_get, slice_set, take};
+ghost use Rattle.std.specs.Prelude.{◌≡◌, ◌≢◌, ◌⊎◌, ◌<◌, ◌≤◌, ◌+◌, ◌-◌, ◌∷◌, [], ◌++◌, IfOk, IfNone, IfSome, IsOkAnd};
+ghost use Rattle.std.specs.Prelude.{OnOk, OnErr, Err, MatchOption, None, Option, Some, List, ℕ, drop, length, nat_le};
+ghost use Rattle.std.specs.Prelude.{slice_get, slice_set, take};
 ghost use Rattle.model.specs.Failures.{HasRisen};
 ghost use Rattle.model.specs.World.{incarnation_of};
 ghost use Rattle.model.specs.declared.replies.End.TheVariants.{Device};
 ghost use Rattle.rollback.specs.Units.{IsTarget, OrphansAreTail, stable_places};
 ghost use Rattle.shared_log.specs.Logged.{Grows, OthersKept, places_of};
-ghost use Rattle.tenant.specs.Kept.{AreFetched, IsReplayed, Member as MemberOf, returned_kept, kept_length, returned, returned_member};
+ghost use Rattle.tenant.specs.Kept.{AreFetched, IsReplayed, Member as MemberOf, returned_kept, kept_length, returned};
+ghost use Rattle.tenant.specs.Kept.{returned_member};
 ghost use Rattle.tenant.specs.Returns.{Returns};
 
 use crate::answer::Answer;
@@ -89,8 +92,8 @@ fn add(records: &mut Vec<Record>, one: Record) -> Result<(), NoMemory>
     Ok(())
 }
 
-/// Fetches the unit's live records, behind those that are skipped, from the first of these positions to before the last,
-/// in order.
+/// Fetches the unit's live records, behind those that are skipped, from the first of these positions to before the
+/// last, in order.
 fn fetch_some<S: Store>(
     alloc: Global,
     tenant: &TenantName,
@@ -157,7 +160,8 @@ fn return_member<H: Handler>(
 }
 
 impl<H: Handler> Tenant<H> {
-    /// The progress of the unit at the target, by replay of the records behind its nearest snapshot, which the store gives.
+    /// The progress of the unit at the target, by replay of the records behind its nearest snapshot, which the store
+    /// gives.
     fn progress_at<S: Store>(
         &self,
         alloc: Global,

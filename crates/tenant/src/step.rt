@@ -1,6 +1,7 @@
 //! One step of an open tenant.
 
-ghost use Rattle.std.specs.Prelude.{◌≡◌, ◌⊎◌, ◌≤◌, ◌+◌, IfNone, IfOk, IfSome, IsOk, IsOkAnd, IsSomeAnd, OnErr, List, ℕ, false, bytes_eq};
+ghost use Rattle.std.specs.Prelude.{◌≡◌, ◌⊎◌, ◌≤◌, ◌+◌, IfNone, IfOk, IfSome, IsOk, IsOkAnd, IsSomeAnd, OnErr, List, ℕ};
+ghost use Rattle.std.specs.Prelude.{false, bytes_eq};
 ghost use Rattle.model.specs.World.{World};
 ghost use Rattle.model.specs.declared.replies.End.TheVariants.{Device};
 ghost use Rattle.tenant.specs.Keeping.{KeepsOn};

@@ -1,4 +1,5 @@
-//! How far a run is: a bar on standard error, where that is a terminal and the end is known, and a reader that tells it.
+//! How far a run is: a bar on standard error, where that is a terminal and the end is known, and a reader that tells
+//! it.
 
 use std::fmt::{Display, Formatter};
 use std::fs::Files;

@@ -7,8 +7,8 @@ use log::{Log, Metadata, Record};
 use std::fmt::Display;
 use std::time::Clock;
 
-/// Writes each record to standard error as people expect it of a program: its name, and what is wrong. A bar that stands
-/// there is taken away first.
+/// Writes each record to standard error as people expect it of a program: its name, and what is wrong. A bar that
+/// stands there is taken away first.
 #[derive(Drop)]
 pub struct Diagnostics<'a, 'b, R> {
     pub rt: &'a R,

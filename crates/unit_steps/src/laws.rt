@@ -1,7 +1,8 @@
 //! What is computed at one unit is what the steps of the compact state compute: each law as the contract of a
 //! function that does nothing, for every handler. The statements stand in `specs/Laws`.
 
-ghost use Rattle.unit_steps.specs.Laws.{FrontiersGoOn, LettersAreRefused, PostsAreRefused, TurnsAreRefused, VectorsAreMade};
+ghost use Rattle.unit_steps.specs.Laws.{FrontiersGoOn, LettersAreRefused, PostsAreRefused, TurnsAreRefused};
+ghost use Rattle.unit_steps.specs.Laws.{VectorsAreMade};
 
 use handler::Handler;
 

@@ -70,7 +70,8 @@ impl Content {
     }
 }
 
-/// A letter: its sender's unit and its receiver, its number in their session, and its content where that is not forgotten.
+/// A letter: its sender's unit and its receiver, its number in their session, and its content where that is not
+/// forgotten.
 #[derive(Drop)]
 pub struct SentLetter {
     pub source: Unit,

@@ -1,6 +1,7 @@
 //! The tests of a receipt.
 
-ghost use Rattle.std.specs.Prelude.{◌≡◌, ◌+◌, ◌-◌, ◌<◌, ◌≤◌, ◌^◌, ◌∷◌, [], ◌++◌, IfNone, IsTrue, length, nat_lt, nat_le};
+ghost use Rattle.std.specs.Prelude.{◌≡◌, ◌+◌, ◌-◌, ◌<◌, ◌≤◌, ◌^◌, ◌∷◌, [], ◌++◌, IfNone, IsTrue, length, nat_lt};
+ghost use Rattle.std.specs.Prelude.{nat_le};
 ghost use Rattle.std.specs.Option.{option_copied};
 ghost use Rattle.std.specs.Prelude.{is_some, None, take, not, true};
 ghost use Rattle.std.specs.Bool.{OnFalse};
@@ -12,7 +13,8 @@ ghost use Rattle.model.specs.Steps.{is_long as is_long_text, is_large as is_larg
 ghost use Rattle.compact.specs.Steps.{tests_of_number};
 ghost use Rattle.orphan.specs.Tests.{unstable_count};
 ghost use Rattle.rollback.specs.Units.{places};
-ghost use Rattle.unit_steps.specs.Receipts.{IsWithin, arrival_refusal as arrival_refusal_of, receipt_room_tests, post_refused, letter_refused, turn_refused, past_tests};
+ghost use Rattle.unit_steps.specs.Receipts.{IsWithin, arrival_refusal as arrival_refusal_of, receipt_room_tests};
+ghost use Rattle.unit_steps.specs.Receipts.{post_refused, letter_refused, turn_refused, past_tests};
 
 use crate::letters::{Content, SentLetter};
 use depvector::SharedVector;

@@ -1,11 +1,12 @@
 //! What a tenant's units wait for, told to people and to programs.
 //!
-//! - `why_on` (`why`): each output that a unit holds, what it waits for, and the shortest list of steps that lets it go;
+//! - `why_on` (`why`): each output that a unit holds, what it waits for, and the shortest list of steps that lets it
+//!   go;
 //! - `status_on` (`status`): a row for each unit, what is stuck longest first;
 //! - `rows`: those rows; `replaying`: the lines that are looked at, stepped anew; `values`: what is told as JSON.
 //!
-//! What is told follows from `diagram::Situation`, and the steps are those of `reasons::remedies`. No clause says that they
-//! help: `tests/views` gives them.
+//! What is told follows from `diagram::Situation`, and the steps are those of `reasons::remedies`. No clause says
+//! that they help: `tests/views` gives them.
 //!
 //! For `host_cli`, which has the words. A caller:
 //!

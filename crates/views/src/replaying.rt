@@ -22,8 +22,8 @@ pub(crate) struct Replayed<H: Handler> {
     pub journal: Option<Told>,
 }
 
-/// Steps the lines of the journal that is named, or of the input, over a store in memory. Nothing where they can't be read or
-/// stepped, which is told.
+/// Steps the lines of the journal that is named, or of the input, over a store in memory. Nothing where they can't be
+/// read or stepped, which is told.
 pub(crate) fn replay_of<
     R: Files<File = File> + Clock + Input + AllocGlobal,
     L: Log,

@@ -21,8 +21,8 @@ pub(crate) struct Row<'a> {
 }
 
 impl<'a> Row<'a> {
-    /// How many entries the history had before the first that is stuck at this unit: before that of the output that it has
-    /// held longest, or of the letter to it that was sent first and not received.
+    /// How many entries the history had before the first that is stuck at this unit: before that of the output that
+    /// it has held longest, or of the letter to it that was sent first and not received.
     pub(crate) fn stuck_since(&self) -> Option<usize> {
         let held = self.oldest.as_ref().map(|held| held.since);
         match (held, self.standing.sent_since) {
@@ -41,7 +41,8 @@ impl<'a> Row<'a> {
     }
 }
 
-/// A row for each unit of each tenant that the history opens, what is stuck longest first, and else in the order of opening.
+/// A row for each unit of each tenant that the history opens, what is stuck longest first, and else in the order of
+/// opening.
 ///
 /// # Errors
 ///

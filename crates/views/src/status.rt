@@ -19,8 +19,8 @@ use std::time::Clock;
 use terminal::{Patient, Plural};
 use words::StatusWords;
 
-/// `status`: tells what the journal has, and how each unit stands, what is stuck longest first. Tells the status to end with: 0
-/// where that is told, 1 where the lines can't be read or the output fails.
+/// `status`: tells what the journal has, and how each unit stands, what is stuck longest first. Tells the status to
+/// end with: 0 where that is told, 1 where the lines can't be read or the output fails.
 pub fn status_on<
     R: Files<File = File> + Clock + Print + Input + AllocGlobal,
     L: Log,

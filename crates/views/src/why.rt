@@ -16,8 +16,8 @@ use std::time::Clock;
 use terminal::{Patient, Plural};
 use words::WhyWords;
 
-/// `why`: tells of each output that the unit holds what it waits for, and what would help. Tells the status to end with: 0
-/// where that is told, 1 where the lines can't be read or the tenant has no such unit or the output fails.
+/// `why`: tells of each output that the unit holds what it waits for, and what would help. Tells the status to end
+/// with: 0 where that is told, 1 where the lines can't be read or the tenant has no such unit or the output fails.
 pub fn why_on<
     R: Files<File = File> + Clock + Print + Input + AllocGlobal,
     L: Log,

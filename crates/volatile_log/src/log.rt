@@ -1,6 +1,7 @@
 //! The log and its calls.
 
-ghost use Rattle.std.specs.Prelude.{◌≡◌, ◌+◌, ◌-◌, ◌<◌, ◌≤◌, ◌∷◌, [], ◌++◌, IfOk, MatchOption, OnErr, Some, length, drop, nat_lt, slice_get};
+ghost use Rattle.std.specs.Prelude.{◌≡◌, ◌+◌, ◌-◌, ◌<◌, ◌≤◌, ◌∷◌, [], ◌++◌, IfOk, MatchOption, OnErr, Some, length};
+ghost use Rattle.std.specs.Prelude.{drop, nat_lt, slice_get};
 ghost use Rattle.std.specs.List.{prefix_len};
 ghost use Rattle.volatile_log.specs.Logs.{records_below};
 ghost use Rattle.std.specs.VecDeque.{deque_capacity};

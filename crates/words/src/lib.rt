@@ -1,6 +1,7 @@
 //! The words of the command line of a program that hosts a handler.
 //!
-//! - `Program`: what such a program tells of itself, its handler's kinds among them; `Hosting`: the same of a second handler;
+//! - `Program`: what such a program tells of itself, its handler's kinds among them; `Hosting`: the same of a second
+//!   handler;
 //! - `Pages`: the texts of it that are longer than a line;
 //! - `read_words` (`command`): reads the words with `clap`, and prints help or what is wrong with them;
 //! - `Asked` and the words of each command (`asked`): what is asked for; `Verbosity`: how much is told.

@@ -1,7 +1,8 @@
 //! Comparing a history with the feeds and with the receipts that their threads kept.
 
 ghost use Rattle.std.specs.Prelude.{◌≡◌, ℕ, ◌<◌, ◌≤◌, ◌^◌, ◌++◌, [], IfSome, IsTrue, drop, length, map, slice_index_or};
-ghost use Rattle.workers.specs.Interleaves.{AllExpected, HasReceipts, Interleaves, IsExpected, numbered, replies_by, reply_by, step_by, steps_by};
+ghost use Rattle.workers.specs.Interleaves.{AllExpected, HasReceipts, Interleaves, IsExpected, numbered, replies_by};
+ghost use Rattle.workers.specs.Interleaves.{reply_by, step_by, steps_by};
 
 use crate::closed::is_by;
 use model::{Entry, Reply, Step, Who};

@@ -161,8 +161,8 @@ fn gather<H: Handler, S: Store>(
 /// A feed's steps are done in order. The input of a step's turn is prepared under the lock, the
 /// turn is worked outside it, and the step is committed if it still needs that turn. Where it needs
 /// none, or was given back three times, it is done under the lock. After each accepted post, and each
-/// accepted delivery whose turn was asked for, the logger is nudged, and flushes that unit. The thread keeps the reply to each
-/// step, and at the end these receipts are compared with the history's replies to the feed.
+/// accepted delivery whose turn was asked for, the logger is nudged, and flushes that unit. The thread keeps the
+/// reply to each step, and at the end these receipts are compared with the history's replies to the feed.
 ///
 /// On `Ok` the history is legal, holds each step of each feed once, in its feed's order, and between
 /// them flushes by the logger alone; and no more entries say that the device failed than it counted
