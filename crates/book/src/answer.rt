@@ -64,7 +64,7 @@ fn no_tenant_answer() -> Answer
             end: End::Whole,
         },
         reply: no_tenant(),
-        kept: no_tenant(),
+        history_copy: no_tenant(),
     }
 }
 
@@ -134,7 +134,7 @@ fn answer_open<H: Handler, S: Store>(
     step: TenantStep,
     log: &mut SharedLog<S>,
 ) -> Result<Answer, NoMemory>
-    ensures kept { IfOk result (λ a. a.kept ≡ a.reply) }
+    ensures copied { IfOk result (λ a. a.history_copy ≡ a.reply) }
     ensures steps { IfOk result (λ a. (w : Option World)
         → StandsAt H.meaning name.now (Some tenant.old) w log.old.records
         → StepsAt H.meaning name.now w (Some tenant.new) step a.said a.reply log.new.records) }
@@ -167,7 +167,7 @@ fn answer_unopened<H: Handler>(
     step: TenantStep,
 ) -> Result<Answer, NoMemory>
     requires { get bytes_eq tenants.old name.now ≡ None }
-    ensures kept { IfOk result (λ a. a.kept ≡ a.reply) }
+    ensures copied { IfOk result (λ a. a.history_copy ≡ a.reply) }
     ensures did { IfOk result (λ a. (log : Logged)
         → DidAt H.meaning name.now None step a.said a.reply (holding tenants.old log) (holding tenants.new log)) }
     ensures others { (t : List ℕ) → bytes_eq t name.now ≡ false
@@ -205,7 +205,7 @@ pub(crate) fn answer<H: Handler, S: Store>(
     log: &mut SharedLog<S>,
     step: &Step,
 ) -> Result<Answer, NoMemory>
-    ensures kept { IfOk result (λ a. a.kept ≡ a.reply) }
+    ensures copied { IfOk result (λ a. a.history_copy ≡ a.reply) }
     ensures answered { IfOk result (λ a.
         IsAnswered H.meaning step.now a.said a.reply (holding tenants.old log.old) (holding tenants.new log.new)) }
     ensures kill { (tenant : List ℕ) (unit : ℕ) → step.now ≡ Step.Kill tenant unit → IsOk result }
@@ -265,7 +265,7 @@ fn answer_open_with<H: Handler, S: Store>(
     ensures fresh { IfOk result (λ o. (w : Option World)
         → StandsAt H.meaning name.now (Some tenant.old) w log.old.records
         → WasFresh (needs_at H.meaning w step) worked.input o) }
-    ensures kept { IfOk result (λ o. IfSome o (λ a. a.kept ≡ a.reply)) }
+    ensures copied { IfOk result (λ o. IfSome o (λ a. a.history_copy ≡ a.reply)) }
     ensures steps { IfOk result (λ o. IfSome o (λ a. (w : Option World)
         → StandsAt H.meaning name.now (Some tenant.old) w log.old.records
         → StepsAt H.meaning name.now w (Some tenant.new) step a.said a.reply log.new.records)) }
@@ -303,7 +303,7 @@ pub(crate) fn answer_with<H: Handler, S: Store>(
         → StandsAt H.meaning (addressed step.now).0
         (get bytes_eq tenants.old (addressed step.now).0) w log.old.records
         → WasFresh (needs_at H.meaning w (addressed step.now).1) worked.input o) }
-    ensures kept { IfOk result (λ o. IfSome o (λ a. a.kept ≡ a.reply)) }
+    ensures copied { IfOk result (λ o. IfSome o (λ a. a.history_copy ≡ a.reply)) }
     ensures answered { IfOk result (λ o.
         IfSome o (λ a.
         IsAnswered H.meaning step.now a.said a.reply (holding tenants.old log.old) (holding tenants.new log.new))) }

@@ -295,15 +295,19 @@ fn reserve_place(history: &mut Vec<Entry>) -> Result<(), NoMemory>
 fn enter(history: &mut Vec<Entry>, who: Who, step: Step, answer: Answer) -> Reply
     requires { vec_len history.old + 1 ≤ vec_capacity history.old }
     ensures entered { history.new.items ≡ history.old.items
-        ++ record { who = who; step = step; said = answer.said; reply = answer.kept } ∷ [] }
+        ++ record { who = who; step = step; said = answer.said; reply = answer.history_copy } ∷ [] }
     ensures reply { result ≡ answer.reply }
 {
-    let Answer { said, reply, kept } = answer;
+    let Answer {
+        said,
+        reply,
+        history_copy,
+    } = answer;
     history.push_reserved(Entry {
         who,
         step,
         said,
-        reply: kept,
+        reply: history_copy,
     });
     reply
 }

@@ -75,7 +75,7 @@ impl<H: Handler, S: Store> Host<H, S> {
     /// Does a step of any tenant. Where no memory was found nothing is changed.
     #[inline(always)]
     pub(crate) fn answer(&mut self, step: &Step) -> Result<Answer, NoMemory>
-        ensures kept { IfOk result (λ a. a.kept ≡ a.reply) }
+        ensures copied { IfOk result (λ a. a.history_copy ≡ a.reply) }
         ensures answered { IfOk result (λ a. IsAnswered H.meaning step.now a.said a.reply
             (held_by self.old) (held_by self.new)) }
         ensures kill { (tenant : List ℕ) (unit : ℕ) → step.now ≡ Step.Kill tenant unit → IsOk result }
@@ -102,7 +102,7 @@ impl<H: Handler, S: Store> Host<H, S> {
             → StandsAt H.meaning (addressed step.now).0
             ((held_by self.old).at (addressed step.now).0) w self.old.log.records
             → WasFresh (needs_at H.meaning w (addressed step.now).1) worked.input o) }
-        ensures kept { IfOk result (λ o. IfSome o (λ a. a.kept ≡ a.reply)) }
+        ensures copied { IfOk result (λ o. IfSome o (λ a. a.history_copy ≡ a.reply)) }
         ensures answered { IfOk result (λ o.
             IfSome o (λ a. IsAnswered H.meaning step.now a.said a.reply (held_by self.old) (held_by self.new))) }
         ensures stale { IfOk result (λ o. IfNone o (HoldsAsBefore (held_by self.old) (held_by self.new))) }

@@ -41,9 +41,9 @@ asked_up r source text input e =
 -- what is asked for passed the tests before the turn
 pub asking_at : {S : Type 0} (t : TenantState S)
     (u : ℕ) (m n : Member S) (refusal : Member S → Option Refusal) (source : Source) (text : List ℕ)
-    → slice_get t.members u ≡ Some m → slice_get t.members u ≡ Some n → refusal m ≡ None → places m.recovering < 2 ^ 32
-    → (r : Result (Input S) Refusal) → IfOk r (λ input. asking m.recovering source text ≡ Some input)
-    → IfOk r (λ input. IsAsking (refusal n) n.recovering source text input)
+    → slice_get t.members u ≡ Some m → slice_get t.members u ≡ Some n → refusal m ≡ None → places m.unit_state < 2 ^ 32
+    → (r : Result (Input S) Refusal) → IfOk r (λ input. asking m.unit_state source text ≡ Some input)
+    → IfOk r (λ input. IsAsking (refusal n) n.unit_state source text input)
 asking_at {S} t u m n refusal source text at there passes room (Ok input) a =
     let same : m ≡ n = same_Some m n (sym at ∙ there) in
     rw (← same) (record { passes = passes; room = room; asked = a })
@@ -81,9 +81,9 @@ module _ {S : Type 0} (M : Meaning S) (name : List ℕ) (live : ℕ → List ℕ
   -- the input that is asked for is that of the world
   pub input_is : (m : Member S) (x : KeepsUnit t live s.0 u m)
       (f : Shown M name w log u x.unit) (source : Source) (text : List ℕ) (input : Input S)
-      → asking m.recovering source text ≡ Some input → input_upon M w f.member source text ≡ input
+      → asking m.unit_state source text ≡ Some input → input_upon M w f.member source text ≡ input
   input_is m x f source text input asked =
-      let a = asked_up m.recovering source text input asked in
+      let a = asked_up m.unit_state source text input asked in
       let up : f.member.up ≡ true = sym f.is.up ∙ x.is.seen.up ∙ ap is_some a.1 in
       let seat = sym f.is.seat ∙ x.is.seen.seat in
       let now : progress_after M w f.member (length f.member.path - 1) ≡ a.0 =

@@ -189,7 +189,7 @@ module _ {S : Type 0} (M : Meaning S) (name : List ℕ)
     x = keeps t live k is u m found
 
     abbrev r : Recovering S
-    r = m.recovering
+    r = m.unit_state
 
     -- what a notice does where it cuts, and where it cuts nothing
     abbrev going : Said → Progress S → Done S
@@ -618,7 +618,7 @@ module _ {S : Type 0} (M : Meaning S) (name : List ℕ)
   restart_refused_by q e = go (slice_get t.members u) refl e
     where
       limited : (m : Member S) (found : slice_get t.members u ≡ Some m) (up worn : Bool)
-          → is_some m.recovering.progress ≡ up
+          → is_some m.unit_state.progress ≡ up
           → nat_le 65535 (incarnation_of t.table u) ≡ worn → cond up (Some Up) (cond worn (Some Limit) None) ≡ Some q
           → Did M name w t (Restart u) quiet (Refused q) before before
       limited m found true worn a b f = restart_refused m found
@@ -634,7 +634,7 @@ module _ {S : Type 0} (M : Meaning S) (name : List ℕ)
       go None a f = subst (λ (z : Refusal). Did M name w t (Restart u) quiet (Refused z) before before)
           (same_Some NoUnit q f) (restart_no_unit a)
       go (Some m) a f =
-          limited m a (is_some m.recovering.progress) (nat_le 65535 (incarnation_of t.table u)) refl refl f
+          limited m a (is_some m.unit_state.progress) (nat_le 65535 (incarnation_of t.table u)) refl refl f
 
   -- a notice to a unit that is not there or not up
   pub notice_not_up : (q : Refusal)

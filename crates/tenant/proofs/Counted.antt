@@ -90,12 +90,12 @@ module _ {S : Type 0} (M : Meaning S) (name : List ℕ) (t : TenantState S) (w :
     | yes q ↦
         let m = get_below w.members u q in
         let x = stands_at M name (live_in name records) t w (opened s).whole (opened s).stands u m.0 m.1 in
-        let f : Shelf = shelf_of x.member.recovering in
+        let f : Shelf = shelf_of x.member.unit_state in
         let there : slice_get shelves u ≡ Some f = ap (λ ss. slice_get ss u) (sym keeping.shelved)
-        ∙ at_map (λ (n : MemberOf S). shelf_of n.recovering) t.members u x.member x.found in
+        ∙ at_map (λ (n : MemberOf S). shelf_of n.unit_state) t.members u x.member x.found in
         let stable = sym x.kept.seen.stable ∙ x.stands.stable in
-        let others : length x.member.recovering.shelf.others ≡ length f.others =
-        sym (length-map x.member.recovering.shelf.others (λ s. s.index)) in
+        let others : length x.member.unit_state.shelf.others ≡ length f.others =
+        sym (length-map x.member.unit_state.shelf.others (λ s. s.index)) in
         let same : amount_of t.letters u x.member ≡ kept_behind M w u m.0 f = (λ i. record {
           records = stable i - 1 - f.base;
           shelved = others i + cond (f.base == 0) 0 1;
@@ -151,10 +151,10 @@ module _ {S : Type 0} (M : Meaning S) (name : List ℕ) (t : TenantState S) (w :
       let x = stands_at M name (live_in name records) t w (opened s).whole (opened s).stands u m here in
       let own : IsLengths t u x.member f =
       subst (λ z. IsLengths t u z f) (same_Some n x.member (sym found ∙ x.found)) lengths in
-      let r = x.member.recovering in
+      let r = x.member.unit_state in
       let all = places_are_seen M r x.unit x.kept.kept x.kept.seen in
       let kept_there = ap (λ ss. slice_get ss u) (sym keeping.shelved)
-      ∙ at_map (λ (z : MemberOf S). shelf_of z.recovering) t.members u x.member x.found in
+      ∙ at_map (λ (z : MemberOf S). shelf_of z.unit_state) t.members u x.member x.found in
       let shelf : shelf_of r ≡ q = same_Some (shelf_of r) q (sym kept_there ∙ there) in
       let base : r.base ≡ q.base = ap (λ (z : Shelf). z.base) shelf in
       let path : length x.unit.intervals ≡ length m.path - x.unit.base.index =

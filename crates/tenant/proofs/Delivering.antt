@@ -155,9 +155,9 @@ module _ {S : Type 0} (M : Meaning S) (name : List ℕ) (live : ℕ → List ℕ
       known_is = λ i. record { table = s.1.table i; rows = x.is.known i; stable_lengths = lengths_kept i }
 
       refusal_of : letter_refusal k x.unit c c.content ≡ letter_refusal_of t m c
-      refusal_of = letters_are_refused M m.recovering x.unit x.is.kept x.is.seen k c
+      refusal_of = letters_are_refused M m.unit_state x.unit x.is.kept x.is.seen k c
           ∙ (λ i. letter_refused
-          (known_is i) (s.1.optimism i) (s.1.quota i).volatile m.recovering c.source c.number c.content)
+          (known_is i) (s.1.optimism i) (s.1.quota i).volatile m.unit_state c.source c.number c.content)
 
       before : first_refusal (deliver_front w received f.member) ≡ letter_refusal_of t m c
       before = sym (deliveries_are_tested M name k w log s.2 l received c sent.at at_k f.member x.unit at_w unit_at)
@@ -180,7 +180,7 @@ module _ {S : Type 0} (M : Meaning S) (name : List ℕ) (live : ℕ → List ℕ
         content_is = subst (IsContent w l received) whole sent.is.content
 
         asked_by : letter_refusal_of t m c ≡ None → (input : Input S)
-            → asking m.recovering (FromUnit c.source) content.text ≡ Some input → deliver_needs M w l ≡ Some input
+            → asking m.unit_state (FromUnit c.source) content.text ≡ Some input → deliver_needs M w l ≡ Some input
         unfolding deliver_needs
         asked_by passes input asked =
             ap (letter_needs M w) sent.at ∙ ap (deliver_to_needs M w received) at_w
@@ -190,26 +190,26 @@ module _ {S : Type 0} (M : Meaning S) (name : List ℕ) (live : ℕ → List ℕ
             (input_is M name live t w log s c.receiver m x f (FromUnit c.source) content.text input asked)
 
         pub letter_asked : letter_refusal_of t m c ≡ None → (r : Result (Input S) Refusal)
-            → IfOk r (λ input. asking m.recovering (FromUnit c.source) content.text ≡ Some input)
-            → IfErr r (λ refusal. (refusal ≡ Down) × (m.recovering.progress ≡ None))
+            → IfOk r (λ input. asking m.unit_state (FromUnit c.source) content.text ≡ Some input)
+            → IfErr r (λ refusal. (refusal ≡ Down) × (m.unit_state.progress ≡ None))
             → IsAsked (deliver_needs M w l) (deliver M w l) w r
         letter_asked passes (Ok input) a b = asked_by passes input a
         letter_asked passes (Err refusal) a b =
             let some : letter_refused (known_of t m) t.optimism
-            t.quota.volatile m.recovering c.source c.number (Some content) ≡ None = (sym (ap (letter_refused
-            (known_of t m) t.optimism t.quota.volatile m.recovering c.source c.number) whole) ∙ passes) in
+            t.quota.volatile m.unit_state c.source c.number (Some content) ≡ None = (sym (ap (letter_refused
+            (known_of t m) t.optimism t.quota.volatile m.unit_state c.source c.number) whole) ∙ passes) in
             let none = next_none
-            (first_refusal (past_tests (known_of t m) t.optimism m.recovering content.vector)) (arrival_refusal
-            t.quota.volatile m.recovering (FromUnit c.source) c.number content.text m.recovering.progress) some in
+            (first_refusal (past_tests (known_of t m) t.optimism m.unit_state content.vector)) (arrival_refusal
+            t.quota.volatile m.unit_state (FromUnit c.source) c.number content.text m.unit_state.progress) some in
             let down : arrival_refusal t.quota.volatile
-            m.recovering (FromUnit c.source) c.number content.text m.recovering.progress ≡ Some Down =
-            ap (arrival_refusal t.quota.volatile m.recovering (FromUnit c.source) c.number content.text) b.1 in
+            m.unit_state (FromUnit c.source) c.number content.text m.unit_state.progress ≡ Some Down =
+            ap (arrival_refusal t.quota.volatile m.unit_state (FromUnit c.source) c.number content.text) b.1 in
             absurd (cc (sym none ∙ down))
 
         -- ---- upon the turn
 
         module _ (input : Input S)
-            (is : IsAsking (letter_refusal_of t m c) m.recovering (FromUnit c.source) content.text input) where
+            (is : IsAsking (letter_refusal_of t m c) m.unit_state (FromUnit c.source) content.text input) where
           abbrev q : Receipt
           q = delivered l c content
 
@@ -232,7 +232,7 @@ module _ {S : Type 0} (M : Meaning S) (name : List ℕ) (live : ℕ → List ℕ
           }) (deliveries_follow M name k w log s.2 l) (turned (Some r) e) t s.1
 
           letter_done : turn_refusal_of t m (turn_upon_input M input) ≡ None
-              → (p : Progress S) → m.recovering.progress ≡ Some p
+              → (p : Progress S) → m.unit_state.progress ≡ Some p
               → (reply : Reply) → reply ≡ next_reply_of t c.receiver m (turn_upon_input M input)
               → (v : TenantState S)
               → v ≡ received_kept M t c.receiver m (next_record_of name t c.receiver m q) (turn_upon_input
@@ -257,7 +257,7 @@ module _ {S : Type 0} (M : Meaning S) (name : List ℕ) (live : ℕ → List ℕ
               → v ≡ received_kept M t c.receiver m plan.logged (turn_upon_input M input).outputs plan.made.items
               → Leaves M name live (deliver M w l) reply v log
           letter_planned turn e plan planned reply told v new =
-              let p = asked_up m.recovering (FromUnit c.source) content.text input is.asked in
+              let p = asked_up m.unit_state (FromUnit c.source) content.text input is.asked in
               let made = planned.1 p.0 p.1 in
               letter_done (ap (turn_refusal_of t m) (sym e)
               ∙ planned.0) p.0 p.1 reply (told ∙ made.reply ∙ ap (next_reply_of t c.receiver m) e) v

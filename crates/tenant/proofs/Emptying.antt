@@ -160,7 +160,7 @@ module _ {S : Type 0} (M : Meaning S) (name : List ℕ) (t : TenantState S) (w :
   g = reachable_invariant M st.reached
 
   abbrev r : Recovering S
-  r = m.recovering
+  r = m.unit_state
 
   x : KeepsUnit t (live_in name records) k u m
   x = keeps t (live_in name records) k is u m found
@@ -186,7 +186,7 @@ module _ {S : Type 0} (M : Meaning S) (name : List ℕ) (t : TenantState S) (w :
 
   shelved : slice_get shelves u ≡ Some (shelf_of r)
   shelved = ap (λ ss. slice_get ss u) (sym kept.shelved)
-      ∙ at_map (λ (n : MemberOf S). shelf_of n.recovering) t.members u m found
+      ∙ at_map (λ (n : MemberOf S). shelf_of n.unit_state) t.members u m found
 
   module _ (base : ℕ) (next : next_base r f ≡ Some base) where
     abbrev given : List Interval
@@ -288,7 +288,7 @@ module _ {S : Type 0} (M : Meaning S) (name : List ℕ) (t : TenantState S) (w :
     pub moved_keeping : IsKeeping v w moved_shelves
     moved_keeping = record {
       shelved =
-          map-set (λ (n : MemberOf S). shelf_of n.recovering) t.members u (record m { recovering = forgotten r base })
+          map-set (λ (n : MemberOf S). shelf_of n.unit_state) t.members u (record m { unit_state = forgotten r base })
           ∙ (λ j. slice_set (kept.shelved j) u (based_to j));
       letters = λ l c n z at after own.
           let was = was_all t.letters given l c at in
@@ -361,7 +361,7 @@ module _ {S : Type 0} (M : Meaning S) (name : List ℕ) (t : TenantState S) (w :
   -- the unit at this place forgot
   pub one_keeps : (m : MemberOf S) (f : ℕ)
       → slice_get t.members u ≡ Some m → slice_get t.frontiers u ≡ Some f → (v : TenantState S)
-      → v ≡ moved_kept t u m (next_base m.recovering f) → KeepsPast v w (based_one w u (slice_get w.members u) shelves)
+      → v ≡ moved_kept t u m (next_base m.unit_state f) → KeepsPast v w (based_one w u (slice_get w.members u) shelves)
   one_keeps m f found front v same =
       let k = moved_keeps M name t w records (opened s) u m found f front shelves (past_opened kept) v same in
       let q = world_unit M name t w records (opened s) u m found f front shelves (past_opened kept) in

@@ -94,9 +94,9 @@ module _ {S : Type 0} (M : Meaning S) (name : List ℕ)
             let wide = is.width in
             let q = get_below t.members u (let a = slice_get_within w.members u m f in omega (arith, a, width, wide)) in
             let x = keeps t live k is u q.0 q.1 in
-            let b : is_some q.0.recovering.progress ≡ true =
+            let b : is_some q.0.unit_state.progress ≡ true =
             sym x.is.seen.up ∙ (st.represents.units u m x.unit f x.at).up ∙ up in
-            absurd (no_refusal (is_some q.0.recovering.progress) b (ap up_refusal (sym q.1) ∙ e))),
+            absurd (no_refusal (is_some q.0.unit_state.progress) b (ap up_refusal (sym q.1) ∙ e))),
         (λ down. (refl, refl, refl)),
       )
 
@@ -115,13 +115,13 @@ module _ {S : Type 0} (M : Meaning S) (name : List ℕ)
   -- ---- one that is up
 
   module _ (m : Member S) (found : slice_get t.members u ≡ Some m)
-      (up : is_some m.recovering.progress ≡ true) (after : Logged) (v : TenantState S) (said : Said)
-      (logged : after.records ≡ before.records ++ map Some (take said.appended m.recovering.volatile))
-      (few : said.appended ≤ length m.recovering.volatile)
-      (ended : (said.end ≡ Whole) ↔ (said.appended ≡ length m.recovering.volatile))
+      (up : is_some m.unit_state.progress ≡ true) (after : Logged) (v : TenantState S) (said : Said)
+      (logged : after.records ≡ before.records ++ map Some (take said.appended m.unit_state.volatile))
+      (few : said.appended ≤ length m.unit_state.volatile)
+      (ended : (said.end ≡ Whole) ↔ (said.appended ≡ length m.unit_state.volatile))
       (some : said.end ≡ NoMemory → 0 < said.appended) (f : MakesStable t u said.appended m v) where
     abbrev r : Recovering S
-    r = m.recovering
+    r = m.unit_state
 
     abbrev grown : List Record
     grown = take said.appended r.volatile
@@ -181,20 +181,20 @@ module _ {S : Type 0} (M : Meaning S) (name : List ℕ)
     lengths_are : lengths ≡ v.stable_lengths
     lengths_are = same_list lengths v.stable_lengths
         (length-map units (λ (z : Unit S). z.stable) ∙ length-set k.units u y ∙ sym is.stables
-        ∙ sym (length-set t.stable_lengths u (stable_places (flushed_member m said.appended).recovering))
+        ∙ sym (length-set t.stable_lengths u (stable_places (flushed_member m said.appended).unit_state))
         ∙ sym (ap length f.stable_lengths))
         (λ i a b ea eb.
         let h = map_at (λ (z : Unit S). z.stable) units i a ea in
-        let eb' : slice_get (slice_set t.stable_lengths u (stable_places (flushed_member m said.appended).recovering))
+        let eb' : slice_get (slice_set t.stable_lengths u (stable_places (flushed_member m said.appended).unit_state))
         i ≡ Some b = ap (λ ls. slice_get ls i) (sym f.stable_lengths) ∙ eb in
         h.2 ∙ elim (get_set k.units u i y h.0 h.1) [
           | inl p ↦
-              elim (get_set t.stable_lengths u i (stable_places (flushed_member m said.appended).recovering) b eb') [
+              elim (get_set t.stable_lengths u i (stable_places (flushed_member m said.appended).unit_state) b eb') [
                 | inl q ↦ ap (λ (z : Unit S). z.stable) p.1 ∙ seen_y.stable ∙ sym q.1
                 | inr q ↦ absurd (q.0 p.0)
               ]
           | inr p ↦
-              elim (get_set t.stable_lengths u i (stable_places (flushed_member m said.appended).recovering) b eb') [
+              elim (get_set t.stable_lengths u i (stable_places (flushed_member m said.appended).unit_state) b eb') [
                 | inl q ↦ absurd (p.0 q.0)
                 | inr q ↦
                     let wide = is.width in
@@ -263,22 +263,22 @@ module _ {S : Type 0} (M : Meaning S) (name : List ℕ)
         low f n l b c i j h e g o q = omega (arith, h, e, g, o, q)
 
     gone : (a : ℕ) (n : Member S) (z : Unit S)
-        → slice_get v.members a ≡ Some n → IsKept n.recovering → IsSeen n.recovering z
+        → slice_get v.members a ≡ Some n → IsKept n.unit_state → IsSeen n.unit_state z
         → n.unit ≡ a → z.hold ≡ n.outputs → z.known ≡ n.known → slice_get v.stable_lengths a ≡ Some z.stable
-        → slice_get t.frontiers a ≡ Some z.frontier → IsFrontier (length v.stable_lengths) n.recovering z.frontier
+        → slice_get t.frontiers a ≡ Some z.frontier → IsFrontier (length v.stable_lengths) n.unit_state z.frontier
         → IsReleased (slice_get t.gone a) (slice_get t.released a) z.released
         → AreLast z.live (live_in name after.records a)
         → IsMember v (live_in name after.records) a n (going_on k.table lengths z)
     gone a n z at kept seen own outputs known stable front is_front released places_live = record {
       kept = kept;
-      seen = frontiers_are_seen M n.recovering z seen k.table lengths;
+      seen = frontiers_are_seen M n.unit_state z seen k.table lengths;
       own = own;
       outputs = outputs;
       known = known;
       stable = stable;
       frontier = f.frontiers a n z.frontier at front is_front
-          ∙ ap (λ c. Some c) (sym (frontiers_go_on M n.recovering z kept seen k.table lengths
-          ∙ (λ i. frontier_of (is.table i) (lengths_are i) n.recovering z.frontier)));
+          ∙ ap (λ c. Some c) (sym (frontiers_go_on M n.unit_state z kept seen k.table lengths
+          ∙ (λ i. frontier_of (is.table i) (lengths_are i) n.unit_state z.frontier)));
       released = (
         released.0,
         released.1,
@@ -317,7 +317,7 @@ module _ {S : Type 0} (M : Meaning S) (name : List ℕ)
               | inr q ↦
                   let i = is.members a n h.0 p.1 q.1 in
                   gone a n h.0 atn i.kept i.seen i.own i.outputs i.known stable_at
-                  i.frontier (front_is a h.0 q.1 n.recovering i.kept i.seen n.recovering refl refl) i.released
+                  i.frontier (front_is a h.0 q.1 n.unit_state i.kept i.seen n.unit_state refl refl) i.released
                   (subst (λ (ps : List ℕ). AreLast h.0.live ps) (sym (live_other a p.0)) i.places)
             ]
           ]);

@@ -103,7 +103,7 @@ module _ {S : Type 0} (t : TenantState S) (live : ℕ → List ℕ) (k : Compact
         let m = get_below t.members u q in
         let x = keeps m.0 m.1 in
         ap (at_up_of k h) x.at
-        ∙ down (h x.unit) r x.unit.up (is_some m.0.recovering.progress) x.is.seen.up (ap up_refusal (sym m.1) ∙ e)
+        ∙ down (h x.unit) r x.unit.up (is_some m.0.unit_state.progress) x.is.seen.up (ap up_refusal (sym m.1) ∙ e)
     | no q ↦
         let none = slice_get_past t.members u (omega (arith, q)) in
         let f : Some NoUnit ≡ Some r = ap up_refusal (sym none) ∙ e in
@@ -118,7 +118,7 @@ module _ {S : Type 0} (t : TenantState S) (live : ℕ → List ℕ) (k : Compact
 
   -- and one that is
   pub is_up : (h : Unit S → Done S) (m : Member S) (x : KeepsUnit t live k u m)
-      → is_some m.recovering.progress ≡ true → at_up_of k h (slice_get k.units u) ≡ h x.unit
+      → is_some m.unit_state.progress ≡ true → at_up_of k h (slice_get k.units u) ≡ h x.unit
   is_up h m x e = ap (at_up_of k h) x.at ∙ up (h x.unit) x.unit.up (x.is.seen.up ∙ e)
 
   -- what a unit keeps is the same beside other units and where as much is released of it

@@ -14,7 +14,7 @@ module _ {S : Type 0} (table : List Row) (lengths : List ℕ) (members : List (M
   -- those before this place have gone on
   abbrev pub GoneOn : ℕ → List ℕ → Type 0
   GoneOn i fs = (u : ℕ) (m : Member S) (f : ℕ) → u < i → slice_get members u ≡ Some m → slice_get old u ≡ Some f
-      → IsFrontier (length lengths) m.recovering f → slice_get fs u ≡ Some (frontier_of table lengths m.recovering f)
+      → IsFrontier (length lengths) m.unit_state f → slice_get fs u ≡ Some (frontier_of table lengths m.unit_state f)
 
   abbrev pub AsBefore : ℕ → List ℕ → Type 0
   AsBefore i fs = (u : ℕ) → i ≤ u → slice_get fs u ≡ slice_get old u
@@ -22,7 +22,7 @@ module _ {S : Type 0} (table : List Row) (lengths : List ℕ) (members : List (M
   module _ (fs : List ℕ) (i read front : ℕ)
       (long : length fs ≡ length old) (within : i < length fs) (is : read ≡ get_or fs i read)
       (gives : (m : Member S) → slice_get members i ≡ Some m
-      → IsFrontier (length lengths) m.recovering read → front ≡ frontier_of table lengths m.recovering read) where
+      → IsFrontier (length lengths) m.unit_state read → front ≡ frontier_of table lengths m.unit_state read) where
     there : slice_get fs i ≡ Some read
     there = let y = get_below fs i within in y.1 ∙ ap (λ n. Some n) (sym (is ∙ get_or_from_slice_get fs i y.0 read y.1))
 
@@ -34,8 +34,8 @@ module _ {S : Type 0} (table : List Row) (lengths : List ℕ) (members : List (M
           same_Some read f (sym there ∙ rest i (omega arith) ∙ ap (slice_get old) (sym e) ∙ was) in
           ap (slice_get (slice_set fs i front)) e ∙ set_get_same fs i front read there
           ∙ ap (λ n. Some n) (gives m (ap (slice_get members) (sym e) ∙ found)
-          (subst (λ (n : ℕ). IsFrontier (length lengths) m.recovering n) (sym same) is_front)
-          ∙ ap (frontier_of table lengths m.recovering) same)
+          (subst (λ (n : ℕ). IsFrontier (length lengths) m.unit_state n) (sym same) is_front)
+          ∙ ap (frontier_of table lengths m.unit_state) same)
     ]
       where
         at_last : (u : ℕ) → u < i + 1 → (u < i) ⊎ (u ≡ i)
@@ -50,7 +50,7 @@ module _ {S : Type 0} (v : TenantState S) (u count at : ℕ) (same : at ≡ u)
     (moved : (m : Member S) → slice_get v.members at ≡ Some m
     → members ≡ slice_set v.members at (flushed_member m count))
     (longer : (m : Member S) → slice_get v.members at ≡ Some m
-    → lengths ≡ slice_set v.stable_lengths at (stable_places (flushed_member m count).recovering))
+    → lengths ≡ slice_set v.stable_lengths at (stable_places (flushed_member m count).unit_state))
     (long : length fronts ≡ length v.frontiers) where
   there_too : slice_get v.members at ≡ Some m
   there_too = ap (slice_get v.members) same ∙ found
@@ -64,7 +64,7 @@ module _ {S : Type 0} (v : TenantState S) (u count at : ℕ) (same : at ≡ u)
     table = refl;
     members = moved m there_too ∙ ap (λ n. slice_set v.members n (flushed_member m count)) same;
     stable_lengths = longer m there_too
-        ∙ ap (λ n. slice_set v.stable_lengths n (stable_places (flushed_member m count).recovering)) same;
+        ∙ ap (λ n. slice_set v.stable_lengths n (stable_places (flushed_member m count).unit_state)) same;
     fronts = long;
     frontiers = subst (λ (ls : List ℕ). GoOn v.table ls members v.frontiers fronts) b
         (subst (λ (ms : List (Member S)). GoOn v.table seen_lengths ms v.frontiers fronts) a go);

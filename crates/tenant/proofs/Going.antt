@@ -28,9 +28,9 @@ module _ (name : List ℕ) (u : ℕ) (before mid after : Logged) (same : mid.rec
     alike = same_Some q m (sym there ∙ found)
 
     pub went : (a.reply ≡ given) × IsPlain a
-        → IsReplayed M before.records (places_of name u before) q.recovering target (length t.members) progress
+        → IsReplayed M before.records (places_of name u before) q.unit_state target (length t.members) progress
         → v ≡ returned_kept t u m target (incarnation_of t.table u + 1) progress
-        → keep ≡ target - q.recovering.base → skipped ≡ length (places_of name u before) - live_count q.recovering
+        → keep ≡ target - q.unit_state.base → skipped ≡ length (places_of name u before) - live_count q.unit_state
         → places_of name u after ≡ take (skipped + keep) (places_of name u mid) → OthersKept name u mid after
         → Grows mid.records [] after.records → Went M name t u m target given a v before after
     went plain replayed back count skips own others grows = record {
@@ -38,11 +38,11 @@ module _ (name : List ℕ) (u : ℕ) (before mid after : Logged) (same : mid.rec
       reply = plain.0;
       progress = progress;
       replayed = subst (λ (n : Member S). IsReplayed
-          M before.records (places_of name u before) n.recovering target (length t.members) progress) alike replayed;
+          M before.records (places_of name u before) n.unit_state target (length t.members) progress) alike replayed;
       back = back;
       own = own ∙ (λ i. take ((skips
-          ∙ ap (λ (n : Member S). length (places_of name u before) - live_count n.recovering) alike) i + (count
-          ∙ ap (λ (n : Member S). target - n.recovering.base) alike) i) (places_same before mid same name u i));
+          ∙ ap (λ (n : Member S). length (places_of name u before) - live_count n.unit_state) alike) i + (count
+          ∙ ap (λ (n : Member S). target - n.unit_state.base) alike) i) (places_same before mid same name u i));
       others = others_on others;
       grows = grows_on grows;
     }

@@ -46,10 +46,10 @@ fit_one n (x ∷ members) (suc at) m last e = ap (λ ys. x ∷ ys) (fit_one n me
 pub fitted_one : {S : Type 0} (n : ℕ)
     (members mid after : List (Member S)) (at : ℕ) (last : Member S) (sessions : Option Counts) → at < length members
     → ((m : Member S) → slice_get members at ≡ Some m
-    → sessions ≡ option_map (λ p. widened_counts p.sessions n) m.recovering.progress)
+    → sessions ≡ option_map (λ p. widened_counts p.sessions n) m.unit_state.progress)
     → mid ≡ fitted_from n members (at + 1) ++ last ∷ []
     → ((n : ℕ) (m : Member S) → slice_get mid at ≡ Some m → sessions ≡ option_map
-    (λ p. widened_counts p.sessions n) m.recovering.progress → after ≡ slice_set mid at (fitted_member n m))
+    (λ p. widened_counts p.sessions n) m.unit_state.progress → after ≡ slice_set mid at (fitted_member n m))
     → after ≡ fitted_from n members at ++ last ∷ []
 fitted_one {S} n members mid after at last sessions within made so_far fit =
     let m = get_below members at within in
@@ -164,8 +164,8 @@ module _ {S : Type 0} (M : Meaning S) (name : List ℕ) (live : ℕ → List ℕ
     stays : (u : ℕ) (m : Member S) (x : Unit S)
         → IsMember t live u m x → IsMember after live u (fitted_member width m) (fitted_unit width x)
     stays u m x i = record {
-      kept = kept_fitted m.recovering width i.kept;
-      seen = joins_are_seen M m.recovering x i.seen width;
+      kept = kept_fitted m.unit_state width i.kept;
+      seen = joins_are_seen M m.unit_state x i.seen width;
       own = i.own;
       outputs = i.outputs;
       known = i.known;

@@ -68,7 +68,7 @@ no_letters t v e = record { made = []; letters = e ∙ sym (append-nil t.letters
 -- ---- checkpoints, by lists
 
 abbrev of_member : {S : Type 0} → Member S → Shelf
-of_member m = shelf_of m.recovering
+of_member m = shelf_of m.unit_state
 
 module _ {S : Type 0} (t : TenantState S) (u : ℕ) (m : Member S) (found : slice_get t.members u ≡ Some m)
     (n : Member S) (v : TenantState S) (members : v.members ≡ slice_set t.members u n) where
@@ -119,7 +119,7 @@ pub one_back : {S : Type 0} (t v : TenantState S) (u : ℕ) (m : Member S)
     → v ≡ returned_kept t u m target incarnation progress → Shelves (changed (cut (target + 1)) u) t v
 one_back {S} t v u m found target incarnation progress e =
     one_changed t u m found _ v (ap (λ (z : TenantState S). z.members) e)
-    (cut (target + 1)) (cut_is m.recovering (target + 1)) (no_letters t v (ap (λ (z : TenantState S). z.letters) e))
+    (cut (target + 1)) (cut_is m.unit_state (target + 1)) (no_letters t v (ap (λ (z : TenantState S). z.letters) e))
 
 -- ---- what the rules leave
 
@@ -283,8 +283,8 @@ returned_shelves {S} M name t v u m found target given a before after start inde
 
 module _ {S : Type 0} (M : Meaning S) (name : List ℕ) (t mid v : TenantState S)
     (records : List (Option Record)) (u : ℕ) (m : Member S) (found : slice_get t.members u ≡ Some m)
-    (up : is_some m.recovering.progress ≡ true) (none : length m.recovering.volatile ≡ 0)
-    (at : Mark) (is_last : (x : Unit S) → IsKept m.recovering → IsSeen m.recovering x → at ≡ last_mark u x)
+    (up : is_some m.unit_state.progress ≡ true) (none : length m.unit_state.volatile ≡ 0)
+    (at : Mark) (is_last : (x : Unit S) → IsKept m.unit_state → IsSeen m.unit_state x → at ≡ last_mark u x)
     (put_there : mid ≡ record t { members = slice_set t.members u (checkpointed_member m) })
     (moved : Bases M name mid records v) where
   there : (o : Option (Progress S)) → is_some o ≡ true → (p : Progress S) × (o ≡ Some p)
@@ -292,7 +292,7 @@ module _ {S : Type 0} (M : Meaning S) (name : List ℕ) (t mid v : TenantState S
   there (Some p) e = (p, refl)
 
   abbrev r : Recovering S
-  r = m.recovering
+  r = m.unit_state
 
   abbrev last : ℕ
   last = places r - 1
@@ -321,10 +321,10 @@ module _ {S : Type 0} (M : Meaning S) (name : List ℕ) (t mid v : TenantState S
       let own : y.member ≡ checkpointed_member m = same_Some y.member (checkpointed_member m) (sym y.found
       ∙ ap (λ (k : TenantState S). slice_get k.members u) put_there
       ∙ set_get_same t.members u (checkpointed_member m) m found) in
-      let long : all_of y.unit ≡ places y.member.recovering =
-      (places_are_seen M y.member.recovering y.unit y.kept.kept y.kept.seen).long in
+      let long : all_of y.unit ≡ places y.member.unit_state =
+      (places_are_seen M y.member.unit_state y.unit y.kept.kept y.kept.seen).long in
       let path : all_of y.unit ≡ length q.0.path = places_are M name z o.whole q.0 y.unit y.stands in
-      let same_places : places y.member.recovering ≡ places r = ap (λ (n : Member S). places n.recovering) own in
+      let same_places : places y.member.unit_state ≡ places r = ap (λ (n : Member S). places n.unit_state) own in
       let index : last_index (slice_get z.members u) ≡ last = ap last_index q.1
       ∙ (let f : length q.0.path - 1 ≡ places r - 1 = omega (arith, long, path, same_places) in f) in
       let made : Shelves (changed (put (last_index (slice_get z.members u))) u) t mid =

@@ -90,7 +90,7 @@ module _ {S : Type 0} (M : Meaning S) (name : List ℕ) (live : ℕ → List ℕ
     killed_is : (x : Unit S) → slice_get k.units u ≡ Some x
         → IsMember t live u m x → IsMember t live u (killed_member m) (killed_unit x)
     killed_is x at i =
-        let r = m.recovering in
+        let r = m.unit_state in
         let seen = kills_are_seen M r x i.kept i.seen in
         let some = i.kept.stable in
         let few : places r ≤ 2 ^ 32 = i.kept.few in
@@ -122,14 +122,14 @@ module _ {S : Type 0} (M : Meaning S) (name : List ℕ) (live : ℕ → List ℕ
         stable_low : (a p v n : ℕ) → a ≡ p - v → n ≡ p → a ≤ n
         stable_low a p v n e f = omega (arith, e, f)
 
-    pub kill_done : is_some m.recovering.progress ≡ true → Leaves M name live (kill w u)
-        (Killed (length m.recovering.volatile)) (record t { members = slice_set t.members u (killed_member m) }) log
+    pub kill_done : is_some m.unit_state.progress ≡ true → Leaves M name live (kill w u)
+        (Killed (length m.unit_state.volatile)) (record t { members = slice_set t.members u (killed_member m) }) log
     kill_done e =
         let x = keeps t live k s.1 u m found in
-        let all = places_are_seen M m.recovering x.unit x.is.kept x.is.seen in
+        let all = places_are_seen M m.unit_state x.unit x.is.kept x.is.seen in
         leaves M name live log (kill w u)
         (λ z f. stepped (record { step = Kill u; said = record { appended = 0; end = Whole } }) s.2.reached f) _
-        (record { reply = Killed (length m.recovering.volatile); state = (kill_of k u x.unit).state })
+        (record { reply = Killed (length m.unit_state.volatile); state = (kill_of k u x.unit).state })
         (kills_follow M name k w log s.2 u)
         (is_up t live k s.1 u (kill_of k u) m x e
         ∙ (λ i. record { reply = Killed (all.unstable i); state = (kill_of k u x.unit).state }))

@@ -157,7 +157,7 @@ module _ {S : Type 0} (M : Meaning S) (name : List ℕ)
       let a = standing.stands.1.width in
       let b = standing.stands.2.represents.width in
       let c : length (shelves_of t) ≡ length t.members =
-      length-map t.members (λ (m : MemberOf S). shelf_of m.recovering) in
+      length-map t.members (λ (m : MemberOf S). shelf_of m.unit_state) in
       ap length (sym keeping.shelved) ∙ c ∙ a ∙ b
 
   count : length t.letters ≡ length (executed M w).letters
@@ -169,12 +169,12 @@ module _ {S : Type 0} (M : Meaning S) (name : List ℕ)
   of_shelf u s at =
       let m = get_below w.members u (let a = slice_get_within shelves u s at in let b = width in omega (arith, a, b)) in
       let x = stands_at M name (live_in name records) t w standing.whole standing.stands u m.0 m.1 in
-      let own : shelf_of x.member.recovering ≡ s = same_Some (shelf_of x.member.recovering) s
-      (sym (at_map (λ (n : MemberOf S). shelf_of n.recovering) t.members u x.member x.found)
+      let own : shelf_of x.member.unit_state ≡ s = same_Some (shelf_of x.member.unit_state) s
+      (sym (at_map (λ (n : MemberOf S). shelf_of n.unit_state) t.members u x.member x.found)
       ∙ ap (λ ss. slice_get ss u) keeping.shelved ∙ at) in
-      let base : x.member.recovering.base ≡ s.base = ap (λ (r : Shelf). r.base) own in
-      let seen : x.unit.base.index ≡ x.member.recovering.base =
-      (places_are_seen M x.member.recovering x.unit x.kept.kept x.kept.seen).base in
+      let base : x.member.unit_state.base ≡ s.base = ap (λ (r : Shelf). r.base) own in
+      let seen : x.unit.base.index ≡ x.member.unit_state.base =
+      (places_are_seen M x.member.unit_state x.unit x.kept.kept x.kept.seen).base in
       let firm : x.unit.base.index < frontier w m.0 = x.stands.firm_base in
       (m.0, m.1, omega (arith, base, seen, firm))
 

@@ -155,7 +155,7 @@ module _ {S : Type 0} (M : Meaning S) (name : List ℕ) (t : TenantState S) (w :
   x = keeps t live k is u m found
 
   abbrev r : Recovering S
-  r = m.recovering
+  r = m.unit_state
 
   ready : IsReady r k x.unit
   ready = units_are_ready M name k w whole st u x.unit x.at r x.is.kept x.is.seen
@@ -356,7 +356,7 @@ module _ {S : Type 0} (M : Meaning S) (name : List ℕ) (t : TenantState S) (w :
   same_moved base e =
       let none : base - r.base ≡ 0 = let h = eq_true base r.base e in omega (arith, h) in
       (λ i. record t {
-        members = slice_set t.members u (record m { recovering = cond (e i) r (based_on r base) });
+        members = slice_set t.members u (record m { unit_state = cond (e i) r (based_on r base) });
         letters = emptied_all t.letters (take (none i) (drop 1 r.intervals));
       })
       ∙ none_moved

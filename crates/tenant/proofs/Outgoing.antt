@@ -36,7 +36,7 @@ module _ {S : Type 0} (M : Meaning S) (name : List ℕ) (live : ℕ → List ℕ
   release_refused r e = leaves M name live log (release M w u) reach _ (record { reply = Refused r; state = k })
       (releases_follow M name k w log s.2 u) (not_up t live k s.1 u (release_of k u) r e) t s.1
 
-  module _ (m : Member S) (found : slice_get t.members u ≡ Some m) (up : is_some m.recovering.progress ≡ true) where
+  module _ (m : Member S) (found : slice_get t.members u ≡ Some m) (up : is_some m.unit_state.progress ≡ true) where
     abbrev after : ℕ → List (List ℕ) → TenantState S
     after frontier texts =
         record t { members = with_firm_out t.members u m frontier; released = firm_of t.released u m frontier texts }

@@ -22,9 +22,9 @@ use Rattle.tenant.proofs.Keeping.{letters_whole}
 module _ {S : Type 0} (name : List ℕ) (t : TenantState S)
     (u : ℕ) (m : Member S) (q : Receipt) (turn : Turn S) (plan : Plan) (planned : IsPlanned name t u m q turn (Ok plan))
     (refusal : Option Refusal)
-    (source : Source) (text : List ℕ) (input : Input S) (is : IsAsking refusal m.recovering source text input) where
-  up : (p : Progress S) × (m.recovering.progress ≡ Some p)
-  up = let a = asked_up m.recovering source text input is.asked in (a.0, a.1)
+    (source : Source) (text : List ℕ) (input : Input S) (is : IsAsking refusal m.unit_state source text input) where
+  up : (p : Progress S) × (m.unit_state.progress ≡ Some p)
+  up = let a = asked_up m.unit_state source text input is.asked in (a.0, a.1)
 
   plan_is : IsPlan name t u m q turn up.0.sessions plan
   plan_is = planned.1 up.0 up.1
@@ -43,7 +43,7 @@ module _ {S : Type 0} (name : List ℕ) (t : TenantState S)
       rw (← same) (record {
         room = is.room;
         mark = ap (λ (r : Record). r.mark.index) plan_is.logged;
-        asked = (λ i. asking m.recovering ((ap (λ (r : Record). r.source) plan_is.logged ∙ from) i)
+        asked = (λ i. asking m.unit_state ((ap (λ (r : Record). r.source) plan_is.logged ∙ from) i)
             ((ap (λ (r : Record). r.text) plan_is.logged ∙ said) i)) ∙ is.asked;
       })
 

@@ -59,14 +59,14 @@ module _ {S : Type 0} (M : Meaning S) (name : List ℕ) (live : ℕ → List ℕ
     f : Shown M name w log u x.unit
     f = shown M name live t w log s u m x
 
-    refusal_of : post_refusal k x.unit number text ≡ post_refused t.quota.volatile m.recovering number text
-    refusal_of = posts_are_refused M m.recovering x.unit x.is.kept x.is.seen k number text
-        ∙ ap (λ q. post_refused q.volatile m.recovering number text) s.1.quota
+    refusal_of : post_refusal k x.unit number text ≡ post_refused t.quota.volatile m.unit_state number text
+    refusal_of = posts_are_refused M m.unit_state x.unit x.is.kept x.is.seen k number text
+        ∙ ap (λ q. post_refused q.volatile m.unit_state number text) s.1.quota
 
-    before : first_refusal (post_front w f.member number text) ≡ post_refused t.quota.volatile m.recovering number text
+    before : first_refusal (post_front w f.member number text) ≡ post_refused t.quota.volatile m.unit_state number text
     before = sym (posts_are_tested M name k w log s.2 u f.member x.unit f.at x.at number text) ∙ refusal_of
 
-    pub post_refused_first : (r : Refusal) → post_refused t.quota.volatile m.recovering number text ≡ Some r
+    pub post_refused_first : (r : Refusal) → post_refused t.quota.volatile m.unit_state number text ≡ Some r
         → IsAsked (post_needs M w u number text) (post M w u number text) w (Err r)
     unfolding post_needs
     post_refused_first r e =
@@ -77,26 +77,26 @@ module _ {S : Type 0} (M : Meaning S) (name : List ℕ) (live : ℕ → List ℕ
               (turn_tests M w f.member (turn_upon_receipt M w u f.member (outside number text))) r first,
         )
 
-    asked_by : post_refused t.quota.volatile m.recovering number text ≡ None
-        → (input : Input S) → asking m.recovering Outside text ≡ Some input → post_needs M w u number text ≡ Some input
+    asked_by : post_refused t.quota.volatile m.unit_state number text ≡ None
+        → (input : Input S) → asking m.unit_state Outside text ≡ Some input → post_needs M w u number text ≡ Some input
     unfolding post_needs
     asked_by passes input asked = ap (post_to_needs M w number text) f.at
         ∙ (λ i. input_unless (input_is M name live t w log s u m x f Outside text input asked i) ((before ∙ passes) i))
 
-    pub post_asked : post_refused t.quota.volatile m.recovering number text ≡ None
-        → (r : Result (Input S) Refusal) → IfOk r (λ input. asking m.recovering Outside text ≡ Some input)
-        → IfErr r (λ refusal. (refusal ≡ Down) × (m.recovering.progress ≡ None))
+    pub post_asked : post_refused t.quota.volatile m.unit_state number text ≡ None
+        → (r : Result (Input S) Refusal) → IfOk r (λ input. asking m.unit_state Outside text ≡ Some input)
+        → IfErr r (λ refusal. (refusal ≡ Down) × (m.unit_state.progress ≡ None))
         → IsAsked (post_needs M w u number text) (post M w u number text) w r
     post_asked passes (Ok input) a b = asked_by passes input a
     post_asked passes (Err refusal) a b =
-        let down : post_refused t.quota.volatile m.recovering number text ≡ Some Down =
-        ap (arrival_refusal t.quota.volatile m.recovering Outside number text) b.1 in
+        let down : post_refused t.quota.volatile m.unit_state number text ≡ Some Down =
+        ap (arrival_refusal t.quota.volatile m.unit_state Outside number text) b.1 in
         absurd (cc (sym passes ∙ down))
 
     -- ---- upon the turn
 
     module _ (input : Input S)
-        (is : IsAsking (post_refused t.quota.volatile m.recovering number text) m.recovering Outside text input) where
+        (is : IsAsking (post_refused t.quota.volatile m.unit_state number text) m.unit_state Outside text input) where
       turned : (o : Option Refusal) → turn_refusal_of t m (turn_upon_input M input) ≡ o → at_unit_of k (post_of M name
           k u number text) (slice_get k.units u) ≡ or_refused k (accepted_of M name k u (posted number text) x.unit) o
       turned o e =
@@ -113,7 +113,7 @@ module _ {S : Type 0} (M : Meaning S) (name : List ℕ) (live : ℕ → List ℕ
       }) (posts_follow M name k w log s.2 u number text) (turned (Some r) e) t s.1
 
       pub post_done : turn_refusal_of t m (turn_upon_input M input) ≡ None → (p : Progress S)
-          → m.recovering.progress ≡ Some p → (reply : Reply) → reply ≡ next_reply_of t u m (turn_upon_input M input)
+          → m.unit_state.progress ≡ Some p → (reply : Reply) → reply ≡ next_reply_of t u m (turn_upon_input M input)
           → (v : TenantState S)
           → v ≡ received_kept M t u m (next_record_of name t u m (posted number text)) (turn_upon_input M input).outputs
           (next_letters_of t u m (posted number text) (turn_upon_input M input) p.sessions)
@@ -135,7 +135,7 @@ module _ {S : Type 0} (M : Meaning S) (name : List ℕ) (live : ℕ → List ℕ
           → v ≡ received_kept M t u m plan.logged (turn_upon_input M input).outputs plan.made.items
           → Leaves M name live (post M w u number text) reply v log
       post_planned turn e q same plan planned reply told v new =
-          let p = asked_up m.recovering Outside text input is.asked in
+          let p = asked_up m.unit_state Outside text input is.asked in
           let made = planned.1 p.0 p.1 in
           post_done (ap (turn_refusal_of t m) (sym e)
           ∙ planned.0) p.0 p.1 reply (told ∙ made.reply ∙ ap (next_reply_of t u m) e) v

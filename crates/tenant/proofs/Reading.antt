@@ -31,11 +31,11 @@ units_opened (m ∷ members) = refl
 -- one seat more of the front
 pub more_seats : {S : Type 0} (members : List (Member S)) (i : ℕ) (m : Member S) (before after : List Seat)
     (seat : Seat) → i < length members → m ≡ get_or members i m → before ++ seats_of (drop i members) ≡ seats_of members
-    → seat ≡ m.recovering.seat
+    → seat ≡ m.unit_state.seat
     → after ≡ before ++ seat ∷ [] → after ++ seats_of (drop (i + 1) members) ≡ seats_of members
 more_seats {S} members i m before after seat within at so_far is made =
     let rest : List Seat = seats_of (drop (i + 1) members) in
-    let here : seat ≡ (get_or members i m).recovering.seat = is ∙ ap (λ (n : Member S). n.recovering.seat) at in
+    let here : seat ≡ (get_or members i m).unit_state.seat = is ∙ ap (λ (n : Member S). n.unit_state.seat) at in
     let next : drop i members ≡ get_or members i m ∷ drop (i + 1) members = rw add-one (drop-cons members i m within) in
     ap (λ ss. ss ++ rest) made
     ∙ append_assoc before (seat ∷ []) rest
@@ -95,7 +95,7 @@ module _ {S : Type 0} (M : Meaning S) (name : List ℕ)
   ]
 
   seats_same : seats_of t.members ≡ map (λ m. m.seat) w.members
-  seats_same = maps_same (λ (n : Member S). n.recovering.seat)
+  seats_same = maps_same (λ (n : Member S). n.unit_state.seat)
       (λ (m : InWorld). m.seat) t.members w.members (s.1.width ∙ s.2.represents.width) (λ u n m a b.
       let x = get_below s.0.units u (let within = slice_get_within t.members u n a in
       let width = s.1.width in omega (arith, within, width)) in

@@ -60,7 +60,7 @@ with_letters t live k is letters others same = record {
 module _ {S : Type 0} (M : Meaning S) (name : List ℕ)
     (live : ℕ → List ℕ) (t : TenantState S) (w : World) (log : List Record) (s : StandsFor M name live t w log) (u : ℕ)
     (m : Member S) (x : KeepsUnit t live s.0 u m)
-    (q : Receipt) (input : Input S) (asked : asking m.recovering q.source q.text ≡ Some input) where
+    (q : Receipt) (input : Input S) (asked : asking m.unit_state q.source q.text ≡ Some input) where
   abbrev k : Compact S
   k = s.0
 
@@ -68,16 +68,16 @@ module _ {S : Type 0} (M : Meaning S) (name : List ℕ)
   turn = turn_upon_input M input
 
   turn_is : turn_of_receipt M x.unit q ≡ turn
-  turn_is = sym (turns_are_seen M m.recovering x.unit x.is.seen q input asked)
+  turn_is = sym (turns_are_seen M m.unit_state x.unit x.is.seen q input asked)
 
-  made : AreMade k u x.unit m.recovering q
-  made = vectors_are_made M m.recovering x.unit x.is.kept x.is.seen k u q
+  made : AreMade k u x.unit m.unit_state q
+  made = vectors_are_made M m.unit_state x.unit x.is.kept x.is.seen k u q
 
   mark_is : next_mark k u x.unit ≡ next_mark_of t u m
-  mark_is = made.mark ∙ ap (λ (rows : List Row). mark_upon rows u m.recovering) s.1.table
+  mark_is = made.mark ∙ ap (λ (rows : List Row). mark_upon rows u m.unit_state) s.1.table
 
   vector_is : next_vector k u x.unit q ≡ next_vector_of t u m q
-  vector_is = made.vector ∙ (λ i. vector_upon (s.1.table i) (sym s.1.width i) u m.recovering q.vector)
+  vector_is = made.vector ∙ (λ i. vector_upon (s.1.table i) (sym s.1.width i) u m.unit_state q.vector)
 
   record_is : next_record name k u x.unit q ≡ next_record_of name t u m q
   record_is = λ i. record {
@@ -104,7 +104,7 @@ module _ {S : Type 0} (M : Meaning S) (name : List ℕ)
   reply_is = λ i. Accepted (mark_is i) (length (x.is.outputs i) + length (turn_is i).outputs)
       (numbers_from (length (s.1.letters i)) (length (sends_are i)))
 
-  module _ (p : Progress S) (up : m.recovering.progress ≡ Some p) (room : places m.recovering < 2 ^ 32) where
+  module _ (p : Progress S) (up : m.unit_state.progress ≡ Some p) (room : places m.unit_state < 2 ^ 32) where
     letters_are : k.letters ++ new_letters M k u q x.unit ≡ t.letters ++ next_letters_of t u m q turn p.sessions
     letters_are = λ i. s.1.letters i
         ++ letters_by u (vector_is i) (advanced (x.is.seen.now p up i).sessions q.source) (sends_are i)
@@ -112,15 +112,15 @@ module _ {S : Type 0} (M : Meaning S) (name : List ℕ)
     abbrev one : Member S
     one = received_member M m (next_record_of name t u m q) turn.outputs
 
-    one_kept : IsKept one.recovering
-    one_kept = kept_took m.recovering
-        one.recovering.progress one.recovering.outside one.recovering.intervals one.recovering.volatile
+    one_kept : IsKept one.unit_state
+    one_kept = kept_took m.unit_state
+        one.unit_state.progress one.unit_state.outside one.unit_state.intervals one.unit_state.volatile
         (record { vector = next_vector_of t u m q; letter = q.letter })
         (next_record_of name t u m q) x.is.kept room refl refl refl refl
 
-    one_seen : IsSeen one.recovering (receiving_unit M name k u q x.unit)
-    one_seen = subst (λ (r : Record). IsSeen (took M m.recovering r) (receiving_unit M name k u q x.unit))
-        record_is (receipts_are_seen M m.recovering x.unit x.is.kept x.is.seen name k u q)
+    one_seen : IsSeen one.unit_state (receiving_unit M name k u q x.unit)
+    one_seen = subst (λ (r : Record). IsSeen (took M m.unit_state r) (receiving_unit M name k u q x.unit))
+        record_is (receipts_are_seen M m.unit_state x.unit x.is.kept x.is.seen name k u q)
 
     one_is : IsMember t live u one (receiving_unit M name k u q x.unit)
     one_is = record {

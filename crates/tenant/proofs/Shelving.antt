@@ -71,12 +71,12 @@ module _ {S : Type 0} (M : Meaning S) (name : List ℕ) (live : ℕ → List ℕ
   checkpoint_refused r e = leaves M name live log (checkpoint w u) reach _ (record { reply = Refused r; state = k })
       (checkpoints_follow M name k w log s.2 u) (not_up t live k s.1 u (checkpoint_of k u) r e) t s.1
 
-  module _ (m : Member S) (found : slice_get t.members u ≡ Some m) (up : is_some m.recovering.progress ≡ true) where
-    pub checkpoint_unlogged : 0 < length m.recovering.volatile
+  module _ (m : Member S) (found : slice_get t.members u ≡ Some m) (up : is_some m.unit_state.progress ≡ true) where
+    pub checkpoint_unlogged : 0 < length m.unit_state.volatile
         → Leaves M name live (checkpoint w u) (Refused Unlogged) t log
     checkpoint_unlogged some =
         let x = keeps t live k s.1 u m found in
-        let all = places_are_seen M m.recovering x.unit x.is.kept x.is.seen in
+        let all = places_are_seen M m.unit_state x.unit x.is.kept x.is.seen in
         let unstable = all.unstable in
         let b = true_lt x.unit.stable (all_of x.unit) (omega (arith, unstable, some)) in
         leaves M name live log (checkpoint w u)
@@ -91,14 +91,14 @@ module _ {S : Type 0} (M : Meaning S) (name : List ℕ) (live : ℕ → List ℕ
     not_lt : (a b : ℕ) → b - a ≡ 0 → nat_lt a b ≡ false
     not_lt a b e = grind (arith, nat_tests)
 
-    pub checkpoint_done : length m.recovering.volatile ≡ 0
-        → (at : Mark) → ((x : Unit S) → IsKept m.recovering → IsSeen m.recovering x → at ≡ last_mark u x)
+    pub checkpoint_done : length m.unit_state.volatile ≡ 0
+        → (at : Mark) → ((x : Unit S) → IsKept m.unit_state → IsSeen m.unit_state x → at ≡ last_mark u x)
         → Leaves M name live (checkpoint w u)
         (Checkpointed at) (record t { members = slice_set t.members u (checkpointed_member m) }) log
     checkpoint_done none at is =
         let x = keeps t live k s.1 u m found in
         let i = x.is in
-        let r = m.recovering in
+        let r = m.unit_state in
         let all = places_are_seen M r x.unit i.kept i.seen in
         let p = there r.progress up in
         let seen = checkpoints_are_seen M r x.unit i.kept i.seen (empty r.volatile none) p.0 p.1 in

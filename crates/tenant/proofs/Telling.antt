@@ -37,16 +37,16 @@ module _ {S : Type 0} (M : Meaning S) (name : List ℕ) (live : ℕ → List ℕ
 
   pub status_done : (m : Member S) → slice_get t.members u ≡ Some m
       → (at : Mark) (held known outside released rows stable : ℕ) (up : Bool) (volatile : ℕ)
-      → ((x : Unit S) → IsKept m.recovering → IsSeen m.recovering x → at ≡ last_mark u x)
-      → held ≡ length m.outputs → known ≡ m.known → outside ≡ m.recovering.outside
+      → ((x : Unit S) → IsKept m.unit_state → IsSeen m.unit_state x → at ≡ last_mark u x)
+      → held ≡ length m.outputs → known ≡ m.known → outside ≡ m.unit_state.outside
       → ((gone : ℕ) (texts : List (List ℕ)) → slice_get t.gone u ≡ Some gone → slice_get t.released u ≡ Some texts
-      → released ≡ gone + length texts) → rows ≡ length t.table → stable ≡ stable_places m.recovering - 1
-      → up ≡ is_some m.recovering.progress → volatile ≡ length m.recovering.volatile
+      → released ≡ gone + length texts) → rows ≡ length t.table → stable ≡ stable_places m.unit_state - 1
+      → up ≡ is_some m.unit_state.progress → volatile ≡ length m.unit_state.volatile
       → Leaves M name live (status M w u) (Status up at held known outside released rows stable volatile) t log
   status_done m found at held known outside released rows stable up volatile a b c d e f g h v =
       let x = keeps t live k s.1 u m found in
       let i = x.is in
-      let all = places_are_seen M m.recovering x.unit i.kept i.seen in
+      let all = places_are_seen M m.unit_state x.unit i.kept i.seen in
       let a' : last_mark u x.unit ≡ at = sym (a x.unit i.kept i.seen) in
       let b' : length x.unit.hold ≡ held = ap length i.outputs ∙ sym b in
       let c' : x.unit.known ≡ known = i.known ∙ sym c in

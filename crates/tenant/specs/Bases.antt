@@ -35,7 +35,7 @@ emptied_all letters intervals = fold (λ ls i. emptied_by ls i.letter) letters i
 -- ---- one unit, whose base moves to the snapshot of this index, if there is one
 
 abbrev pub rebased_member : {S : Type 0} → Member S → ℕ → Member S
-rebased_member m base = record m { recovering = forgotten m.recovering base }
+rebased_member m base = record m { unit_state = forgotten m.unit_state base }
 
 abbrev pub moved_member : {S : Type 0} → Member S → Option ℕ → Member S
 moved_member m None = m
@@ -54,7 +54,7 @@ given_up r (Some base) = base - r.base
 abbrev pub moved_kept : {S : Type 0} → TenantState S → ℕ → Member S → Option ℕ → TenantState S
 moved_kept t u m base = record t {
   members = slice_set t.members u (moved_member m base);
-  letters = moved_letters t.letters m.recovering base;
+  letters = moved_letters t.letters m.unit_state base;
 }
 
 -- ---- the log

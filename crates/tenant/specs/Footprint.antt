@@ -37,8 +37,8 @@ is_spent_to u c = (c.receiver == u) && is_none c.content
 
 -- these are the lengths of the tenant's own lists
 pub record IsLengths {S : Type 0} (t : TenantState S) (u : ℕ) (m : Member S) (f : Footprint) : Type 0 where
-  pub intervals : f.intervals ≡ length m.recovering.intervals
-  pub volatile : f.volatile ≡ length m.recovering.volatile
+  pub intervals : f.intervals ≡ length m.unit_state.intervals
+  pub volatile : f.volatile ≡ length m.unit_state.volatile
   pub held : f.held ≡ length m.outputs
   pub rows : f.rows ≡ rows_of t.table u
   pub spent : f.spent ≡ length (filter (is_spent_to u) t.letters)

@@ -24,7 +24,7 @@ abbrev pub shelf_of : {S : Type 0} → Recovering S → Shelf
 shelf_of r = record { base = r.base; others = map (λ s. s.index) r.shelf.others }
 
 abbrev pub shelves_of : {S : Type 0} → TenantState S → List Shelf
-shelves_of t = map (λ m. shelf_of m.recovering) t.members
+shelves_of t = map (λ m. shelf_of m.unit_state) t.members
 
 -- The tenant's units have these checkpoints, and a letter is without content just where an interval up to its
 -- receiver's base received it.
@@ -86,8 +86,8 @@ shelved_count r = length r.shelf.others + cond (r.base == 0) 0 1
 
 abbrev pub amount_of : {S : Type 0} → List Letter → ℕ → Member S → Amount
 amount_of letters u m = record {
-  records = live_count m.recovering;
-  shelved = shelved_count m.recovering;
+  records = live_count m.unit_state;
+  shelved = shelved_count m.unit_state;
   letters = length (filter (is_whole_to u) letters);
 }
 

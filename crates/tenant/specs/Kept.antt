@@ -30,13 +30,13 @@ use Rattle.orphan.specs.Tests.{is_orphan_by}
 use Rattle.compact.specs.Compact.{Letter, Progress, Content}
 use Rattle.rollback.specs.Units.{Recovering, begun_unit, checkpointed, cut_behind, killed_recovering, marked_stable}
 use Rattle.rollback.specs.Units.{places, restored, stable_places, widened_to, asking, took}
-use Rattle.unit_steps.specs.Receipts.{IsFrontier, frontier_of, Known, letter_refused, mark_upon, turn_refused}
+use Rattle.unit_steps.specs.Receipts.{IsFrontier, frontier_of, TenantView, letter_refused, mark_upon, turn_refused}
 use Rattle.unit_steps.specs.Receipts.{vector_upon}
 use Rattle.compact.specs.Steps.{Receipt, letters_by}
 
 -- One unit: what it needs to go on and to go back, its held outputs, and how many rows it knows.
 pub record Member (S : Type 0) : Type 0 where
-  pub recovering : Recovering S
+  pub unit_state : Recovering S
   pub unit : ℕ
   pub outputs : List Held
   pub known : ℕ
@@ -67,7 +67,7 @@ KeepsTexts t = NoneGone t.gone
 -- why a unit can't do what only a unit that is up can
 abbrev pub up_refusal : {S : Type 0} → Option (Member S) → Option Refusal
 up_refusal None = Some NoUnit
-up_refusal (Some m) = cond (is_some m.recovering.progress) None (Some Down)
+up_refusal (Some m) = cond (is_some m.unit_state.progress) None (Some Down)
 
 -- ---- release
 
@@ -122,21 +122,21 @@ outputs_to outputs n = cond (nat_lt n (2 ^ 32)) (held_below outputs n) outputs
 abbrev pub killed_member : {S : Type 0} → Member S → Member S
 killed_member m =
     record m {
-      recovering = killed_recovering m.recovering;
-      outputs = outputs_to m.outputs (places (killed_recovering m.recovering));
+      unit_state = killed_recovering m.unit_state;
+      outputs = outputs_to m.outputs (places (killed_recovering m.unit_state));
     }
 
 -- ---- checkpoint
 
 abbrev pub checkpointed_member : {S : Type 0} → Member S → Member S
-checkpointed_member m = record m { recovering = checkpointed m.recovering }
+checkpointed_member m = record m { unit_state = checkpointed m.unit_state }
 
 -- ---- open
 
 -- a unit at its beginning, in a tenant of so many units, when there are so many rows
 abbrev pub begun_member : {S : Type 0} → Meaning S → ℕ → Seat → ℕ → Member S
 begun_member M width seat known =
-    record { recovering = begun_unit M width seat; unit = seat.unit; outputs = []; known = known }
+    record { unit_state = begun_unit M width seat; unit = seat.unit; outputs = []; known = known }
 
 -- one unit more, at its beginning
 abbrev pub with_begun : {S : Type 0} → Meaning S → ℕ → List (Member S) → ℕ → List (Member S)
@@ -161,14 +161,14 @@ opened_kept M kinds quota optimism = record {
 
 -- so many more of a unit's intervals are stable
 abbrev pub flushed_member : {S : Type 0} → Member S → ℕ → Member S
-flushed_member m count = record m { recovering = marked_stable m.recovering count }
+flushed_member m count = record m { unit_state = marked_stable m.unit_state count }
 
 -- Each unit's frontier goes on as far as the vectors behind it are firm.
 abbrev pub GoOn : {S : Type 0} → List Row → List ℕ → List (Member S) → List ℕ → List ℕ → Type 0
 GoOn {S} table stable_lengths members before after =
     (u : ℕ) (m : Member S) (f : ℕ) → slice_get members u ≡ Some m → slice_get before u ≡ Some f
-    → IsFrontier (length stable_lengths) m.recovering f
-    → slice_get after u ≡ Some (frontier_of table stable_lengths m.recovering f)
+    → IsFrontier (length stable_lengths) m.unit_state f
+    → slice_get after u ≡ Some (frontier_of table stable_lengths m.unit_state f)
 
 -- So many more intervals of the unit are stable, and the frontiers have gone on. All else is as it was.
 pub record MakesStable {S : Type 0} (before : TenantState S) (u count : ℕ) (m : Member S)
@@ -178,7 +178,7 @@ pub record MakesStable {S : Type 0} (before : TenantState S) (u count : ℕ) (m 
   pub table : after.table ≡ before.table
   pub members : after.members ≡ slice_set before.members u (flushed_member m count)
   pub stable_lengths : after.stable_lengths
-      ≡ slice_set before.stable_lengths u (stable_places (flushed_member m count).recovering)
+      ≡ slice_set before.stable_lengths u (stable_places (flushed_member m count).unit_state)
   pub fronts : length after.frontiers ≡ length before.frontiers
   pub frontiers : GoOn before.table after.stable_lengths after.members before.frontiers after.frontiers
   pub gone : after.gone ≡ before.gone
@@ -189,7 +189,7 @@ pub record MakesStable {S : Type 0} (before : TenantState S) (u count : ℕ) (m 
 
 -- with an entry for each of n units in what it took and sent
 abbrev pub fitted_member : {S : Type 0} → ℕ → Member S → Member S
-fitted_member n m = record m { recovering = widened_to m.recovering n }
+fitted_member n m = record m { unit_state = widened_to m.unit_state n }
 
 -- so are the units from this place on
 abbrev pub fitted_from : {S : Type 0} → ℕ → List (Member S) → ℕ → List (Member S)
@@ -214,7 +214,7 @@ joined_kept M t kind =
 -- why a unit can't restart, whatever the store says
 abbrev pub restart_refusal : {S : Type 0} → List Row → ℕ → Option (Member S) → Option Refusal
 restart_refusal table u None = Some NoUnit
-restart_refusal table u (Some m) = cond (is_some m.recovering.progress) (Some Up)
+restart_refusal table u (Some m) = cond (is_some m.unit_state.progress) (Some Up)
     (cond (nat_le MAX_INCARNATION (incarnation_of table u)) (Some Limit) None)
 
 -- how many places of a path are kept, where this one is the first orphan, if there is one
@@ -233,7 +233,7 @@ returned r target progress = record (cut_behind r target) { progress = progress 
 
 abbrev pub returned_member : {S : Type 0} → Member S → ℕ → Option (Progress S) → ℕ → Member S
 returned_member m target progress known = record m {
-  recovering = returned m.recovering target progress;
+  unit_state = returned m.unit_state target progress;
   outputs = outputs_to m.outputs (target + 1);
   known = known;
 }
@@ -243,7 +243,7 @@ abbrev pub returned_kept : {S : Type 0} → TenantState S → ℕ → Member S �
 returned_kept t u m target incarnation progress = record t {
   table = t.table ++ record { unit = u; incarnation = incarnation; start = target + 1 } ∷ [];
   members = slice_set t.members u (returned_member m target progress (length t.table + 1));
-  stable_lengths = slice_set t.stable_lengths u (stable_places (returned m.recovering target progress));
+  stable_lengths = slice_set t.stable_lengths u (stable_places (returned m.unit_state target progress));
 }
 
 -- these records are those at these positions of a unit's live ones
@@ -279,26 +279,26 @@ pub record IsAsking {S : Type 0} (refusal : Option Refusal) (r : Recovering S) (
   pub asked : asking r source text ≡ Some input
 
 -- what the tenant tells a unit of its table and its other units
-abbrev pub known_of : {S : Type 0} → TenantState S → Member S → Known
+abbrev pub known_of : {S : Type 0} → TenantState S → Member S → TenantView
 known_of t m = record { table = t.table; rows = m.known; stable_lengths = t.stable_lengths }
 
 -- why a letter is refused before its turn
 abbrev pub letter_refusal_of : {S : Type 0} → TenantState S → Member S → Letter → Option Refusal
 letter_refusal_of t m c =
-    letter_refused (known_of t m) t.optimism t.quota.volatile m.recovering c.source c.number c.content
+    letter_refused (known_of t m) t.optimism t.quota.volatile m.unit_state c.source c.number c.content
 
 -- The letter has a content, upon whose text its receiver's turn has this input, and no test before the turn refuses it.
 abbrev pub IsAskingBy : {S : Type 0} → TenantState S → Member S → Letter → Option Content → Input S → Type 0
 IsAskingBy t m c None input = ⊥
 IsAskingBy t m c (Some content) input =
-    IsAsking (letter_refusal_of t m c) m.recovering (FromUnit c.source) content.text input
+    IsAsking (letter_refusal_of t m c) m.unit_state (FromUnit c.source) content.text input
 
 -- the mark, the vector and the record of the interval that a receipt makes
 abbrev pub next_mark_of : {S : Type 0} → TenantState S → ℕ → Member S → Mark
-next_mark_of t u m = mark_upon t.table u m.recovering
+next_mark_of t u m = mark_upon t.table u m.unit_state
 
 abbrev pub next_vector_of : {S : Type 0} → TenantState S → ℕ → Member S → Receipt → List Mark
-next_vector_of t u m q = vector_upon t.table (length t.members) u m.recovering q.vector
+next_vector_of t u m q = vector_upon t.table (length t.members) u m.unit_state q.vector
 
 abbrev pub next_record_of : {S : Type 0} → List ℕ → TenantState S → ℕ → Member S → Receipt → Record
 next_record_of name t u m q = record {
@@ -329,7 +329,7 @@ turn_refusal_of t m turn = turn_refused t.quota (length m.outputs) (length t.let
 -- a unit with one more interval, which has this record and these outputs
 abbrev pub received_member : {S : Type 0} → Meaning S → Member S → Record → List (List ℕ) → Member S
 received_member M m r outputs =
-    record m { recovering = took M m.recovering r; outputs = m.outputs ++ held_of r.mark outputs }
+    record m { unit_state = took M m.unit_state r; outputs = m.outputs ++ held_of r.mark outputs }
 
 -- the tenant with such a unit, and with these letters
 abbrev pub received_kept : {S : Type 0} → Meaning S → TenantState S → ℕ → Member S → Record → List (List ℕ)
@@ -339,6 +339,6 @@ received_kept M t u m r outputs made =
 
 -- The record is of the unit's next interval, whose turn has this input.
 pub record IsNext {S : Type 0} (m : Member S) (r : Record) (input : Input S) : Type 0 where
-  pub room : places m.recovering < 2 ^ 32
-  pub mark : r.mark.index ≡ places m.recovering
-  pub asked : asking m.recovering r.source r.text ≡ Some input
+  pub room : places m.unit_state < 2 ^ 32
+  pub mark : r.mark.index ≡ places m.unit_state
+  pub asked : asking m.unit_state r.source r.text ≡ Some input

@@ -18,4 +18,4 @@ failing = record { appended = 0; end = Device }
 
 -- the answer of a step that does not touch the store
 abbrev pub IsPlain : Answer → Type 0
-IsPlain a = (a.kept ≡ a.reply) × (a.said ≡ quiet)
+IsPlain a = (a.history_copy ≡ a.reply) × (a.said ≡ quiet)

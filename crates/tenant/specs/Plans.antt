@@ -5,13 +5,13 @@ use Rattle.model.specs.Handler.{Turn}
 use Rattle.session.specs.Counts.{Counts}
 use Rattle.compact.specs.Compact.{Progress}
 use Rattle.compact.specs.Steps.{Receipt}
-use Rattle.tenant.specs.declared.receipts.Arrival.{Arrival}
+use Rattle.tenant.specs.declared.receipts.Incoming.{Incoming}
 use Rattle.tenant.specs.declared.receipts.Plan.{Plan}
 use Rattle.tenant.specs.Kept.{TenantState, Member, next_letters_of, next_record_of, next_reply_of, turn_refusal_of}
 use Rattle.tenant.specs.Outcomes.{IsPlain}
 
 -- what is received, by values
-abbrev pub arrived : Arrival → Receipt
+abbrev pub arrived : Incoming → Receipt
 arrived a = record { source = a.source; letter = a.letter; number = a.number; text = a.text.now; vector = a.vector.now }
 
 -- The record, the letters and the answer are those of this receipt, whose turn is this one, where the unit's
@@ -29,5 +29,5 @@ abbrev pub IsPlanned : {S : Type 0} → List ℕ → TenantState S → ℕ → M
     → Type 0
 IsPlanned {S} name t u m q turn (Ok plan) =
     (turn_refusal_of t m turn ≡ None)
-    × ((p : Progress S) → m.recovering.progress ≡ Some p → IsPlan name t u m q turn p.sessions plan)
+    × ((p : Progress S) → m.unit_state.progress ≡ Some p → IsPlan name t u m q turn p.sessions plan)
 IsPlanned name t u m q turn (Err r) = turn_refusal_of t m turn ≡ Some r

@@ -7,7 +7,7 @@ use Rattle.tenant.specs.Kept.{Member}
 
 -- the seats of the units
 abbrev pub seats_of : {S : Type 0} → List (Member S) → List Seat
-seats_of members = map (λ m. m.recovering.seat) members
+seats_of members = map (λ m. m.unit_state.seat) members
 
 -- how many units a tenant with these seats was opened with
 abbrev pub opening_count : List Seat → ℕ

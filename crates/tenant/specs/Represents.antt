@@ -26,8 +26,8 @@ IsReleased gone kept all =
 -- records.
 pub record IsMember {S : Type 0} (t : TenantState S) (live : ℕ → List ℕ) (u : ℕ) (m : Member S)
     (x : Unit S) : Type 0 where
-  pub kept : IsKept m.recovering
-  pub seen : IsSeen m.recovering x
+  pub kept : IsKept m.unit_state
+  pub seen : IsSeen m.unit_state x
   pub own : m.unit ≡ u
   pub outputs : x.hold ≡ m.outputs
   pub known : x.known ≡ m.known

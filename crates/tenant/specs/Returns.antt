@@ -19,10 +19,10 @@ pub record Went {S : Type 0} (M : Meaning S) (name : List ℕ) (t : TenantState 
   pub said : a.said ≡ quiet
   pub reply : a.reply ≡ given
   pub progress : Option (Progress S)
-  pub replayed : IsReplayed M before.records (places_of name u before) m.recovering target (length t.members) progress
+  pub replayed : IsReplayed M before.records (places_of name u before) m.unit_state target (length t.members) progress
   pub back : v ≡ returned_kept t u m target (incarnation_of t.table u + 1) progress
   pub own : places_of name u after
-      ≡ take (length (places_of name u before) - live_count m.recovering + (target - m.recovering.base))
+      ≡ take (length (places_of name u before) - live_count m.unit_state + (target - m.unit_state.base))
       (places_of name u before)
   pub others : OthersKept name u before after
   pub grows : Grows before.records [] after.records

@@ -10,13 +10,13 @@ use model::{End, Letters, Mark, NoMemory, Refusal, Reply, Said};
 use std::alloc::Global;
 use std::marker::Model;
 
-/// What the store said during a step, and the reply twice: one is given, and one is kept. Both are
+/// What the store said during a step, and the reply twice: one is given, and a copy goes into the history. Both are
 /// made before the step changes anything.
 #[derive(Debug, Drop)]
 pub struct Answer {
     pub said: Said,
     pub reply: Reply,
-    pub kept: Reply,
+    pub history_copy: Reply,
 }
 
 /// The store was not asked.
@@ -34,24 +34,24 @@ impl Answer {
     pub(crate) fn plain(alloc: Global, reply: Reply) -> Result<Answer, NoMemory>
         ensures { IfOk result (λ a. (a.reply ≡ reply) × IsPlain a) }
     {
-        let kept = reply.copy(alloc)?;
+        let history_copy = reply.copy(alloc)?;
         Ok(Answer {
             said: quiet(),
             reply,
-            kept,
+            history_copy,
         })
     }
 
     /// The same for a reply that takes no memory, made twice.
-    pub(crate) fn twice(reply: Reply, kept: Reply) -> Answer
-        requires { kept ≡ reply }
+    pub(crate) fn from_pair(reply: Reply, history_copy: Reply) -> Answer
+        requires { history_copy ≡ reply }
         ensures reply { result.reply ≡ reply }
         ensures plain { IsPlain result }
     {
         Answer {
             said: quiet(),
             reply,
-            kept,
+            history_copy,
         }
     }
 
@@ -63,14 +63,14 @@ impl Answer {
         Answer {
             said: quiet(),
             reply: Reply::Refused { refusal },
-            kept: Reply::Refused { refusal },
+            history_copy: Reply::Refused { refusal },
         }
     }
 
     /// The step is refused, since the store was asked for a record and its device failed.
-    pub(crate) fn unfetched() -> Answer
+    pub(crate) fn device_failed() -> Answer
         ensures reply { result.reply ≡ Refused Store }
-        ensures kept { result.kept ≡ result.reply }
+        ensures copied { result.history_copy ≡ result.reply }
         ensures said { result.said ≡ failing }
     {
         Answer {
@@ -81,7 +81,7 @@ impl Answer {
             reply: Reply::Refused {
                 refusal: Refusal::Store,
             },
-            kept: Reply::Refused {
+            history_copy: Reply::Refused {
                 refusal: Refusal::Store,
             },
         }
@@ -91,14 +91,14 @@ impl Answer {
 /// The answer to a receipt, in few bytes until it is given: the mark of the new interval, the outputs then held, and
 /// the letters that it made, twice.
 #[derive(Drop)]
-pub(crate) struct Acceptance {
+pub(crate) struct PendingAccept {
     at: Mark,
     held: u64,
     letters: Letters,
-    kept: Letters,
+    history_copy: Letters,
 }
 
-impl Model for Acceptance {
+impl Model for PendingAccept {
     ghost use Rattle.model.specs.Records.{quiet};
     ghost use Rattle.model.specs.declared.replies.Reply.TheVariants.{Accepted};
     ghost use Rattle.tenant.specs.declared.answer.Answer.{Answer as AnswerOf};
@@ -108,11 +108,11 @@ impl Model for Acceptance {
     ghost view = { λ a. record {
       said = quiet;
       reply = Accepted a.at a.held a.letters;
-      kept = Accepted a.at a.held a.kept;
+      history_copy = Accepted a.at a.held a.history_copy;
     } };
 }
 
-impl Acceptance {
+impl PendingAccept {
     /// A receipt is accepted.
     ///
     /// # Errors
@@ -123,15 +123,15 @@ impl Acceptance {
         at: Mark,
         held: u64,
         letters: Letters,
-    ) -> Result<Acceptance, NoMemory>
+    ) -> Result<PendingAccept, NoMemory>
         ensures { IfOk result (λ a. (a.reply ≡ Accepted at held letters) × IsPlain a) }
     {
-        let kept = letters.copy(alloc)?;
-        Ok(Acceptance {
+        let history_copy = letters.copy(alloc)?;
+        Ok(PendingAccept {
             at,
             held,
             letters,
-            kept,
+            history_copy,
         })
     }
 
@@ -139,19 +139,19 @@ impl Acceptance {
     pub(crate) fn into_answer(self) -> Answer
         ensures { result ≡ self }
     {
-        let Acceptance {
+        let PendingAccept {
             at,
             held,
             letters,
-            kept,
+            history_copy,
         } = self;
         Answer {
             said: quiet(),
             reply: Reply::Accepted { at, held, letters },
-            kept: Reply::Accepted {
+            history_copy: Reply::Accepted {
                 at,
                 held,
-                letters: kept,
+                letters: history_copy,
             },
         }
     }

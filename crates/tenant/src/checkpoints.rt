@@ -25,7 +25,7 @@ fn checkpoint_member<H: Handler>(
 ) -> Result<(), NoMemory>
     requires within { at < length members.old.items }
     requires whole { (m : MemberOf H.State) → slice_get members.old.items at ≡ Some m
-        → length m.recovering.volatile ≡ 0 }
+        → length m.unit_state.volatile ≡ 0 }
     ensures ok { IfOk result (λ _. (m : MemberOf H.State) → slice_get members.old.items at ≡ Some m
         → members.new.items ≡ slice_set members.old.items at (checkpointed_member m)) }
     ensures err { OnErr result (members.new.items ≡ members.old.items) }
@@ -40,7 +40,7 @@ impl<H: Handler> Tenant<H> {
     fn checkpoint_at(&mut self, alloc: Global, handler: &H, unit: Unit) -> Result<(), NoMemory>
         requires within { unit < length self.old.members }
         requires whole { (m : MemberOf H.State) → slice_get self.old.members unit ≡ Some m
-            → length m.recovering.volatile ≡ 0 }
+            → length m.unit_state.volatile ≡ 0 }
         ensures ok { IfOk result (λ _. (m : MemberOf H.State) → slice_get self.old.members unit ≡ Some m
             → self.new ≡ record self.old { members = slice_set self.old.members unit (checkpointed_member m) }) }
         ensures err { OnErr result (self.new ≡ self.old) }
@@ -69,7 +69,7 @@ impl<H: Handler> Tenant<H> {
         unit: Unit,
         log: &mut SharedLog<S>,
     ) -> Result<Answer, NoMemory>
-        ensures kept { IfOk result (λ a. a.kept ≡ a.reply) }
+        ensures copied { IfOk result (λ a. a.history_copy ≡ a.reply) }
         ensures did { IfOk result (λ a. (w : World) → Stands H.meaning tenant.now self.old w log.old.records
             → Did H.meaning tenant.now w self.new (Checkpoint unit) a.said a.reply log.old log.new) }
         ensures keeps_on { IfOk result (λ a.
@@ -93,6 +93,6 @@ impl<H: Handler> Tenant<H> {
         let at = member.last_mark(unit);
         self.checkpoint_at(alloc, handler, unit)?;
         self.forget_firm(tenant, log);
-        Ok(Answer::twice(Reply::Checkpointed { at }, Reply::Checkpointed { at }))
+        Ok(Answer::from_pair(Reply::Checkpointed { at }, Reply::Checkpointed { at }))
     }
 }

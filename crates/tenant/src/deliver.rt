@@ -16,12 +16,12 @@ ghost use Rattle.tenant.specs.Represents.{DoesAs, StandsFor};
 
 use crate::answer::Answer;
 use crate::member::Member;
-use crate::receipts::{Arrival, ask_upon};
+use crate::receipts::{Incoming, ask_upon};
 use crate::tenant::Tenant;
 use handler::{Ask, Done, Handler};
 use model::{Letter, NoMemory, Refusal, Source, TenantName};
 use std::alloc::Global;
-use unit_steps::{Known, SentLetter, letter_refusal};
+use unit_steps::{SentLetter, TenantView, letter_refusal};
 
 impl<H: Handler> Tenant<H> {
     /// The letter of this number.
@@ -38,9 +38,9 @@ impl<H: Handler> Tenant<H> {
             → result ≡ letter_refusal_of self.now member.now sent.now }
         ensures within { IfNone result (IsWithin (length self.now.stable_lengths) sent.now.content) }
         ensures content { IfNone result (is_some sent.now.content ≡ true) }
-        ensures room { IfNone result (places member.now.recovering < 2 ^ 32) }
+        ensures room { IfNone result (places member.now.unit_state < 2 ^ 32) }
     {
-        let known = Known {
+        let known = TenantView {
             table: &self.table,
             rows: member.known(),
             stable_lengths: self.stable_lengths.as_slice(),
@@ -49,7 +49,7 @@ impl<H: Handler> Tenant<H> {
             &known,
             self.optimism,
             self.quota.volatile,
-            member.recovering(),
+            member.unit_state(),
             sent,
         )
     }
@@ -133,17 +133,17 @@ impl<H: Handler> Tenant<H> {
                 return Ok(Answer::refused(Refusal::Repeat));
             }
         };
-        let arrival = Arrival {
+        let arrival = Incoming {
             source: Source::Unit(sent.source),
             letter: Some(letter),
             number: sent.number,
             text: content.text(),
             vector: content.vector(),
         };
-        match self.planned(alloc, name, unit, member, &arrival, worked.turn())? {
+        match self.admit(alloc, name, unit, member, &arrival, worked.turn())? {
             Err(refusal) => Ok(Answer::refused(refusal)),
             Ok(plan) => {
-                let answer = self.enter(unit, plan, worked)?;
+                let answer = self.apply(unit, plan, worked)?;
                 Ok(answer)
             }
         }

@@ -44,12 +44,12 @@ fn flush_reply(end: End, count: u64) -> Reply
 /// Logs the volatile record at this place. One of another tenant, which no unit has, is not logged.
 fn append_at<H: Handler, S: Store>(
     tenant: &TenantName,
-    recovering: &RecoveryUnit<H>,
+    unit_state: &RecoveryUnit<H>,
     place: usize,
     log: &mut SharedLog<S>,
 ) -> Result<(), End>
-    requires { place < length recovering.now.volatile }
-    ensures ok { OnOk result ((r : RecordOf) → slice_get recovering.now.volatile place ≡ Some r
+    requires { place < length unit_state.now.volatile }
+    ensures ok { OnOk result ((r : RecordOf) → slice_get unit_state.now.volatile place ≡ Some r
         → (log.new.records ≡ log.old.records ++ Some r ∷ []) × (bytes_eq r.tenant tenant.now ≡ true)) }
     ensures err { OnErr result (log.new.records ≡ log.old.records) }
     ensures end { IfErr result (λ e. e ≡ Whole → ⊥) }
@@ -58,7 +58,7 @@ fn append_at<H: Handler, S: Store>(
     ensures steady { result ≢ Err Device → log.new.failures ≡ log.old.failures }
     ensures once { log.new.failures ≤ log.old.failures + 1 }
 {
-    let logged = recovering.volatile_record(place);
+    let logged = unit_state.volatile_record(place);
     if logged.tenant != *tenant {
         return Err(End::Memory);
     }
@@ -72,21 +72,21 @@ fn append_at<H: Handler, S: Store>(
 /// Logs the volatile records of a unit of this tenant, from the front, until one is refused.
 fn append_all<H: Handler, S: Store>(
     tenant: &TenantName,
-    recovering: &RecoveryUnit<H>,
+    unit_state: &RecoveryUnit<H>,
     log: &mut SharedLog<S>,
 ) -> Said
-    ensures records { log.new.records ≡ log.old.records ++ map Some (take result.appended recovering.now.volatile) }
-    ensures own { (k : ℕ) (r : RecordOf) → k < result.appended → slice_get recovering.now.volatile k ≡ Some r
+    ensures records { log.new.records ≡ log.old.records ++ map Some (take result.appended unit_state.now.volatile) }
+    ensures own { (k : ℕ) (r : RecordOf) → k < result.appended → slice_get unit_state.now.volatile k ≡ Some r
         → bytes_eq r.tenant tenant.now ≡ true }
-    ensures within { result.appended ≤ length recovering.now.volatile }
-    ensures whole { (result.end ≡ Whole) ↔ (result.appended ≡ length recovering.now.volatile) }
+    ensures within { result.appended ≤ length unit_state.now.volatile }
+    ensures whole { (result.end ≡ Whole) ↔ (result.appended ≡ length unit_state.now.volatile) }
     ensures device { result.end ≡ Device → HasRisen log.old.failures log.new.failures }
     ensures up { log.old.failures ≤ log.new.failures }
     ensures steady { result.end ≢ Device → log.new.failures ≡ log.old.failures }
     ensures once { log.new.failures ≤ log.old.failures + 1 }
 {
-    for i in 0..recovering.volatile_count() {
-        match append_at(tenant, recovering, i, log) {
+    for i in 0..unit_state.volatile_count() {
+        match append_at(tenant, unit_state, i, log) {
             Ok(()) => {}
             Err(end) => {
                 return Said {
@@ -97,13 +97,13 @@ fn append_all<H: Handler, S: Store>(
         }
     }
     Said {
-        appended: recovering.volatile_count() as u64,
+        appended: unit_state.volatile_count() as u64,
         end: End::Whole,
     }
 }
 
 /// Whether there was no memory for the first record.
-fn is_forgone(said: Said) -> bool
+fn nothing_logged_for_memory(said: Said) -> bool
     ensures none { IsTrue result → said.appended ≡ 0 }
     ensures memory { IsTrue result → said.end ≡ Memory }
     ensures some { result ≡ false → said.end ≡ Memory → 0 < said.appended }
@@ -123,12 +123,12 @@ fn mark_stable<H: Handler>(
 )
     requires within { at < length members.old.items }
     requires few { (m : MemberOf H.State) → slice_get members.old.items at ≡ Some m
-        → count ≤ length m.recovering.volatile }
+        → count ≤ length m.unit_state.volatile }
     ensures members { (m : MemberOf H.State) → slice_get members.old.items at ≡ Some m
         → members.new.items ≡ slice_set members.old.items at (flushed_member m count) }
     ensures lengths { (m : MemberOf H.State) → slice_get members.old.items at ≡ Some m
         → stable_lengths.new.items
-        ≡ slice_set stable_lengths.old.items at (stable_places (flushed_member m count).recovering) }
+        ≡ slice_set stable_lengths.old.items at (stable_places (flushed_member m count).unit_state) }
 {
     let member = &mut members[at];
     member.mark_stable(count);
@@ -154,18 +154,18 @@ fn front_of<H: Handler>(
     frontier: u64,
 ) -> u64
     ensures { (m : MemberOf H.State) → slice_get members.now at ≡ Some m
-        → IsFrontier (length stable_lengths.now) m.recovering frontier
-        → result ≡ frontier_of table.now stable_lengths.now m.recovering frontier }
+        → IsFrontier (length stable_lengths.now) m.unit_state frontier
+        → result ≡ frontier_of table.now stable_lengths.now m.unit_state frontier }
 {
     match member_at(members, at) {
-        Some(member) => frontier_after(table, stable_lengths, member.recovering(), frontier),
+        Some(member) => frontier_after(table, stable_lengths, member.unit_state(), frontier),
         None => frontier,
     }
 }
 
 /// Each unit's frontier goes on as far as the vectors behind it are firm. Takes time by the intervals that become firm,
 /// and by the units.
-fn move_fronts<H: Handler>(
+fn advance_frontiers<H: Handler>(
     table: &StartTable,
     stable_lengths: &[u64],
     members: &[Member<H>],
@@ -185,7 +185,7 @@ impl<H: Handler> Tenant<H> {
     fn enter_stable(&mut self, unit: Unit, count: usize)
         requires within { unit < length self.old.members }
         requires few { (m : MemberOf H.State) → slice_get self.old.members unit ≡ Some m
-            → count ≤ length m.recovering.volatile }
+            → count ≤ length m.unit_state.volatile }
         ensures makes { (m : MemberOf H.State) → slice_get self.old.members unit ≡ Some m
             → MakesStable self.old unit count m self.new }
         ensures gone { self.new.gone ≡ self.old.gone }
@@ -196,7 +196,7 @@ impl<H: Handler> Tenant<H> {
             usize::from(unit.number()),
             count,
         );
-        move_fronts(
+        advance_frontiers(
             &self.table,
             self.stable_lengths.as_slice(),
             self.members.as_slice(),
@@ -217,7 +217,7 @@ impl<H: Handler> Tenant<H> {
         unit: Unit,
         log: &mut SharedLog<S>,
     ) -> Result<Answer, NoMemory>
-        ensures kept { IfOk result (λ a. a.kept ≡ a.reply) }
+        ensures copied { IfOk result (λ a. a.history_copy ≡ a.reply) }
         ensures did { IfOk result (λ a. (w : World) → Stands H.meaning tenant.now self.old w log.old.records
             → Did H.meaning tenant.now w self.new (Flush unit) a.said a.reply log.old log.new) }
         ensures keeps_on { IfOk result (λ a.
@@ -236,8 +236,8 @@ impl<H: Handler> Tenant<H> {
             Ok(member) => member,
             Err(refusal) => return Ok(Answer::refused(refusal)),
         };
-        let said = append_all(tenant, member.recovering(), log);
-        if is_forgone(said) {
+        let said = append_all(tenant, member.unit_state(), log);
+        if nothing_logged_for_memory(said) {
             return Err(NoMemory);
         }
         self.enter_stable(unit, said.appended as usize);
@@ -245,7 +245,7 @@ impl<H: Handler> Tenant<H> {
         Ok(Answer {
             said,
             reply: flush_reply(said.end, said.appended),
-            kept: flush_reply(said.end, said.appended),
+            history_copy: flush_reply(said.end, said.appended),
         })
     }
 }

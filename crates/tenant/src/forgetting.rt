@@ -41,12 +41,12 @@ fn empty_letter(letters: &mut Vec<SentLetter>, letter: Option<Letter>)
 }
 
 /// So do those that the unit received behind its base, up to the interval of this index.
-fn empty_passed<H: Handler>(letters: &mut Vec<SentLetter>, recovering: &RecoveryUnit<H>, base: u32)
-    requires { base < places recovering.now }
-    ensures { letters.new.items ≡ emptied_all letters.old.items (passed recovering.now base) }
+fn empty_passed<H: Handler>(letters: &mut Vec<SentLetter>, unit_state: &RecoveryUnit<H>, base: u32)
+    requires { base < places unit_state.now }
+    ensures { letters.new.items ≡ emptied_all letters.old.items (passed unit_state.now base) }
 {
-    for index in recovering.base()..base {
-        empty_letter(letters, recovering.interval(index + 1).letter);
+    for index in unit_state.base()..base {
+        empty_letter(letters, unit_state.interval(index + 1).letter);
     }
 }
 
@@ -59,18 +59,18 @@ fn forget_member<H: Handler, S: Store>(
     frontier: u64,
     log: &mut SharedLog<S>,
 )
-    ensures member { member.new ≡ moved_member member.old (next_base member.old.recovering frontier) }
+    ensures member { member.new ≡ moved_member member.old (next_base member.old.unit_state frontier) }
     ensures letters { letters.new.items
-        ≡ moved_letters letters.old.items member.old.recovering (next_base member.old.recovering frontier) }
+        ≡ moved_letters letters.old.items member.old.unit_state (next_base member.old.unit_state frontier) }
     ensures log { LetsGo tenant.now member.old.unit
-        (given_up member.old.recovering (next_base member.old.recovering frontier)) log.old log.new }
+        (given_up member.old.unit_state (next_base member.old.unit_state frontier)) log.old log.new }
 {
     let base = match member.next_base(frontier) {
         Some(base) => base,
         None => return,
     };
-    empty_passed(letters, member.recovering(), base);
-    log.forget(tenant, member.unit(), member.positions_to(base));
+    empty_passed(letters, member.unit_state(), base);
+    log.forget(tenant, member.unit(), member.live_records_until(base));
     member.move_base(base);
 }
 
@@ -85,11 +85,11 @@ fn forget_at<H: Handler, S: Store>(
 )
     requires { at < length members.old.items }
     ensures members { (m : MemberOf H.State) → slice_get members.old.items at ≡ Some m
-        → members.new.items ≡ slice_set members.old.items at (moved_member m (next_base m.recovering frontier)) }
+        → members.new.items ≡ slice_set members.old.items at (moved_member m (next_base m.unit_state frontier)) }
     ensures letters { (m : MemberOf H.State) → slice_get members.old.items at ≡ Some m
-        → letters.new.items ≡ moved_letters letters.old.items m.recovering (next_base m.recovering frontier) }
+        → letters.new.items ≡ moved_letters letters.old.items m.unit_state (next_base m.unit_state frontier) }
     ensures log { (m : MemberOf H.State) → slice_get members.old.items at ≡ Some m
-        → LetsGo tenant.now m.unit (given_up m.recovering (next_base m.recovering frontier)) log.old log.new }
+        → LetsGo tenant.now m.unit (given_up m.unit_state (next_base m.unit_state frontier)) log.old log.new }
 {
     let member = &mut members[at];
     forget_member(tenant, member, letters, frontier, log);
@@ -106,9 +106,9 @@ impl<H: Handler> Tenant<H> {
     )
         requires { at < length self.old.members }
         ensures kept { (m : MemberOf H.State) → slice_get self.old.members at ≡ Some m
-            → self.new ≡ moved_kept self.old at m (next_base m.recovering frontier) }
+            → self.new ≡ moved_kept self.old at m (next_base m.unit_state frontier) }
         ensures log { (m : MemberOf H.State) → slice_get self.old.members at ≡ Some m
-            → LetsGo tenant.now m.unit (given_up m.recovering (next_base m.recovering frontier)) log.old log.new }
+            → LetsGo tenant.now m.unit (given_up m.unit_state (next_base m.unit_state frontier)) log.old log.new }
         ensures gone { self.new.gone ≡ self.old.gone }
     {
         forget_at(

@@ -28,7 +28,7 @@ fn sessions_at<H: Handler>(
 ) -> Result<Option<Sessions>, NoMemory>
     requires { at < length members.now.items }
     ensures { IfOk result (λ sessions. (m : MemberOf H.State) → slice_get members.now.items at ≡ Some m
-        → sessions ≡ option_map (λ p. widened_counts p.sessions width) m.recovering.progress) }
+        → sessions ≡ option_map (λ p. widened_counts p.sessions width) m.unit_state.progress) }
 {
     members[at].widened_sessions(width)
 }
@@ -37,7 +37,7 @@ fn sessions_at<H: Handler>(
 fn fit_at<H: Handler>(members: &mut Vec<Member<H>>, at: usize, sessions: Option<Sessions>)
     requires { at < length members.old.items }
     ensures { (n : ℕ) (m : MemberOf H.State) → slice_get members.old.items at ≡ Some m
-        → sessions ≡ option_map (λ p. widened_counts p.sessions n) m.recovering.progress
+        → sessions ≡ option_map (λ p. widened_counts p.sessions n) m.unit_state.progress
         → members.new.items ≡ slice_set members.old.items at (fitted_member n m) }
 {
     let member = &mut members[at];
@@ -146,7 +146,7 @@ impl<H: Handler> Tenant<H> {
             return Ok(Answer::refused(Refusal::Limit));
         }
         let unit = Unit::new(count as u8);
-        let answer = Answer::twice(Reply::Joined { unit }, Reply::Joined { unit });
+        let answer = Answer::from_pair(Reply::Joined { unit }, Reply::Joined { unit });
         self.enter_unit(alloc, handler, kind)?;
         Ok(answer)
     }

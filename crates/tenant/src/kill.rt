@@ -17,7 +17,7 @@ use model::{Reply, Unit};
 fn kill_member<H: Handler>(members: &mut Vec<Member<H>>, at: usize) -> u64
     requires { at < length members.old.items }
     ensures lost { (m : MemberOf H.State) → slice_get members.old.items at ≡ Some m
-        → result ≡ length m.recovering.volatile }
+        → result ≡ length m.unit_state.volatile }
     ensures members { (m : MemberOf H.State) → slice_get members.old.items at ≡ Some m
         → members.new.items ≡ slice_set members.old.items at (killed_member m) }
 {
@@ -30,7 +30,7 @@ impl<H: Handler> Tenant<H> {
     fn kill_at(&mut self, unit: Unit) -> u64
         requires { unit < length self.old.members }
         ensures lost { (m : MemberOf H.State) → slice_get self.old.members unit ≡ Some m
-            → result ≡ length m.recovering.volatile }
+            → result ≡ length m.unit_state.volatile }
         ensures tenant { (m : MemberOf H.State) → slice_get self.old.members unit ≡ Some m
             → self.new ≡ record self.old { members = slice_set self.old.members unit (killed_member m) } }
         ensures gone { self.new.gone ≡ self.old.gone }
@@ -50,6 +50,6 @@ impl<H: Handler> Tenant<H> {
             Err(refusal) => return Answer::refused(refusal),
         }
         let lost = self.kill_at(unit);
-        Answer::twice(Reply::Killed { lost }, Reply::Killed { lost })
+        Answer::from_pair(Reply::Killed { lost }, Reply::Killed { lost })
     }
 }

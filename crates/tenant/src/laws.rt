@@ -4,7 +4,7 @@
 //! `Tenant::step` cites. Their statements stand in `theory/specs/Laws`.
 
 ghost use Rattle.theory.specs.Laws.{FirmStays, PathsKept, ChainLaw, ForksAreLost, CertificateLaw, ReleasedAreFirm};
-ghost use Rattle.theory.specs.Laws.{ReleasedGrow, ReleaseIsWhole, HeldCanGo, LaxCanGo, VectorsTell, VectorsJoin};
+ghost use Rattle.theory.specs.Laws.{ReleasedGrow, ReleaseIsWhole, HeldCanGo, NotFirmCanGo, VectorsTell, VectorsJoin};
 ghost use Rattle.theory.specs.Laws.{FirmByVector, UnstableByVector, StatesAreFolds, NumbersAlongPaths, NoOrphans};
 ghost use Rattle.theory.specs.Laws.{NoNoticeAppends, CoursesReach, StaysOpen, ReleasedStay, StaysWithin};
 
@@ -57,8 +57,8 @@ pub fn held_can_go<H: Handler>()
 {}
 
 /// A node of a path that is not firm can be lost, where its unit is up.
-pub fn lax_can_go<H: Handler>()
-    ensures { LaxCanGo H.meaning }
+pub fn not_firm_can_go<H: Handler>()
+    ensures { NotFirmCanGo H.meaning }
 {}
 
 /// The greatest marks of a past tell whether it is blind or an orphan.

@@ -32,7 +32,7 @@ use std::marker::Model;
 /// What it needs to go on and to go back, its held outputs, and how many rows of the table it knows.
 #[derive(Drop)]
 pub struct Member<H: Handler> {
-    recovering: RecoveryUnit<H>,
+    unit_state: RecoveryUnit<H>,
     unit: Unit,
     hold: Hold,
     known: usize,
@@ -45,7 +45,7 @@ impl<H: Handler> Model for Member<H> {
     ghost Value = { MemberOf H.State };
 
     ghost view = { λ m. record {
-      recovering = m.recovering;
+      unit_state = m.unit_state;
       unit = m.unit;
       outputs = m.hold.outputs;
       known = m.known;
@@ -82,9 +82,9 @@ impl<H: Handler> Member<H> {
     {
         let unit = seat.unit;
         let hold = Hold::new(alloc, unit);
-        let recovering = RecoveryUnit::begin(alloc, handler, seat, width)?;
+        let unit_state = RecoveryUnit::begin(alloc, handler, seat, width)?;
         Ok(Member {
-            recovering,
+            unit_state,
             unit,
             hold,
             known,
@@ -92,17 +92,17 @@ impl<H: Handler> Member<H> {
     }
 
     /// What it needs to go on and to go back.
-    pub(crate) fn recovering(&self) -> &RecoveryUnit<H>
-        ensures { result.now ≡ self.now.recovering }
+    pub(crate) fn unit_state(&self) -> &RecoveryUnit<H>
+        ensures { result.now ≡ self.now.unit_state }
     {
-        &self.recovering
+        &self.unit_state
     }
 
     /// Whether the unit is up.
     pub(crate) fn is_up(&self) -> bool
-        ensures { result ≡ is_some self.now.recovering.progress }
+        ensures { result ≡ is_some self.now.unit_state.progress }
     {
-        self.recovering.is_up()
+        self.unit_state.is_up()
     }
 
     /// Which unit it is.
@@ -114,9 +114,9 @@ impl<H: Handler> Member<H> {
 
     /// Its seat.
     pub(crate) fn seat(&self) -> Seat
-        ensures { result ≡ self.now.recovering.seat }
+        ensures { result ≡ self.now.unit_state.seat }
     {
-        self.recovering.seat()
+        self.unit_state.seat()
     }
 
     /// How many outputs are held.
@@ -135,41 +135,41 @@ impl<H: Handler> Member<H> {
 
     /// How many receipts of its path were from outside.
     pub(crate) fn outside(&self) -> u64
-        ensures { result ≡ self.now.recovering.outside }
+        ensures { result ≡ self.now.unit_state.outside }
     {
-        self.recovering.outside()
+        self.unit_state.outside()
     }
 
     /// How many of its intervals are kept: those from the base on.
     pub(crate) fn interval_count(&self) -> u64
-        ensures { result ≡ length self.now.recovering.intervals }
+        ensures { result ≡ length self.now.unit_state.intervals }
     {
-        let base = u64::from(self.recovering.base());
-        self.recovering.places().saturating_sub(base)
+        let base = u64::from(self.unit_state.base());
+        self.unit_state.places().saturating_sub(base)
     }
 
     /// How many of its intervals are not stable.
     pub(crate) fn volatile_count(&self) -> usize
-        ensures { result ≡ length self.now.recovering.volatile }
+        ensures { result ≡ length self.now.unit_state.volatile }
     {
-        self.recovering.volatile_count()
+        self.unit_state.volatile_count()
     }
 
     /// How many are.
     pub(crate) fn stable_count(&self) -> u64
-        ensures { result ≡ stable_places self.now.recovering }
+        ensures { result ≡ stable_places self.now.unit_state }
     {
-        let volatile = self.recovering.volatile_count() as u64;
-        self.recovering.places().saturating_sub(volatile)
+        let volatile = self.unit_state.volatile_count() as u64;
+        self.unit_state.places().saturating_sub(volatile)
     }
 
     /// The mark of its last interval.
     pub(crate) fn last_mark(&self, unit: Unit) -> Mark
-        ensures { (x : UnitOf H.State) → IsKept self.now.recovering → IsSeen self.now.recovering x
+        ensures { (x : UnitOf H.State) → IsKept self.now.unit_state → IsSeen self.now.unit_state x
             → result ≡ last_mark_of unit x }
     {
-        let index = self.recovering.last_index();
-        let interval = self.recovering.interval(index);
+        let index = self.unit_state.last_index();
+        let interval = self.unit_state.interval(index);
         interval.vector.get(unit)
     }
 
@@ -187,18 +187,18 @@ impl<H: Handler> Member<H> {
     {
         let mark = logged.mark;
         self.hold.reserve(worked.turn().outputs().len())?;
-        let effects = self.recovering.take(logged, worked)?;
+        let effects = self.unit_state.take(logged, worked)?;
         self.hold.add_reserved(mark, effects.outputs);
         Ok(())
     }
 
     /// The unit fails: what is not stable is gone. Tells how many intervals were lost.
     pub(crate) fn kill(&mut self) -> u64
-        ensures lost { result ≡ length self.old.recovering.volatile }
+        ensures lost { result ≡ length self.old.unit_state.volatile }
         ensures member { self.new ≡ killed_member self.old }
     {
-        let lost = self.recovering.kill();
-        let places = self.recovering.places();
+        let lost = self.unit_state.kill();
+        let places = self.unit_state.places();
         cut_hold(&mut self.hold, places);
         lost
     }
@@ -209,28 +209,28 @@ impl<H: Handler> Member<H> {
     ///
     /// `NoMemory` where the snapshot finds no memory; the unit stays as it was.
     pub(crate) fn checkpoint(&mut self, alloc: Global, handler: &H) -> Result<(), NoMemory>
-        requires { length self.old.recovering.volatile ≡ 0 }
+        requires { length self.old.unit_state.volatile ≡ 0 }
         ensures ok { IfOk result (λ _. self.new ≡ checkpointed_member self.old) }
         ensures err { OnErr result (self.new ≡ self.old) }
     {
-        self.recovering.checkpoint(alloc, handler)?;
+        self.unit_state.checkpoint(alloc, handler)?;
         Ok(())
     }
 
     /// What it took and sent with entries for `n` units, where it is up.
     pub(crate) fn widened_sessions(&self, n: usize) -> Result<Option<Sessions>, NoMemory>
         ensures { IfOk result (λ sessions.
-            sessions ≡ option_map (λ p. widened_counts p.sessions n) self.now.recovering.progress) }
+            sessions ≡ option_map (λ p. widened_counts p.sessions n) self.now.unit_state.progress) }
     {
-        self.recovering.widened_sessions(n)
+        self.unit_state.widened_sessions(n)
     }
 
     /// Adds the entries that `widened_sessions` made. Takes no memory.
     pub(crate) fn fit(&mut self, sessions: Option<Sessions>)
-        ensures { (n : ℕ) → sessions ≡ option_map (λ p. widened_counts p.sessions n) self.old.recovering.progress
+        ensures { (n : ℕ) → sessions ≡ option_map (λ p. widened_counts p.sessions n) self.old.unit_state.progress
             → self.new ≡ fitted_member n self.old }
     {
-        self.recovering.fit(sessions);
+        self.unit_state.fit(sessions);
     }
 
     /// Copies of the texts of the outputs at the front that are of the first so many intervals.
@@ -257,30 +257,30 @@ impl<H: Handler> Member<H> {
 
     /// So many more of its intervals are stable. Takes no memory.
     pub(crate) fn mark_stable(&mut self, count: usize)
-        requires { count ≤ length self.old.recovering.volatile }
+        requires { count ≤ length self.old.unit_state.volatile }
         ensures { self.new ≡ flushed_member self.old count }
     {
-        self.recovering.mark_stable(count);
+        self.unit_state.mark_stable(count);
     }
 
     /// The index of its last interval.
     pub(crate) fn last_index(&self) -> u32
-        ensures { result + 1 ≡ places self.now.recovering }
+        ensures { result + 1 ≡ places self.now.unit_state }
     {
-        self.recovering.last_index()
+        self.unit_state.last_index()
     }
 
     /// The index of the last interval before its first orphan, by all rows. None is left that is kept where the first
     /// orphan is the base, which is firm and so no orphan.
-    pub(crate) fn last_kept(&self, table: &StartTable) -> Option<u32>
-        ensures target { IfSome result (λ t. IsTarget self.now.recovering t) }
-        ensures kept { IfSome result (λ t. OrphansAreTail table.now self.now.recovering.intervals
-            → t + 1 ≡ kept_length table.now self.now.recovering) }
+    pub(crate) fn rollback_target(&self, table: &StartTable) -> Option<u32>
+        ensures target { IfSome result (λ t. IsTarget self.now.unit_state t) }
+        ensures kept { IfSome result (λ t. OrphansAreTail table.now self.now.unit_state.intervals
+            → t + 1 ≡ kept_length table.now self.now.unit_state) }
     {
-        match self.recovering.first_orphan(table) {
-            None => Some(self.recovering.last_index()),
+        match self.unit_state.first_orphan(table) {
+            None => Some(self.unit_state.last_index()),
             Some(first) => {
-                if self.recovering.base() < first {
+                if self.unit_state.base() < first {
                     Some(first - 1)
                 } else {
                     None
@@ -291,13 +291,13 @@ impl<H: Handler> Member<H> {
 
     /// The first position among its live records that it needs to go back to the target, and the position behind the
     /// last.
-    pub(crate) fn needed(&self, target: u32) -> (usize, usize)
-        ensures first { (s : SnapshotOf (ProgressOf H.State)) → nearest_of self.now.recovering.shelf target ≡ Some s
-            → result.0 ≡ s.index - self.now.recovering.base }
-        ensures last { result.1 ≡ min (target + 1) (stable_places self.now.recovering) - 1 - self.now.recovering.base }
+    pub(crate) fn replay_range(&self, target: u32) -> (usize, usize)
+        ensures first { (s : SnapshotOf (ProgressOf H.State)) → nearest_of self.now.unit_state.shelf target ≡ Some s
+            → result.0 ≡ s.index - self.now.unit_state.base }
+        ensures last { result.1 ≡ min (target + 1) (stable_places self.now.unit_state) - 1 - self.now.unit_state.base }
     {
-        let base = self.recovering.base();
-        let from = match self.recovering.restart_index(target) {
+        let base = self.unit_state.base();
+        let from = match self.unit_state.restart_index(target) {
             Some(index) => index,
             None => base,
         };
@@ -307,44 +307,44 @@ impl<H: Handler> Member<H> {
     }
 
     /// How many of its live records stand up to the target.
-    pub(crate) fn positions_to(&self, target: u32) -> usize
-        ensures { result ≡ target - self.now.recovering.base }
+    pub(crate) fn live_records_until(&self, target: u32) -> usize
+        ensures { result ≡ target - self.now.unit_state.base }
     {
-        target.saturating_sub(self.recovering.base()) as usize
+        target.saturating_sub(self.unit_state.base()) as usize
     }
 
     /// The index of its greatest snapshot below the frontier, if there is one.
     pub(crate) fn next_base(&self, frontier: u64) -> Option<u32>
-        ensures base { result ≡ next_base self.now.recovering frontier }
-        ensures within { IfSome result (λ b. b < places self.now.recovering) }
+        ensures base { result ≡ next_base self.now.unit_state frontier }
+        ensures within { IfSome result (λ b. b < places self.now.unit_state) }
     {
-        let last = u64::from(self.recovering.last_index());
+        let last = u64::from(self.unit_state.last_index());
         let target = frontier.saturating_sub(1).min(last);
-        self.recovering.restart_index(target as u32)
+        self.unit_state.restart_index(target as u32)
     }
 
     /// Its base moves to the snapshot of this index. Takes no memory.
     pub(crate) fn move_base(&mut self, base: u32)
-        requires { has_index self.old.recovering.shelf base ≡ true }
+        requires { has_index self.old.unit_state.shelf base ≡ true }
         ensures { self.new ≡ rebased_member self.old base }
     {
-        self.recovering.forget(base);
+        self.unit_state.forget(base);
     }
 
     /// How many of its records are live: those of its stable intervals behind the base.
     pub(crate) fn live_count(&self) -> usize
-        ensures { result ≡ live_count self.now.recovering }
+        ensures { result ≡ live_count self.now.unit_state }
     {
         let stable = self.stable_count().saturating_sub(1);
-        stable.saturating_sub(u64::from(self.recovering.base())) as usize
+        stable.saturating_sub(u64::from(self.unit_state.base())) as usize
     }
 
     /// How many checkpoints it has, with its base where that is not its beginning.
     pub(crate) fn shelved_count(&self) -> usize
-        ensures { result ≡ shelved_count self.now.recovering }
+        ensures { result ≡ shelved_count self.now.unit_state }
     {
-        let others = self.recovering.shelved();
-        if self.recovering.base() == 0 {
+        let others = self.unit_state.shelved();
+        if self.unit_state.base() == 0 {
             others
         } else {
             others + 1
@@ -364,11 +364,11 @@ impl<H: Handler> Member<H> {
         width: usize,
         records: &[Record],
     ) -> Result<Option<Progress<H::State>>, NoMemory>
-        requires { IsTarget self.now.recovering target }
-        ensures { IfOk result (λ p. p ≡ (restored H.meaning self.now.recovering target width records.now).progress) }
+        requires { IsTarget self.now.unit_state target }
+        ensures { IfOk result (λ p. p ≡ (restored H.meaning self.now.unit_state target width records.now).progress) }
     {
         let progress = self
-            .recovering
+            .unit_state
             .rebuilt(alloc, handler, target, width, records)?;
         Ok(progress)
     }
@@ -380,10 +380,10 @@ impl<H: Handler> Member<H> {
         progress: Option<Progress<H::State>>,
         known: usize,
     )
-        requires { IsTarget self.old.recovering target }
+        requires { IsTarget self.old.unit_state target }
         ensures { self.new ≡ returned_member self.old target progress known }
     {
-        self.recovering.return_to(target, progress);
+        self.unit_state.return_to(target, progress);
         cut_hold(&mut self.hold, u64::from(target) + 1);
         self.known = known;
     }

@@ -48,7 +48,7 @@ impl<H: Handler> Tenant<H> {
     fn is_last(&self, unit: Unit, index: u32) -> bool
         requires { unit < length self.now.members }
         ensures { (m : MemberOf H.State) → slice_get self.now.members unit ≡ Some m
-            → result ≡ nat_le (places m.recovering) (index + 1) }
+            → result ≡ nat_le (places m.unit_state) (index + 1) }
     {
         let member = self.member_there(unit);
         member.last_index() <= index
@@ -68,7 +68,7 @@ impl<H: Handler> Tenant<H> {
         unit: Unit,
         log: &mut SharedLog<S>,
     ) -> Result<Answer, NoMemory>
-        ensures kept { IfOk result (λ a. a.kept ≡ a.reply) }
+        ensures copied { IfOk result (λ a. a.history_copy ≡ a.reply) }
         ensures did { IfOk result (λ a. (w : World) → Stands H.meaning tenant.now self.old w log.old.records
             → Did H.meaning tenant.now w self.new (Notice unit) a.said a.reply log.old log.new) }
         ensures shelves { IfOk result (λ a. Shelves (after_return unit a.reply) self.old self.new) }
@@ -86,15 +86,18 @@ impl<H: Handler> Tenant<H> {
             Ok(_) => {}
             Err(refusal) => return Ok(Answer::refused(refusal)),
         }
-        let target = match self.last_kept(unit) {
+        let target = match self.rollback_target(unit) {
             Some(target) => target,
             None => return Err(NoMemory),
         };
         if self.is_last(unit, target) {
             self.learn_rows(unit);
-            return Ok(Answer::twice(Reply::Noticed { row: None }, Reply::Noticed { row: None }));
+            return Ok(Answer::from_pair(
+                Reply::Noticed { row: None },
+                Reply::Noticed { row: None },
+            ));
         }
-        if self.is_worn_out(unit) {
+        if self.incarnations_exhausted(unit) {
             return Ok(Answer::refused(Refusal::Limit));
         }
         let row = Some(self.start_behind(unit, target));

@@ -13,7 +13,7 @@ ghost use Rattle.tenant.specs.Outcomes.{IsPlain};
 ghost use Rattle.tenant.specs.Represents.{DoesAs, StandsFor};
 
 use crate::answer::Answer;
-use crate::receipts::{Arrival, ask_upon};
+use crate::receipts::{Incoming, ask_upon};
 use crate::tenant::Tenant;
 use depvector::SharedVector;
 use handler::{Ask, Done, Handler};
@@ -36,8 +36,8 @@ impl<H: Handler> Tenant<H> {
             → IsAsked (post_needs H.meaning w unit number text.now) (post_of H.meaning w unit number text.now) w r) }
         ensures input { IfOk result (λ r. IfOk r (λ input. (m : MemberOf H.State)
             → slice_get self.now.members unit ≡ Some m
-            → IsAsking (post_refused self.now.quota.volatile m.recovering number text.now)
-            m.recovering Outside text.now input)) }
+            → IsAsking (post_refused self.now.quota.volatile m.unit_state number text.now)
+            m.unit_state Outside text.now input)) }
     {
         let member = match self.member(unit) {
             Some(member) => member,
@@ -47,7 +47,7 @@ impl<H: Handler> Tenant<H> {
         };
         match post_refusal(
             self.quota.volatile,
-            member.recovering(),
+            member.unit_state(),
             u64::from(number),
             text,
         ) {
@@ -69,8 +69,8 @@ impl<H: Handler> Tenant<H> {
         worked: Done<H>,
     ) -> Result<Answer, NoMemory>
         requires { (m : MemberOf H.State) → slice_get self.old.members unit ≡ Some m
-            → IsAsking (post_refused self.old.quota.volatile m.recovering number text)
-            m.recovering Outside text worked.input }
+            → IsAsking (post_refused self.old.quota.volatile m.unit_state number text)
+            m.unit_state Outside text worked.input }
         ensures done { IfOk result (λ a.
             DoesAs H.meaning name.now (λ w. post_of H.meaning w unit number text) self.old a.reply self.new) }
         ensures plain { IfOk result IsPlain }
@@ -85,17 +85,17 @@ impl<H: Handler> Tenant<H> {
             }
         };
         let vector = SharedVector::new(alloc, 0)?;
-        let arrival = Arrival {
+        let arrival = Incoming {
             source: Source::Outside,
             letter: None,
             number: u64::from(number),
             text: &text,
             vector: &vector,
         };
-        match self.planned(alloc, name, unit, member, &arrival, worked.turn())? {
+        match self.admit(alloc, name, unit, member, &arrival, worked.turn())? {
             Err(refusal) => Ok(Answer::refused(refusal)),
             Ok(plan) => {
-                let answer = self.enter(unit, plan, worked)?;
+                let answer = self.apply(unit, plan, worked)?;
                 Ok(answer)
             }
         }

@@ -14,7 +14,7 @@ ghost use Rattle.tenant.specs.Kept.{received_kept, received_member};
 ghost use Rattle.tenant.specs.Outcomes.{IsPlain};
 ghost use Rattle.tenant.specs.Plans.{IsPlan, IsPlanned, arrived};
 
-use crate::answer::{Acceptance, Answer};
+use crate::answer::{Answer, PendingAccept};
 use crate::member::Member;
 use crate::tenant::Tenant;
 use depvector::SharedVector;
@@ -22,11 +22,13 @@ use handler::{Ask, Done, Handler, Turn};
 use model::{Letter, Letters, NoMemory, Record, Refusal, Source, TenantName, Text, Unit};
 use session::Sessions;
 use std::alloc::Global;
-use unit_steps::{Made, SentLetter, letters_by, mark_upon, record_upon, turn_refusal, vector_upon};
+use unit_steps::{
+    NewLetters, SentLetter, letters_by, mark_upon, record_upon, turn_refusal, vector_upon,
+};
 
 /// What a unit receives: from whom, which letter under which number, its text and its vector.
 #[derive(Drop)]
-pub(crate) struct Arrival<'a> {
+pub(crate) struct Incoming<'a> {
     pub(crate) source: Source,
     pub(crate) letter: Option<Letter>,
     pub(crate) number: u64,
@@ -38,8 +40,8 @@ pub(crate) struct Arrival<'a> {
 #[derive(Drop)]
 pub(crate) struct Plan {
     pub(crate) logged: Record,
-    pub(crate) made: Made,
-    pub(crate) answer: Acceptance,
+    pub(crate) made: NewLetters,
+    pub(crate) answer: PendingAccept,
 }
 
 /// The turn that a unit has upon this text, or that it is down.
@@ -50,11 +52,11 @@ pub(crate) fn ask_upon<H: Handler>(
     source: Source,
     text: &Text,
 ) -> Result<Result<Ask<H>, Refusal>, NoMemory>
-    ensures asked { IfOk result (λ r. IfOk r (λ input. asking member.now.recovering source text.now ≡ Some input)) }
-    ensures down { IfOk result (λ r. IfErr r (λ refusal. (refusal ≡ Down) × (member.now.recovering.progress ≡ None))) }
+    ensures asked { IfOk result (λ r. IfOk r (λ input. asking member.now.unit_state source text.now ≡ Some input)) }
+    ensures down { IfOk result (λ r. IfErr r (λ refusal. (refusal ≡ Down) × (member.now.unit_state.progress ≡ None))) }
 {
     let own_text = text.copy()?;
-    match member.recovering().ask(alloc, handler, source, own_text)? {
+    match member.unit_state().ask(alloc, handler, source, own_text)? {
         Some(ask) => Ok(Ok(ask)),
         None => Ok(Err(Refusal::Down)),
     }
@@ -66,7 +68,7 @@ fn receive_at<H: Handler>(
     letters: &mut Vec<SentLetter>,
     at: usize,
     logged: Record,
-    made: Made,
+    made: NewLetters,
     worked: Done<H>,
 ) -> Result<(), NoMemory>
     requires within { at < length members.old.items }
@@ -100,9 +102,9 @@ impl<H: Handler> Tenant<H> {
         alloc: Global,
         unit: Unit,
         member: &Member<H>,
-        arrival: &Arrival<'_>,
+        arrival: &Incoming<'_>,
     ) -> Result<SharedVector, NoMemory>
-        requires { places member.now.recovering < 2 ^ 32 }
+        requires { places member.now.unit_state < 2 ^ 32 }
         ensures { IfOk result (λ v. v ≡ next_vector_of self.now unit member.now (arrived arrival.now)) }
     {
         let width = self.width();
@@ -114,7 +116,7 @@ impl<H: Handler> Tenant<H> {
             &self.table,
             width,
             unit,
-            member.recovering(),
+            member.unit_state(),
             arrival.vector,
         )
     }
@@ -125,15 +127,15 @@ impl<H: Handler> Tenant<H> {
         name: &TenantName,
         unit: Unit,
         member: &Member<H>,
-        arrival: &Arrival<'_>,
+        arrival: &Incoming<'_>,
         vector: SharedVector,
     ) -> Result<Record, NoMemory>
-        requires room { places member.now.recovering < 2 ^ 32 }
+        requires room { places member.now.unit_state < 2 ^ 32 }
         requires own { vector ≡ next_vector_of self.now unit member.now (arrived arrival.now) }
         ensures record { IfOk result (λ r. r ≡ next_record_of name.now self.now unit member.now (arrived arrival.now)) }
         ensures few { IfOk result (λ r. length r.vector ≤ 256) }
     {
-        let mark = mark_upon(&self.table, unit, member.recovering());
+        let mark = mark_upon(&self.table, unit, member.unit_state());
         let _few = vector.as_slice();
         record_upon(
             name,
@@ -156,7 +158,7 @@ impl<H: Handler> Tenant<H> {
         sessions: &Sessions,
         source: Source,
         turn: &Turn<H::State>,
-    ) -> Result<Made, NoMemory>
+    ) -> Result<NewLetters, NoMemory>
         ensures made { IfOk result (λ made.
             made.items ≡ letters_of unit vector.now (advanced sessions.now source)
             (sends_within (length self.now.members) turn.now)) }
@@ -176,8 +178,8 @@ impl<H: Handler> Tenant<H> {
         member: &Member<H>,
         made: usize,
         turn: &Turn<H::State>,
-    ) -> Result<Acceptance, NoMemory>
-        requires room { places member.now.recovering < 2 ^ 32 }
+    ) -> Result<PendingAccept, NoMemory>
+        requires room { places member.now.unit_state < 2 ^ 32 }
         requires held { length member.now.outputs + length turn.now.outputs < 2 ^ 32 }
         requires letters { length self.now.letters + length (sends_within (length self.now.members) turn.now) < 2 ^ 32 }
         requires made { made ≡ length (sends_within (length self.now.members) turn.now) }
@@ -185,9 +187,9 @@ impl<H: Handler> Tenant<H> {
         ensures plain { IfOk result IsPlain }
     {
         let letters = Letters::from_first(alloc, self.letters.len(), made)?;
-        let at = mark_upon(&self.table, unit, member.recovering());
+        let at = mark_upon(&self.table, unit, member.unit_state());
         let held = member.held_count() as u64 + turn.outputs().len() as u64;
-        Acceptance::new(alloc, at, held, letters)
+        PendingAccept::new(alloc, at, held, letters)
     }
 
     /// What a receipt adds and answers that passed all tests, where the unit's sessions are these.
@@ -198,10 +200,10 @@ impl<H: Handler> Tenant<H> {
         unit: Unit,
         member: &Member<H>,
         sessions: &Sessions,
-        arrival: &Arrival<'_>,
+        arrival: &Incoming<'_>,
         turn: &Turn<H::State>,
     ) -> Result<Plan, NoMemory>
-        requires room { places member.now.recovering < 2 ^ 32 }
+        requires room { places member.now.unit_state < 2 ^ 32 }
         requires held { length member.now.outputs + length turn.now.outputs < 2 ^ 32 }
         requires letters { length self.now.letters + length (sends_within (length self.now.members) turn.now) < 2 ^ 32 }
         ensures { IfOk result (IsPlan name.now self.now unit member.now (arrived arrival.now) turn.now sessions.now) }
@@ -220,16 +222,16 @@ impl<H: Handler> Tenant<H> {
     /// What a receipt adds and answers that passed the tests before its turn, or why it is refused for what its turn
     /// makes.
     #[inline(always)]
-    pub(crate) fn planned(
+    pub(crate) fn admit(
         &self,
         alloc: Global,
         name: &TenantName,
         unit: Unit,
         member: &Member<H>,
-        arrival: &Arrival<'_>,
+        arrival: &Incoming<'_>,
         turn: &Turn<H::State>,
     ) -> Result<Result<Plan, Refusal>, NoMemory>
-        requires { places member.now.recovering < 2 ^ 32 }
+        requires { places member.now.unit_state < 2 ^ 32 }
         ensures { IfOk result (IsPlanned name.now self.now unit member.now (arrived arrival.now) turn.now) }
     {
         let held = member.held_count();
@@ -239,7 +241,7 @@ impl<H: Handler> Tenant<H> {
             None => {}
         }
         // The tests before the turn refuse a unit that is down.
-        let progress = match member.recovering().progress() {
+        let progress = match member.unit_state().progress() {
             Some(progress) => progress,
             None => return Err(NoMemory),
         };
@@ -249,7 +251,7 @@ impl<H: Handler> Tenant<H> {
 
     /// Takes a receipt as it was planned.
     #[inline(always)]
-    pub(crate) fn enter(
+    pub(crate) fn apply(
         &mut self,
         unit: Unit,
         plan: Plan,

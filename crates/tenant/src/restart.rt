@@ -30,7 +30,7 @@ impl<H: Handler> Tenant<H> {
         };
         if member.is_up() {
             Some(Refusal::Up)
-        } else if self.is_worn_out(unit) {
+        } else if self.incarnations_exhausted(unit) {
             Some(Refusal::Limit)
         } else {
             None
@@ -51,7 +51,7 @@ impl<H: Handler> Tenant<H> {
         unit: Unit,
         log: &mut SharedLog<S>,
     ) -> Result<Answer, NoMemory>
-        ensures kept { IfOk result (λ a. a.kept ≡ a.reply) }
+        ensures copied { IfOk result (λ a. a.history_copy ≡ a.reply) }
         ensures did { IfOk result (λ a. (w : World) → Stands H.meaning tenant.now self.old w log.old.records
             → Did H.meaning tenant.now w self.new (Restart unit) a.said a.reply log.old log.new) }
         ensures shelves { IfOk result (λ a. Shelves (after_return unit a.reply) self.old self.new) }
@@ -69,7 +69,7 @@ impl<H: Handler> Tenant<H> {
             Some(refusal) => return Ok(Answer::refused(refusal)),
             None => {}
         }
-        let target = match self.last_kept(unit) {
+        let target = match self.rollback_target(unit) {
             Some(target) => target,
             None => return Err(NoMemory),
         };

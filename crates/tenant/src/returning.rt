@@ -25,7 +25,7 @@ use std::alloc::Global;
 
 /// How many of the unit's live records stand before its last `count`. They are none of a tenant whose name had no other
 /// owner.
-fn count_before<S: Store>(
+fn predecessor_records<S: Store>(
     tenant: &TenantName,
     unit: Unit,
     count: usize,
@@ -122,14 +122,18 @@ fn fetch_some<S: Store>(
 }
 
 /// The index of the last interval that the unit at this place keeps, if one is left.
-fn last_kept_at<H: Handler>(members: &[Member<H>], table: &StartTable, at: usize) -> Option<u32>
+fn rollback_target_at<H: Handler>(
+    members: &[Member<H>],
+    table: &StartTable,
+    at: usize,
+) -> Option<u32>
     ensures target { IfSome result (λ t. (m : MemberOf H.State) → slice_get members.now at ≡ Some m
-        → IsTarget m.recovering t) }
+        → IsTarget m.unit_state t) }
     ensures kept { IfSome result (λ t. (m : MemberOf H.State) → slice_get members.now at ≡ Some m
-        → OrphansAreTail table.now m.recovering.intervals → t + 1 ≡ kept_length table.now m.recovering) }
+        → OrphansAreTail table.now m.unit_state.intervals → t + 1 ≡ kept_length table.now m.unit_state) }
 {
     match member_at(members, at) {
-        Some(member) => member.last_kept(table),
+        Some(member) => member.rollback_target(table),
         None => None,
     }
 }
@@ -144,12 +148,12 @@ fn return_member<H: Handler>(
     known: usize,
 )
     requires within { at < length members.old.items }
-    requires target { (m : MemberOf H.State) → slice_get members.old.items at ≡ Some m → IsTarget m.recovering target }
+    requires target { (m : MemberOf H.State) → slice_get members.old.items at ≡ Some m → IsTarget m.unit_state target }
     ensures members { (m : MemberOf H.State) → slice_get members.old.items at ≡ Some m
         → members.new.items ≡ slice_set members.old.items at (returned_member m target progress known) }
     ensures lengths { (m : MemberOf H.State) → slice_get members.old.items at ≡ Some m
         → stable_lengths.new.items
-        ≡ slice_set stable_lengths.old.items at (stable_places (returned m.recovering target progress)) }
+        ≡ slice_set stable_lengths.old.items at (stable_places (returned m.unit_state target progress)) }
 {
     let member = &mut members[at];
     member.return_to(target, progress, known);
@@ -172,18 +176,18 @@ impl<H: Handler> Tenant<H> {
         target: u32,
         log: &mut SharedLog<S>,
     ) -> Result<Option<Progress<H::State>>, StoreFault>
-        requires { IsTarget member.now.recovering target }
+        requires { IsTarget member.now.unit_state target }
         ensures records { log.new.records ≡ log.old.records }
         ensures replayed { IfOk result (λ p.
-            IsReplayed H.meaning log.old.records (places_of tenant.now unit log.old) member.now.recovering target
+            IsReplayed H.meaning log.old.records (places_of tenant.now unit log.old) member.now.unit_state target
             (length self.now.members) p) }
         ensures device { result ≡ Err StoreFault.Device → HasRisen log.old.failures log.new.failures }
         ensures up { log.old.failures ≤ log.new.failures }
         ensures steady { result ≢ Err StoreFault.Device → log.new.failures ≡ log.old.failures }
         ensures once { log.new.failures ≤ log.old.failures + 1 }
     {
-        let (first, last) = member.needed(target);
-        let skipped = count_before(tenant, unit, member.live_count(), log);
+        let (first, last) = member.replay_range(target);
+        let skipped = predecessor_records(tenant, unit, member.live_count(), log);
         let fetched = fetch_some(alloc, tenant, unit, skipped, first, last, log)?;
         let width = self.members.len();
         let progress = member.rebuilt(alloc, handler, target, width, fetched.as_slice())?;
@@ -199,7 +203,7 @@ impl<H: Handler> Tenant<H> {
     ) -> Result<(), NoMemory>
         requires within { unit < length self.old.members }
         requires target { (m : MemberOf H.State) → slice_get self.old.members unit ≡ Some m
-            → IsTarget m.recovering target }
+            → IsTarget m.unit_state target }
         requires room { incarnation_of self.old.table unit < MAX_INCARNATION }
         ensures ok { OnOk result ((m : MemberOf H.State) → slice_get self.old.members unit ≡ Some m
             → self.new ≡ returned_kept self.old unit m target (incarnation_of self.old.table unit + 1) progress) }
@@ -245,9 +249,9 @@ impl<H: Handler> Tenant<H> {
     ) -> Result<Answer, NoMemory>
         requires within { unit < length self.old.members }
         requires target { (m : MemberOf H.State) → slice_get self.old.members unit ≡ Some m
-            → IsTarget m.recovering target }
+            → IsTarget m.unit_state target }
         requires room { incarnation_of self.old.table unit < MAX_INCARNATION }
-        ensures kept { IfOk result (λ a. a.kept ≡ a.reply) }
+        ensures copied { IfOk result (λ a. a.history_copy ≡ a.reply) }
         ensures returns { IfOk result (λ a. (m : MemberOf H.State) → slice_get self.old.members unit ≡ Some m
             → Returns H.meaning tenant.now self.old unit m target reply a self.new log.old log.new) }
         ensures beside { IfOk result (λ _. Grows log.old.records [] log.new.records
@@ -260,11 +264,11 @@ impl<H: Handler> Tenant<H> {
         ensures gone { self.new.gone ≡ self.old.gone }
     {
         let member = self.member_there(unit);
-        let keep = member.positions_to(target);
-        let skipped = count_before(tenant, unit, member.live_count(), log);
+        let keep = member.live_records_until(target);
+        let skipped = predecessor_records(tenant, unit, member.live_count(), log);
         let progress = match self.progress_at(alloc, handler, tenant, member, unit, target, log) {
             Ok(progress) => progress,
-            Err(StoreFault::Device) => return Ok(Answer::unfetched()),
+            Err(StoreFault::Device) => return Ok(Answer::device_failed()),
             Err(StoreFault::NoMemory) => return Err(NoMemory),
         };
         let answer = Answer::plain(alloc, reply)?;
@@ -285,19 +289,19 @@ impl<H: Handler> Tenant<H> {
     }
 
     /// The index of the last interval that the unit keeps, if one is left.
-    pub(crate) fn last_kept(&self, unit: Unit) -> Option<u32>
+    pub(crate) fn rollback_target(&self, unit: Unit) -> Option<u32>
         ensures target { IfSome result (λ t. (m : MemberOf H.State) → slice_get self.now.members unit ≡ Some m
-            → IsTarget m.recovering t) }
+            → IsTarget m.unit_state t) }
         ensures kept { IfSome result (λ t. (m : MemberOf H.State) → slice_get self.now.members unit ≡ Some m
-            → OrphansAreTail self.now.table m.recovering.intervals
-            → t + 1 ≡ kept_length self.now.table m.recovering) }
+            → OrphansAreTail self.now.table m.unit_state.intervals
+            → t + 1 ≡ kept_length self.now.table m.unit_state) }
     {
         let members = self.members.as_slice();
-        last_kept_at(members, &self.table, usize::from(unit.number()))
+        rollback_target_at(members, &self.table, usize::from(unit.number()))
     }
 
     /// Whether the unit has all the incarnations that there can be.
-    pub(crate) fn is_worn_out(&self, unit: Unit) -> bool
+    pub(crate) fn incarnations_exhausted(&self, unit: Unit) -> bool
         ensures { result ≡ nat_le MAX_INCARNATION (incarnation_of self.now.table unit) }
     {
         self.table.latest(unit) >= MAX_INCARNATION

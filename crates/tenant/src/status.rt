@@ -76,6 +76,6 @@ impl<H: Handler> Tenant<H> {
             up: member.is_up(),
             volatile: member.volatile_count() as u64,
         };
-        Answer::twice(standing.reply(), standing.reply())
+        Answer::from_pair(standing.reply(), standing.reply())
     }
 }

@@ -27,7 +27,7 @@ impl<H: Handler> Tenant<H> {
         step: TenantStep,
         log: &mut SharedLog<S>,
     ) -> Result<Answer, NoMemory>
-        ensures kept { IfOk result (λ a. a.kept ≡ a.reply) }
+        ensures copied { IfOk result (λ a. a.history_copy ≡ a.reply) }
         ensures did { IfOk result (λ a. (w : World) → Stands H.meaning name.now self.old w log.old.records
             → Did H.meaning name.now w self.new step a.said a.reply log.old log.new) }
         // It keeps of its past what the rules of keeping leave.
@@ -79,7 +79,7 @@ impl<H: Handler> Tenant<H> {
     ) -> Result<Option<Answer>, NoMemory>
         ensures fresh { IfOk result (λ o. (w : World) → Stands H.meaning name.now self.old w log.old.records
             → WasFresh (needs H.meaning w step) worked.input o) }
-        ensures kept { IfOk result (λ o. IfSome o (λ a. a.kept ≡ a.reply)) }
+        ensures copied { IfOk result (λ o. IfSome o (λ a. a.history_copy ≡ a.reply)) }
         ensures did { IfOk result (λ o. IfSome o (λ a. (w : World)
             → Stands H.meaning name.now self.old w log.old.records
             → Did H.meaning name.now w self.new step a.said a.reply log.old log.new)) }

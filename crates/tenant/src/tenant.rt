@@ -56,7 +56,7 @@ impl<H: Handler> Tenant<H> {
     /// The unit of this number, if it is there and up.
     pub(crate) fn up_member(&self, unit: Unit) -> Result<&Member<H>, Refusal>
         ensures found { IfOk result (λ m. slice_get self.now.members unit ≡ Some m.now) }
-        ensures up { IfOk result (λ m. is_some m.now.recovering.progress ≡ true) }
+        ensures up { IfOk result (λ m. is_some m.now.unit_state.progress ≡ true) }
         ensures refused { IfErr result (λ r. up_refusal (slice_get self.now.members unit) ≡ Some r) }
     {
         match self.member(unit) {

@@ -28,7 +28,7 @@ use Rattle.model.specs.Alone.{Event, step, step_open, course_from, Reachable}
 use Rattle.model.specs.Alone.Reachable.{opened, stepped}
 use Rattle.model.proofs.Places.{get_below, at_unit_found}
 use Rattle.theory.proofs.Counts.{first_counted}
-use Rattle.theory.specs.Laws.{firm_outputs, CanGo, HeldCanGo, LaxCanGo, ReleaseIsWhole}
+use Rattle.theory.specs.Laws.{firm_outputs, CanGo, HeldCanGo, NotFirmCanGo, ReleaseIsWhole}
 use Rattle.theory.proofs.ListLaws.{bool_cases, has_at, eq_same, set_get_same, set_get_other, get_set, get_append}
 use Rattle.theory.proofs.ListLaws.{get_take, get_take_while, take_while_passes, append_get_last, map_at, or_left}
 use Rattle.theory.proofs.ListLaws.{or_right, true_lt, take_while_le, not_true, get_append_any}
@@ -263,12 +263,12 @@ module _ {S : Type 0} (M : Meaning S) where
       )
 
   -- a node that is not firm can go
-  lax_goes : (w : World) → Chain w
+  not_firm_goes : (w : World) → Chain w
       → DownCut w → ((y : ℕ) → y < length w.members → nat_le 65535 (incarnation_of w.table y) ≡ false)
       → (u : ℕ) (m : Member) → slice_get w.members u ≡ Some m → m.up ≡ true
       → (i x y : ℕ) → slice_get m.path i ≡ Some x
       → DependsOn w.nodes x y → is_stable w.members y ≡ false → CanGo M w u x
-  lax_goes w c down rooms u m found up i x y on d lax =
+  not_firm_goes w c down rooms u m found up i x y on d lax =
       let s = c.sound in
       let le = depends_le s.placed d in
       let xin = (s.units u m found).made i x on in
@@ -456,7 +456,7 @@ module _ {S : Type 0} (M : Meaning S) where
       m.path q.released (x, text) rest (firm_closed v g.chain.sound u m found) all e' in
       let at = has_at m.path x f.1 in
       let lax = not_all (is_stable w.members) (past v.nodes x) (same_firm x ∙ f.0) in
-      lax_goes M w c (down_set v.members u q down (λ z. down u m found z))
+      not_firm_goes M w c (down_set v.members u q down (λ z. down u m found z))
       rooms u q (set_get_same v.members u q m found) up at.0 x lax.0 at.1 (past_depends v.nodes x lax.0 lax.1) lax.2
 
   -- the node of the first output held after a release can go
@@ -470,9 +470,10 @@ module _ {S : Type 0} (M : Meaning S) where
       found up (λ y b. room_left (incarnation_of v.table y) (reachable_limited M r y) (rooms y b)))
 
   -- a node of a path that is not firm can go, where its unit is up
-  pub lax_can_go : LaxCanGo M
-  lax_can_go w r rooms u m found up x h lax =
+  pub not_firm_can_go : NotFirmCanGo M
+  not_firm_can_go w r rooms u m found up x h lax =
       let t = has_at m.path x h in
       let a = not_all (is_stable w.members) (past w.nodes x) lax in
-      lax_goes M w (reachable_invariant M r).chain (reachable_down M r) (λ y b. room_left (incarnation_of w.table y)
+      not_firm_goes M w (reachable_invariant M r).chain (reachable_down M r)
+      (λ y b. room_left (incarnation_of w.table y)
       (reachable_limited M r y) (rooms y b)) u m found up t.0 x a.0 t.1 (past_depends w.nodes x a.0 a.1) a.2

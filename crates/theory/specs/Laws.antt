@@ -237,8 +237,9 @@ NumbersAlongPaths M = (w : World) → Reachable M w → (u : ℕ) (m : Member) �
     ≡ count_along (executed M w).sends t m.path
 
 -- a node of a path that is not firm can go, where its unit is up
-abbrev pub LaxCanGo : {S : Type 0} → Meaning S → Type 0
-LaxCanGo M = (w : World) → Reachable M w → ((y : ℕ) → y < length w.members → incarnation_of w.table y ≢ MAX_INCARNATION)
+abbrev pub NotFirmCanGo : {S : Type 0} → Meaning S → Type 0
+NotFirmCanGo M = (w : World) → Reachable M w
+    → ((y : ℕ) → y < length w.members → incarnation_of w.table y ≢ MAX_INCARNATION)
     → (u : ℕ) (m : Member) → slice_get w.members u ≡ Some m → m.up ≡ true → (x : ℕ) → has m.path x ≡ true
     → is_firm w x ≡ false → CanGo M w u x
 

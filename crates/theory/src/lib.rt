@@ -24,7 +24,7 @@
 //! | `Released` | what is released begins the outputs of the firm front |
 //! | `Certificate` | `Invariant`: all that holds of every world; laws `certificate_law`, `released_are_firm` |
 //! | `ReleasedGrow` | law `released_grow` |
-//! | `HeldCanGo` | laws `release_is_whole`, `held_can_go`, `lax_can_go` |
+//! | `HeldCanGo` | laws `release_is_whole`, `held_can_go`, `not_firm_can_go` |
 //! | `VectorLaw` | law `vectors_tell` |
 //! | `WithoutOptimism` | laws `no_orphans`, `no_notice_appends` |
 //! | `Chains` | laws `firm_stays`, `paths_kept`, `chains`, `forks_are_lost` |

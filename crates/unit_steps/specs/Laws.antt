@@ -8,11 +8,11 @@ use Rattle.compact.specs.Steps.{Receipt, going_on, lengths_of, letter_refusal, n
 use Rattle.compact.specs.Steps.{tests_of_turn}
 use Rattle.rollback.specs.Units.{IsKept, Recovering}
 use Rattle.rollback_laws.specs.Seen.{IsSeen}
-use Rattle.unit_steps.specs.Receipts.{Known, frontier_of, letter_refused, mark_upon, post_refused, turn_refused}
+use Rattle.unit_steps.specs.Receipts.{TenantView, frontier_of, letter_refused, mark_upon, post_refused, turn_refused}
 use Rattle.unit_steps.specs.Receipts.{vector_upon}
 
 -- what the tenant's other units and its table tell this one
-abbrev pub known_to : {S : Type 0} → Compact S → Unit S → Known
+abbrev pub known_to : {S : Type 0} → Compact S → Unit S → TenantView
 known_to k x = record { table = k.table; rows = x.known; stable_lengths = lengths_of k }
 
 abbrev pub PostsAreRefused : {S : Type 0} → Meaning S → Type 0

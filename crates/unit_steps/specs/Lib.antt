@@ -1,3 +1,3 @@
 pub mod Receipts
 pub mod Laws
-pub mod Made
+pub mod NewLetters

@@ -44,13 +44,13 @@ abbrev pub post_refused : {S : Type 0} → ℕ → Recovering S → ℕ → List
 post_refused volatile_quota r number text = arrival_refusal volatile_quota r Outside number text r.progress
 
 -- What a tenant's other units and its table tell a unit that knows so many rows.
-pub record Known : Type 0 where
+pub record TenantView : Type 0 where
   pub table : List Row
   pub rows : ℕ
   pub stable_lengths : List ℕ
 
 -- the tests of what a letter depends on
-abbrev pub past_tests : {S : Type 0} → Known → ℕ → Recovering S → List Mark → List (Bool × Refusal)
+abbrev pub past_tests : {S : Type 0} → TenantView → ℕ → Recovering S → List Mark → List (Bool × Refusal)
 past_tests known optimism r vector =
     (not (is_some r.progress), Down)
     ∷ (is_blind_by (take known.rows known.table) vector, Wait)
@@ -59,7 +59,7 @@ past_tests known optimism r vector =
     ∷ []
 
 -- the refusal of a letter before its turn; a forgotten one was taken
-abbrev pub letter_refused : {S : Type 0} → Known → ℕ → ℕ → Recovering S → ℕ → ℕ → Option Content → Option Refusal
+abbrev pub letter_refused : {S : Type 0} → TenantView → ℕ → ℕ → Recovering S → ℕ → ℕ → Option Content → Option Refusal
 letter_refused known optimism volatile_quota r source number None =
     first_refusal ((not (is_some r.progress), Down) ∷ (true, Repeat) ∷ [])
 letter_refused known optimism volatile_quota r source number (Some content) =

@@ -25,16 +25,16 @@ fn is_firm(table: &StartTable, stable_lengths: &[u64], vector: &SharedVector) ->
 fn is_firm_at<H: Handler>(
     table: &StartTable,
     stable_lengths: &[u64],
-    recovering: &RecoveryUnit<H>,
+    unit_state: &RecoveryUnit<H>,
     index: u32,
 ) -> bool
-    requires base { recovering.now.base ≤ index }
-    requires path { index < places recovering.now }
-    ensures { NoLonger (length stable_lengths.now) recovering.now.intervals → (x : IntervalOf)
-        → slice_get recovering.now.intervals (index - recovering.now.base) ≡ Some x
+    requires base { unit_state.now.base ≤ index }
+    requires path { index < places unit_state.now }
+    ensures { NoLonger (length stable_lengths.now) unit_state.now.intervals → (x : IntervalOf)
+        → slice_get unit_state.now.intervals (index - unit_state.now.base) ≡ Some x
         → result ≡ is_firm_by table.now stable_lengths.now x.vector }
 {
-    let interval = recovering.interval(index);
+    let interval = unit_state.interval(index);
     is_firm(table, stable_lengths, &interval.vector)
 }
 
@@ -43,18 +43,18 @@ fn is_firm_at<H: Handler>(
 pub fn frontier_after<H: Handler>(
     table: &StartTable,
     stable_lengths: &[u64],
-    recovering: &RecoveryUnit<H>,
+    unit_state: &RecoveryUnit<H>,
     frontier: u64,
 ) -> u64
-    ensures { IsFrontier (length stable_lengths.now) recovering.now frontier
-        → result ≡ frontier_of table.now stable_lengths.now recovering.now frontier }
+    ensures { IsFrontier (length stable_lengths.now) unit_state.now frontier
+        → result ≡ frontier_of table.now stable_lengths.now unit_state.now frontier }
 {
-    if frontier < u64::from(recovering.base()) {
+    if frontier < u64::from(unit_state.base()) {
         return frontier;
     }
-    let last = u64::from(recovering.last_index());
+    let last = u64::from(unit_state.last_index());
     let mut firm = frontier;
-    while firm <= last && is_firm_at(table, stable_lengths, recovering, firm as u32) {
+    while firm <= last && is_firm_at(table, stable_lengths, unit_state, firm as u32) {
         firm += 1;
     }
     firm

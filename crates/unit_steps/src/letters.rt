@@ -6,7 +6,7 @@ ghost use Rattle.std.specs.List.{filter};
 ghost use Rattle.session.specs.Counts.{advanced, sent_to};
 ghost use Rattle.compact.specs.Steps.{letters_by as letters_of};
 
-use crate::made::Made;
+use crate::new_letters::NewLetters;
 use depvector::SharedVector;
 use model::{NoMemory, Source, Text, Unit};
 use session::Sessions;
@@ -154,7 +154,7 @@ fn letters_of_one(
     source: &Source,
     send: &(Unit, Text),
     width: usize,
-) -> Result<Made, NoMemory>
+) -> Result<NewLetters, NoMemory>
     ensures { IfOk result (λ made.
         made.items ≡ letters_of unit vector.now (advanced sessions.now source.now) (filter (λ s.
         nat_lt s.0 width) (send.now ∷ []))) }
@@ -163,12 +163,12 @@ fn letters_of_one(
         return Err(NoMemory);
     }
     if usize::from(send.0.number()) >= width {
-        return Ok(Made::none());
+        return Ok(NewLetters::none());
     }
     let number = sessions.number_to(send.0);
     let text = send.1.copy()?;
     let letter = letter_of(alloc, unit, vector, send.0, text, number)?;
-    Ok(Made::one(letter))
+    Ok(NewLetters::one(letter))
 }
 
 /// The counts after a receipt from the source, which have room for so many sends.
@@ -199,13 +199,13 @@ pub fn letters_by(
     source: Source,
     sends: &[(Unit, Text)],
     width: usize,
-) -> Result<Made, NoMemory>
+) -> Result<NewLetters, NoMemory>
     ensures { IfOk result (λ made.
         made.items ≡ letters_of unit vector.now (advanced sessions.now source) (filter (λ s.
         nat_lt s.0 width) sends.now)) }
 {
     if sends.is_empty() {
-        return Ok(Made::none());
+        return Ok(NewLetters::none());
     }
     if sends.len() == 1 {
         return letters_of_one(alloc, unit, vector, sessions, &source, &sends[0], width);
@@ -215,5 +215,5 @@ pub fn letters_by(
         return Err(NoMemory);
     }
     let letters = letters_from(alloc, unit, vector, &mut counts, sends, width)?;
-    Ok(Made::many(letters))
+    Ok(NewLetters::many(letters))
 }

@@ -12,12 +12,12 @@
 mod frontier;
 pub mod laws;
 mod letters;
-mod made;
+mod new_letters;
 mod receipt;
 mod refusals;
 
 pub use frontier::frontier_after;
 pub use letters::{Content, SentLetter, letters_by};
-pub use made::Made;
+pub use new_letters::NewLetters;
 pub use receipt::{mark_upon, record_upon, vector_upon};
-pub use refusals::{Known, letter_refusal, post_refusal, turn_refusal};
+pub use refusals::{TenantView, letter_refusal, post_refusal, turn_refusal};

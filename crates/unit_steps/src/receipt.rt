@@ -12,21 +12,21 @@ use rollback::RecoveryUnit;
 use std::alloc::Global;
 
 /// The mark of the interval that a receipt makes, where the path isn't full.
-pub fn mark_upon<H: Handler>(table: &StartTable, unit: Unit, recovering: &RecoveryUnit<H>) -> Mark
-    ensures { places recovering.now < 2 ^ 32 → result ≡ mark_upon_of table.now unit recovering.now }
+pub fn mark_upon<H: Handler>(table: &StartTable, unit: Unit, unit_state: &RecoveryUnit<H>) -> Mark
+    ensures { places unit_state.now < 2 ^ 32 → result ≡ mark_upon_of table.now unit unit_state.now }
 {
     Mark {
         incarnation: table.latest(unit),
-        index: recovering.last_index().saturating_add(1),
+        index: unit_state.last_index().saturating_add(1),
     }
 }
 
 /// The vector of the last interval.
-fn last_vector<H: Handler>(recovering: &RecoveryUnit<H>) -> &SharedVector
-    ensures { result.now ≡ last_vector_of recovering.now }
+fn last_vector<H: Handler>(unit_state: &RecoveryUnit<H>) -> &SharedVector
+    ensures { result.now ≡ last_vector_of unit_state.now }
 {
-    let last = recovering.last_index();
-    &recovering.interval(last).vector
+    let last = unit_state.last_index();
+    &unit_state.interval(last).vector
 }
 
 /// The vector of the interval that a receipt makes: the last one, with an entry for each unit, joined with that of the
@@ -40,14 +40,14 @@ pub fn vector_upon<H: Handler>(
     table: &StartTable,
     width: usize,
     unit: Unit,
-    recovering: &RecoveryUnit<H>,
+    unit_state: &RecoveryUnit<H>,
     letter: &SharedVector,
 ) -> Result<SharedVector, NoMemory>
     requires { width ≤ 256 }
-    ensures { IfOk result (λ v. places recovering.now < 2 ^ 32
-        → v ≡ vector_upon_of table.now width unit recovering.now letter.now) }
+    ensures { IfOk result (λ v. places unit_state.now < 2 ^ 32
+        → v ≡ vector_upon_of table.now width unit unit_state.now letter.now) }
 {
-    let mut vector = last_vector(recovering).to_own(alloc)?;
+    let mut vector = last_vector(unit_state).to_own(alloc)?;
     vector.widen(width)?;
     let sent = letter.as_slice();
     if sent.len() > vector.len() {
@@ -57,7 +57,7 @@ pub fn vector_upon<H: Handler>(
     if usize::from(unit.number()) >= vector.len() {
         return Err(NoMemory);
     }
-    vector.set_own(unit, mark_upon(table, unit, recovering));
+    vector.set_own(unit, mark_upon(table, unit, unit_state));
     vector.into_shared(alloc)
 }
 

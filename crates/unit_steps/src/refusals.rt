@@ -26,7 +26,7 @@ use rollback::{Progress, RecoveryUnit};
 
 /// What a tenant's table and its units' stable lengths tell a unit that knows the first `rows` of the table.
 #[derive(Clone, Copy)]
-pub struct Known<'a> {
+pub struct TenantView<'a> {
     pub table: &'a StartTable,
     pub rows: usize,
     pub stable_lengths: &'a [u64],
@@ -163,7 +163,7 @@ pub fn post_refusal<H: Handler>(
 
 /// Whether a letter depends on more unstable units than the optimism lets through, or on more units than there are.
 #[tactic(auto, using(crate::proofs::Pending::few_unstable))]
-fn is_pending(known: &Known<'_>, optimism: u32, vector: &SharedVector) -> bool
+fn is_pending(known: &TenantView<'_>, optimism: u32, vector: &SharedVector) -> bool
     ensures within { OnFalse result (length vector.now ≤ length known.now.stable_lengths.now) }
     ensures value { length vector.now ≤ length known.now.stable_lengths.now
         → result ≡ nat_lt optimism (unstable_count known.now.table.now known.now.stable_lengths.now vector.now) }
@@ -180,7 +180,7 @@ fn is_pending(known: &Known<'_>, optimism: u32, vector: &SharedVector) -> bool
 /// Why a letter is refused for what it depends on. One that depends on more units than there are is pending.
 #[tactic(auto, unfolding(model::specs::Steps::first_refusal))]
 fn past_refusal<H: Handler>(
-    known: &Known<'_>,
+    known: &TenantView<'_>,
     optimism: u32,
     unit: &RecoveryUnit<H>,
     vector: &SharedVector,
@@ -210,7 +210,7 @@ fn past_refusal<H: Handler>(
 /// Why a letter is refused before its turn is worked. One whose content is forgotten was taken, and one that depends
 /// on more units than there are is pending.
 pub fn letter_refusal<H: Handler>(
-    known: &Known<'_>,
+    known: &TenantView<'_>,
     optimism: u32,
     volatile_quota: u32,
     unit: &RecoveryUnit<H>,

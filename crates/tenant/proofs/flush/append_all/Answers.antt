@@ -5,7 +5,7 @@ use Rattle.tenant.proofs.flush.append_all.Goals as goal
 pub loop-i-preserved : goal.loop-i-preserved
 loop-i-preserved g c =
     let i = c.loop-i.i in
-    let records = c.args.recovering.now.volatile in
+    let records = c.args.unit_state.now.volatile in
     let within : i < length records =
     (let a = c.loop-i-test.true in let b = c.volatile_count-i-end.ensures in omega (arith, a, b)) in
     record {

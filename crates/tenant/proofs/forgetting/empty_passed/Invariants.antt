@@ -6,7 +6,7 @@ use Rattle.tenant.proofs.forgetting.empty_passed.Given as goal
 abbrev pub invariant-loop-index : goal.invariant-loop-index
 invariant-loop-index g l = record {
   letters : l.letters.items ≡ emptied_all
-      l.fn.letters.items (take (l.index - l.recovering.base) (drop 1 l.recovering.intervals));
-  from : l.recovering.base ≤ l.index;
-  none : l.base ≤ l.recovering.base → l.index ≤ l.recovering.base;
+      l.fn.letters.items (take (l.index - l.unit_state.base) (drop 1 l.unit_state.intervals));
+  from : l.unit_state.base ≤ l.index;
+  none : l.base ≤ l.unit_state.base → l.index ≤ l.unit_state.base;
 }

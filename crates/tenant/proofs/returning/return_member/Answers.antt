@@ -26,7 +26,7 @@ returns-then-at-len-clause-lengths g c = λ m found.
     let items = c.args.members.now.items in
     let same : q ≡ m = c.index_mut-member.ensures.value ∙ get_or_from_slice_get items c.args.at m q found in
     ap (slice_set c.args.stable_lengths.now.items c.args.at) (c.stable_count-stable.ensures
-    ∙ ap (λ (z : Member g.row.H-State.Denot). stable_places z.recovering) (c.return_to.ensures ∙ ap
+    ∙ ap (λ (z : Member g.row.H-State.Denot). stable_places z.unit_state) (c.return_to.ensures ∙ ap
     (λ (z : Member g.row.H-State.Denot). returned_member z c.args.target c.args.progress c.args.known) same))
 
 pub returns-else-at-len-clause-members : goal.returns-else-at-len-clause-members

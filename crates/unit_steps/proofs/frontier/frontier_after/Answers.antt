@@ -12,7 +12,7 @@ loop-firm-preserved g c =
       value = λ is. (
         omega (arith, last, before),
         goes_on c.args.table.now c.args.stable_lengths.now
-            c.args.recovering.now c.loop-firm.firm low (omega (arith, last, before)) c.is_firm_at.result
+            c.args.unit_state.now c.loop-firm.firm low (omega (arith, last, before)) c.is_firm_at.result
             c.if-is_firm_at.true (c.is_firm_at.ensures is.vectors) ∙ (c.loop-firm.invariant.value is).1,
       );
     }
@@ -22,6 +22,6 @@ returns-else-is_firm_at g c is =
     let low = c.loop-firm.invariant.base in
     let last = c.last_index.ensures.last in
     let before = c.loop-firm-test.true in
-    ends c.args.table.now c.args.stable_lengths.now c.args.recovering.now c.loop-firm.firm
+    ends c.args.table.now c.args.stable_lengths.now c.args.unit_state.now c.loop-firm.firm
     low (omega (arith, last, before)) c.is_firm_at.result c.if-is_firm_at.false (c.is_firm_at.ensures is.vectors)
     ∙ (c.loop-firm.invariant.value is).1

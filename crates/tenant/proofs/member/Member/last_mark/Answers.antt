@@ -9,9 +9,9 @@ use Rattle.tenant.proofs.member.Member.last_mark.Goals as goal
 
 pub returns : goal.returns
 returns g c = λ x kept seen.
-    let here : c.self.inside.recovering ≡ c.args.self.now.recovering =
-    ap (λ (m : Member _). m.recovering) c.self.view_is in
-    let last = last_vectors_are_seen g.H.Handler.meaning c.self.inside.recovering x (subst
+    let here : c.self.inside.unit_state ≡ c.args.self.now.unit_state =
+    ap (λ (m : Member _). m.unit_state) c.self.view_is in
+    let last = last_vectors_are_seen g.H.Handler.meaning c.self.inside.unit_state x (subst
     (λ (r : Recovering _). IsKept r) (sym here) kept) (subst (λ (r : Recovering _). IsSeen r x) (sym here) seen)
     c.last_index-index.result c.last_index-index.ensures.last
     c.interval-interval.result.now c.interval-interval.ensures in

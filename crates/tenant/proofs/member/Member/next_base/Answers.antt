@@ -9,8 +9,8 @@ use Rattle.tenant.proofs.member.Member.next_base.Goals as goal
 
 pub returns-clause-within : goal.returns-clause-within
 returns-clause-within g c =
-    let r : Recovering g.row.H-State.Denot = c.args.self.now.recovering in
-    let seen : c.self.inside.recovering ≡ r = ap (λ (m : Member g.row.H-State.Denot). m.recovering) c.self.view_is in
+    let r : Recovering g.row.H-State.Denot = c.args.self.now.unit_state in
+    let seen : c.self.inside.unit_state ≡ r = ap (λ (m : Member g.row.H-State.Denot). m.unit_state) c.self.view_is in
     let last : c.last_index.result + 1 ≡ places r = c.last_index.ensures.last ∙ ap places seen in
     let low : c.from-last.result ≡ places r - 1 = let a = c.from-last.ensures in omega (arith, a, last) in
     let target = c.min-target.ensures ∙ (λ i. min (c.saturating_sub.ensures i) (low i)) in

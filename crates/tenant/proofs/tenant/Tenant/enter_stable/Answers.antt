@@ -21,12 +21,12 @@ returns-clause-makes g c = λ m found.
     let new : TenantState g.row.H-State.Denot = record v {
       members = c.mark_stable.new.members.items;
       stable_lengths = c.mark_stable.new.stable_lengths.items;
-      frontiers = c.move_fronts.new.frontiers.items;
+      frontiers = c.advance_frontiers.new.frontiers.items;
     } in
     subst (λ (t : TenantState g.row.H-State.Denot). MakesStable t c.args.unit c.args.count m new) c.self.view_is
     (flushed_by v c.args.unit c.args.count c.from.result (c.from.ensures ∙ c.number.ensures) m
     (ap (λ (t : TenantState g.row.H-State.Denot). slice_get t.members c.args.unit) c.self.view_is ∙ found)
-    c.mark_stable.new.members.items c.mark_stable.new.stable_lengths.items c.move_fronts.new.frontiers.items
-    c.mark_stable.ensures.members c.mark_stable.ensures.lengths c.move_fronts.ensures.len
+    c.mark_stable.new.members.items c.mark_stable.new.stable_lengths.items c.advance_frontiers.new.frontiers.items
+    c.mark_stable.ensures.members c.mark_stable.ensures.lengths c.advance_frontiers.ensures.len
     c.as_slice-2.result.now c.as_slice.result.now
-    c.as_slice-2.ensures.value c.as_slice.ensures.value c.move_fronts.ensures.fronts)
+    c.as_slice-2.ensures.value c.as_slice.ensures.value c.advance_frontiers.ensures.fronts)

@@ -28,8 +28,8 @@ pub returns-clause-did : goal.returns-clause-did
 returns-clause-did g c = λ w s.
     let m : Member g.row.H-State.Denot = c.in-Ok.member.now in
     let said = c.append_all-said.result in
-    let same : c.recovering.result.now ≡ m.recovering = c.recovering.ensures in
-    let volatile : c.recovering.result.now.volatile ≡ m.recovering.volatile =
+    let same : c.unit_state.result.now ≡ m.unit_state = c.unit_state.ensures in
+    let volatile : c.unit_state.result.now.volatile ≡ m.unit_state.volatile =
     ap (λ (r : Recovering g.row.H-State.Denot). r.volatile) same in
     rw (c.flush_reply.ensures) (did_then
     g.H.Handler.meaning c.args.tenant.now w c.enter_stable.new.self c.forget_after.new.self (Flush c.args.unit)
@@ -39,7 +39,7 @@ returns-clause-did g c = λ w s.
     (c.append_all-said.ensures.records ∙ ap (λ vs. c.args.log.now.records ++ map Some (take said.appended vs)) volatile)
     (subst (λ vs. said.appended ≤ length vs) volatile c.append_all-said.ensures.within)
     (subst (λ vs. (said.end ≡ Whole) ↔ (said.appended ≡ length vs)) volatile c.append_all-said.ensures.whole)
-    (c.is_forgone.ensures.some c.if-is_forgone.false)
+    (c.nothing_logged_for_memory.ensures.some c.if-nothing_logged_for_memory.false)
     (c.enter_stable.ensures.makes m c.in-Ok.ensures.found)
     c.append_all-said.ensures.device)
     c.forget_after.ensures.stands c.forget_after.ensures.beside)
@@ -49,7 +49,7 @@ returns-clause-others g c = λ k w other differs s.
     beside_stands g.H.Handler.meaning c.args.tenant.now
     other k w c.append_all-said.new.log c.forget_after.new.log c.forget_after.ensures.beside differs
     (appended_beside g.H.Handler.meaning c.args.tenant.now other k w c.args.log.now.records
-    c.append_all-said.new.log.records c.recovering.result.now.volatile c.append_all-said.result.appended
+    c.append_all-said.new.log.records c.unit_state.result.now.volatile c.append_all-said.result.appended
     c.append_all-said.ensures.records c.append_all-said.ensures.own differs s)
 
 pub returns-in-Err-clause-keeps_on : goal.returns-in-Err-clause-keeps_on
@@ -61,8 +61,8 @@ pub returns-clause-keeps_on : goal.returns-clause-keeps_on
 returns-clause-keeps_on g c =
     let m : Member g.row.H-State.Denot = c.in-Ok.member.now in
     let said = c.append_all-said.result in
-    let same : c.recovering.result.now ≡ m.recovering = c.recovering.ensures in
-    let volatile : c.recovering.result.now.volatile ≡ m.recovering.volatile =
+    let same : c.unit_state.result.now ≡ m.unit_state = c.unit_state.ensures in
+    let volatile : c.unit_state.result.now.volatile ≡ m.unit_state.volatile =
     ap (λ (r : Recovering g.row.H-State.Denot). r.volatile) same in
     flush_keeps g.H.Handler.meaning c.args.tenant.now
     c.args.self.now c.enter_stable.new.self c.forget_after.new.self c.args.log.now c.append_all-said.new.log
@@ -72,14 +72,14 @@ returns-clause-keeps_on g c =
     (c.append_all-said.ensures.records ∙ ap (λ vs. c.args.log.now.records ++ map Some (take said.appended vs)) volatile)
     (subst (λ vs. said.appended ≤ length vs) volatile c.append_all-said.ensures.within)
     (subst (λ vs. (said.end ≡ Whole) ↔ (said.appended ≡ length vs)) volatile c.append_all-said.ensures.whole)
-    (c.is_forgone.ensures.some c.if-is_forgone.false)
+    (c.nothing_logged_for_memory.ensures.some c.if-nothing_logged_for_memory.false)
     (c.enter_stable.ensures.makes m c.in-Ok.ensures.found)
     c.append_all-said.ensures.device)
     c.forget_after.ensures.bases c.flush_reply.result c.flush_reply.ensures
 
-pub returns-then-is_forgone-clause-steady : goal.returns-then-is_forgone-clause-steady
-returns-then-is_forgone-clause-steady g c =
-    let memory = c.is_forgone.ensures.memory c.if-is_forgone.true in
+pub returns-then-nothing_logged_for_memory-clause-steady : goal.returns-then-nothing_logged_for_memory-clause-steady
+returns-then-nothing_logged_for_memory-clause-steady g c =
+    let memory = c.nothing_logged_for_memory.ensures.memory c.if-nothing_logged_for_memory.true in
     inl (c.append_all-said.ensures.steady (λ e. absurd (cc (memory, e))))
 
 pub returns-clause-steady : goal.returns-clause-steady

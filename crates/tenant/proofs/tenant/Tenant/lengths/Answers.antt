@@ -18,8 +18,8 @@ returns-in-Some g c = λ m found.
     length-filter (λ (r : Row). r.unit == u) c.self.inside.table
     ∙ ap (λ (t : TenantState g.row.H-State.Denot). rows_of t.table u) c.self.view_is in
     record {
-      intervals = c.interval_count.ensures ∙ ap (λ (z : Member g.row.H-State.Denot). length z.recovering.intervals) is;
-      volatile = c.volatile_count.ensures ∙ ap (λ (z : Member g.row.H-State.Denot). length z.recovering.volatile) is;
+      intervals = c.interval_count.ensures ∙ ap (λ (z : Member g.row.H-State.Denot). length z.unit_state.intervals) is;
+      volatile = c.volatile_count.ensures ∙ ap (λ (z : Member g.row.H-State.Denot). length z.unit_state.volatile) is;
       held = c.held_count.ensures ∙ ap (λ (z : Member g.row.H-State.Denot). length z.outputs) is;
       rows = ap length c.rows_of.ensures ∙ rows;
       spent =

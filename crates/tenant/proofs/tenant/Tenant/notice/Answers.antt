@@ -31,21 +31,21 @@ returns-then-is_last-clause-did g c = λ w s.
     let m : Member g.row.H-State.Denot = c.in-Ok.field-0.now in
     let found = c.in-Ok.ensures.found in
     let target = c.in-Some.target in
-    rw (c.learn_rows.ensures.learned m found, c.twice.ensures.reply, c.twice.ensures.plain.1)
+    rw (c.learn_rows.ensures.learned m found, c.from_pair.ensures.reply, c.from_pair.ensures.plain.1)
     (notice_learns g.H.Handler.meaning c.args.tenant.now c.args.self.now w c.args.log.now (opened s) c.args.unit
     m found target (c.in-Some.ensures.target m found) (c.in-Some.ensures.kept m found) c.in-Ok.ensures.up
-    (le_true (places m.recovering) (target + 1) (sym (c.is_last.ensures m found) ∙ c.if-is_last.true)))
+    (le_true (places m.unit_state) (target + 1) (sym (c.is_last.ensures m found) ∙ c.if-is_last.true)))
 
-pub returns-then-is_worn_out-clause-did : goal.returns-then-is_worn_out-clause-did
-returns-then-is_worn_out-clause-did g c = λ w s.
+pub returns-then-incarnations_exhausted-clause-did : goal.returns-then-incarnations_exhausted-clause-did
+returns-then-incarnations_exhausted-clause-did g c = λ w s.
     let m : Member g.row.H-State.Denot = c.in-Ok.field-0.now in
     let found = c.in-Ok.ensures.found in
     let target = c.in-Some.target in
-    rw (c.refused-then-is_worn_out.ensures.reply, c.refused-then-is_worn_out.ensures.plain.1)
+    rw (c.refused-then-incarnations_exhausted.ensures.reply, c.refused-then-incarnations_exhausted.ensures.plain.1)
     (notice_worn g.H.Handler.meaning c.args.tenant.now c.args.self.now w c.args.log.now (opened s) c.args.unit
     m found target (c.in-Some.ensures.target m found) (c.in-Some.ensures.kept m found) c.in-Ok.ensures.up
-    (above (places m.recovering) (target + 1) (sym (c.is_last.ensures m found) ∙ c.if-is_last.false))
-    (sym c.is_worn_out.ensures ∙ c.if-is_worn_out.true))
+    (above (places m.unit_state) (target + 1) (sym (c.is_last.ensures m found) ∙ c.if-is_last.false))
+    (sym c.incarnations_exhausted.ensures ∙ c.if-incarnations_exhausted.true))
 
 pub return_to-requires-clause-within : goal.return_to-requires-clause-within
 return_to-requires-clause-within g c κs within =
@@ -59,8 +59,8 @@ returns-clause-did g c =
     if_ok _ _ c.return_to.result (λ a returns w s.
     notice_returns g.H.Handler.meaning c.args.tenant.now c.args.self.now w c.args.log.now (opened s) c.args.unit
     m found target (c.in-Some.ensures.target m found) (c.in-Some.ensures.kept m found) c.in-Ok.ensures.up
-    (above (places m.recovering) (target + 1) (sym (c.is_last.ensures m found) ∙ c.if-is_last.false))
-    (sym c.is_worn_out.ensures ∙ c.if-is_worn_out.false)
+    (above (places m.unit_state) (target + 1) (sym (c.is_last.ensures m found) ∙ c.if-is_last.false))
+    (sym c.incarnations_exhausted.ensures ∙ c.if-incarnations_exhausted.false)
     c.start_behind.result c.start_behind.ensures c.return_to.new.self c.return_to.new.log a (returns m found))
     c.return_to.ensures.returns
 
@@ -77,7 +77,7 @@ returns-then-is_last-clause-shelves g c =
     let t : TenantState g.row.H-State.Denot = c.args.self.now in
     let v : TenantState g.row.H-State.Denot = c.learn_rows.new.self in
     let new = c.learn_rows.ensures.learned m found in
-    rw (c.twice.ensures.reply) (one_same t c.args.unit m found (record m { known = length t.table }) v
+    rw (c.from_pair.ensures.reply) (one_same t c.args.unit m found (record m { known = length t.table }) v
     (ap (λ (z : TenantState g.row.H-State.Denot). z.members) new) refl
     (no_letters t v (ap (λ (z : TenantState g.row.H-State.Denot). z.letters) new)))
 

@@ -22,9 +22,11 @@ returns-clause-returns g c = λ m found.
     c.args.unit c.args.log.now c.progress_at.new.log c.cut_behind.new.log c.progress_at.ensures.records
     g.H.Handler.meaning c.args.self.now m c.member_there-member.result.now c.args.target
     c.member_there-member.ensures found c.args.reply c.in_ok-answer.answer
-    c.enter_back.new.self c.positions_to-keep.result c.count_before-skipped.result c.in-Ok.progress
-    c.in_ok-answer.ensures c.in-Ok.ensures.replayed (c.in_ok-enter_back.ensures.ok m found) c.positions_to-keep.ensures
-    (c.count_before-skipped.ensures ∙ ap (λ n. length (places_of c.args.tenant.now c.args.unit c.args.log.now) - n)
+    c.enter_back.new.self c.live_records_until-keep.result c.predecessor_records-skipped.result c.in-Ok.progress
+    c.in_ok-answer.ensures c.in-Ok.ensures.replayed
+    (c.in_ok-enter_back.ensures.ok m found) c.live_records_until-keep.ensures
+    (c.predecessor_records-skipped.ensures
+    ∙ ap (λ n. length (places_of c.args.tenant.now c.args.unit c.args.log.now) - n)
     c.live_count.ensures) c.cut_behind.ensures.own c.cut_behind.ensures.others c.cut_behind.ensures.grows)
 
 pub returns-clause-beside : goal.returns-clause-beside
@@ -36,7 +38,7 @@ returns-clause-beside g c = (
 )
 
 pub returns-in-Err-Device-clause-steady : goal.returns-in-Err-Device-clause-steady
-returns-in-Err-Device-clause-steady g c = inr (ap (λ (s : Said). s.end) c.unfetched.ensures.said)
+returns-in-Err-Device-clause-steady g c = inr (ap (λ (s : Said). s.end) c.device_failed.ensures.said)
 
 pub returns-clause-steady : goal.returns-clause-steady
 returns-clause-steady g c = inl (c.cut_behind.ensures.failures ∙ c.in-Ok.ensures.steady (λ e. absurd (cc e)))

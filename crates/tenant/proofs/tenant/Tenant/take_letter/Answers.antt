@@ -48,8 +48,8 @@ returns-in-None-content-clause-done g c = λ live w log s.
     c.in-None-content.is (c.requires sent c.in-Some-member.member.now there c.in-Some-member.ensures) in
     absurd none
 
-pub planned-requires-after_bounds : goal.planned-requires-after_bounds
-planned-requires-after_bounds g c κs within =
+pub admit-requires-after_bounds : goal.admit-requires-after_bounds
+admit-requires-after_bounds g c κs within =
     let sent : Letter = record {
       source = c.sent.inside.source;
       receiver = c.sent.inside.receiver;
@@ -66,12 +66,12 @@ planned-requires-after_bounds g c κs within =
     o c.args.worked.input) whole (c.requires sent c.in-Some-member.member.now there c.in-Some-member.ensures) in
     is.room
 
-pub enter-requires-clause-within : goal.enter-requires-clause-within
-enter-requires-clause-within g c κs within =
+pub apply-requires-clause-within : goal.apply-requires-clause-within
+apply-requires-clause-within g c κs within =
     slice_get_within c.args.self.now.members c.sent.inside.receiver _ c.in-Some-member.ensures
 
-pub enter-requires-clause-few : goal.enter-requires-clause-few
-enter-requires-clause-few g c κs within =
+pub apply-requires-clause-few : goal.apply-requires-clause-few
+apply-requires-clause-few g c κs within =
     let sent : Letter = record {
       source = c.sent.inside.source;
       receiver = c.sent.inside.receiver;
@@ -91,8 +91,8 @@ enter-requires-clause-few g c κs within =
     c.args.self.now c.sent.inside.receiver c.in-Some-member.member.now (delivered c.args.letter sent content)
     c.turn.result.now c.in-Ok.plan planned _ (FromUnit sent.source) content.text c.args.worked.input is
 
-pub enter-requires-clause-next : goal.enter-requires-clause-next
-enter-requires-clause-next g c κs within = λ m at.
+pub apply-requires-clause-next : goal.apply-requires-clause-next
+apply-requires-clause-next g c κs within = λ m at.
     let sent : Letter = record {
       source = c.sent.inside.source;
       receiver = c.sent.inside.receiver;
@@ -175,7 +175,7 @@ returns-in_ok-answer-in-Ok-clause-done g c = λ live w log s.
     live c.args.self.now w log s c.args.letter sent there c.in-Some-member.member.now c.in-Some-member.ensures
     content whole c.args.worked.input is c.turn.result.now c.turn.ensures c.in-Ok.plan planned
     c.in_ok-answer-in-Ok.answer.reply (ap (λ (a : Answer). a.reply) c.in_ok-answer-in-Ok.ensures.answer)
-    c.enter.new.self (c.in_ok-answer-in-Ok.ensures.ok c.in-Some-member.member.now c.in-Some-member.ensures)
+    c.apply.new.self (c.in_ok-answer-in-Ok.ensures.ok c.in-Some-member.member.now c.in-Some-member.ensures)
 
 pub returns-in_ok-answer-in-Ok-clause-shelves : goal.returns-in_ok-answer-in-Ok-clause-shelves
 returns-in_ok-answer-in-Ok-clause-shelves g c =
@@ -196,7 +196,7 @@ returns-in_ok-answer-in-Ok-clause-shelves g c =
     let planned = rw (c.in-Ok.is) at c.in_ok-refusal.ensures in
     received_same g.H.Handler.meaning
     c.args.self.now c.sent.inside.receiver c.in-Some-member.member.now c.in-Some-member.ensures
-    c.enter.new.self c.in-Ok.plan.logged (turn_upon_input g.H.Handler.meaning c.args.worked.input).outputs
+    c.apply.new.self c.in-Ok.plan.logged (turn_upon_input g.H.Handler.meaning c.args.worked.input).outputs
     c.in-Ok.plan.made.items (c.in_ok-answer-in-Ok.ensures.ok c.in-Some-member.member.now c.in-Some-member.ensures)
     (planned_whole c.args.name.now
     c.args.self.now c.sent.inside.receiver c.in-Some-member.member.now (delivered c.args.letter sent content)

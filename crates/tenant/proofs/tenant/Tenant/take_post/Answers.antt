@@ -23,17 +23,17 @@ returns-in-Err-clause-done g c = λ live w log s.
     live c.args.self.now w log s c.args.unit c.args.number c.args.text c.in-Some.member.now c.in-Some.ensures
     c.args.worked.input (c.requires c.in-Some.member.now c.in-Some.ensures) c.in-Err.refusal planned)
 
-pub enter-requires-clause-within : goal.enter-requires-clause-within
-enter-requires-clause-within g c κs within = slice_get_within c.args.self.now.members c.args.unit _ c.in-Some.ensures
+pub apply-requires-clause-within : goal.apply-requires-clause-within
+apply-requires-clause-within g c κs within = slice_get_within c.args.self.now.members c.args.unit _ c.in-Some.ensures
 
-pub enter-requires-clause-few : goal.enter-requires-clause-few
-enter-requires-clause-few g c κs within =
+pub apply-requires-clause-few : goal.apply-requires-clause-few
+apply-requires-clause-few g c κs within =
     let planned = rw (c.in-Ok.is) at c.in_ok-refusal.ensures in
     planned_few c.args.name.now c.args.self.now c.args.unit c.in-Some.member.now _ c.turn.result.now c.in-Ok.plan
     planned _ Outside c.args.text c.args.worked.input (c.requires c.in-Some.member.now c.in-Some.ensures)
 
-pub enter-requires-clause-next : goal.enter-requires-clause-next
-enter-requires-clause-next g c κs within = λ m there.
+pub apply-requires-clause-next : goal.apply-requires-clause-next
+apply-requires-clause-next g c κs within = λ m there.
     let planned = rw (c.in-Ok.is) at c.in_ok-refusal.ensures in
     planned_next c.args.name.now
     c.args.self.now c.args.unit c.in-Some.member.now _ c.turn.result.now c.in-Ok.plan planned _ Outside c.args.text
@@ -59,13 +59,13 @@ returns-clause-done g c = λ live w log s.
       vector = c.in_ok-vector.ensures i;
     }) c.in-Ok.plan planned
     c.in_ok-answer-in-Ok.answer.reply (ap (λ (a : Answer). a.reply) c.in_ok-answer-in-Ok.ensures.answer)
-    c.enter.new.self (c.in_ok-answer-in-Ok.ensures.ok c.in-Some.member.now c.in-Some.ensures)
+    c.apply.new.self (c.in_ok-answer-in-Ok.ensures.ok c.in-Some.member.now c.in-Some.ensures)
 
 pub returns-clause-shelves : goal.returns-clause-shelves
 returns-clause-shelves g c =
     let planned = rw (c.in-Ok.is) at c.in_ok-refusal.ensures in
     received_same g.H.Handler.meaning c.args.self.now c.args.unit c.in-Some.member.now c.in-Some.ensures
-    c.enter.new.self c.in-Ok.plan.logged (turn_upon_input g.H.Handler.meaning c.args.worked.input).outputs
+    c.apply.new.self c.in-Ok.plan.logged (turn_upon_input g.H.Handler.meaning c.args.worked.input).outputs
     c.in-Ok.plan.made.items (c.in_ok-answer-in-Ok.ensures.ok c.in-Some.member.now c.in-Some.ensures)
     (planned_whole c.args.name.now c.args.self.now c.args.unit c.in-Some.member.now _ c.turn.result.now c.in-Ok.plan
     planned _ Outside c.args.text c.args.worked.input (c.requires c.in-Some.member.now c.in-Some.ensures))

@@ -7,7 +7,7 @@ use std::marker::Model;
 
 /// Where the letters of a turn lie.
 #[derive(Drop)]
-enum Few {
+enum LetterStorage {
     Zero,
     // In the value itself.
     One(SentLetter),
@@ -16,38 +16,40 @@ enum Few {
 
 /// The letters of one turn. Most turns make one at most, for which there is no list.
 #[derive(Drop)]
-pub struct Made {
-    letters: Few,
+pub struct NewLetters {
+    letters: LetterStorage,
 }
 
-impl Model for Made {
-    ghost use Rattle.unit_steps.specs.Made.{Made as MadeOf, few_items};
+impl Model for NewLetters {
+    ghost use Rattle.unit_steps.specs.NewLetters.{NewLetters as MadeOf, few_items};
 
     ghost Value = { MadeOf };
 
     ghost view = { λ m. record { items = few_items m.letters } };
 }
 
-impl Made {
-    pub(crate) fn none() -> Made
+impl NewLetters {
+    pub(crate) fn none() -> NewLetters
         ensures { result.items ≡ [] }
     {
-        Made { letters: Few::Zero }
-    }
-
-    pub(crate) fn one(letter: SentLetter) -> Made
-        ensures { result.items ≡ letter ∷ [] }
-    {
-        Made {
-            letters: Few::One(letter),
+        NewLetters {
+            letters: LetterStorage::Zero,
         }
     }
 
-    pub(crate) fn many(letters: Vec<SentLetter>) -> Made
+    pub(crate) fn one(letter: SentLetter) -> NewLetters
+        ensures { result.items ≡ letter ∷ [] }
+    {
+        NewLetters {
+            letters: LetterStorage::One(letter),
+        }
+    }
+
+    pub(crate) fn many(letters: Vec<SentLetter>) -> NewLetters
         ensures { result.items ≡ letters.items }
     {
-        Made {
-            letters: Few::Many(letters),
+        NewLetters {
+            letters: LetterStorage::Many(letters),
         }
     }
 
@@ -57,9 +59,9 @@ impl Made {
         ensures { result ≡ length self.now.items }
     {
         match &self.letters {
-            Few::Zero => 0,
-            Few::One(_) => 1,
-            Few::Many(letters) => letters.len(),
+            LetterStorage::Zero => 0,
+            LetterStorage::One(_) => 1,
+            LetterStorage::Many(letters) => letters.len(),
         }
     }
 
@@ -69,11 +71,11 @@ impl Made {
         requires { vec_len letters.old + length self.items ≤ vec_capacity letters.old }
         ensures { letters.new.items ≡ letters.old.items ++ self.items }
     {
-        let Made { letters: made } = self;
+        let NewLetters { letters: made } = self;
         match made {
-            Few::Zero => {}
-            Few::One(letter) => letters.push_reserved(letter),
-            Few::Many(more) => {
+            LetterStorage::Zero => {}
+            LetterStorage::One(letter) => letters.push_reserved(letter),
+            LetterStorage::Many(more) => {
                 let mut rest = more;
                 let _ = letters.append(&mut rest);
             }

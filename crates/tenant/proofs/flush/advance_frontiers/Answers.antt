@@ -1,7 +1,7 @@
 use Rattle.std.proofs.Common.{◌∙◌, ◌<◌, length, arith, length-set}
 use Rattle.std.proofs.lemmas.Option.{slice_get_within}
 use Rattle.tenant.proofs.Fronts.{before_one, gone_one}
-use Rattle.tenant.proofs.flush.move_fronts.Goals as goal
+use Rattle.tenant.proofs.flush.advance_frontiers.Goals as goal
 
 pub loop-at-preserved : goal.loop-at-preserved
 loop-at-preserved g c =
