@@ -13,6 +13,7 @@ use Rattle.audit.specs.Working.{AreInOrder}
 use Rattle.audit.specs.Released.{DiffersFirst}
 use Rattle.audit.proofs.Making.{unit_at}
 
+-- Comparing a list with as much of the outputs tells whether it is a beginning of them.
 pub begins_is : (outputs list : List (List ℕ)) (r : Bool) → r ≡ pointwise bytes_eq list (take (length list) outputs)
     → IsTrue r ↔ IsPrefix list outputs
 begins_is outputs list r e =
@@ -26,6 +27,7 @@ IsSoFar workers released i =
     × ((u : ℕ) → DiffersFirst (drop i workers) (drop i released) u → DiffersFirst workers released (i + u))
 
 module _ {S : Type 0} (workers : List (Worker S)) (released : List (List (List ℕ))) where
+  -- What is found from the first place on is found of all units.
   pub at_first : IsSoFar workers released 0
   at_first = (λ h. h, λ u h. rw (zero-add u) h)
 
@@ -37,6 +39,7 @@ module _ {S : Type 0} (workers : List (Worker S)) (released : List (List (List �
     at_next p u h = let k : i < length released = omega arith in
         rw (drop_more workers i a within, drop_more released i r k, ← is_a, ← is_r) (p, h)
 
+    -- Where a unit's outputs begin with its list, the search goes on at the next place.
     pub begins_here : IsPrefix r a.outputs → IsSoFar workers released i → IsSoFar workers released (i + 1)
     begins_here p was = (
       λ h. was.0 (let k : i < length released = omega arith in
@@ -44,6 +47,7 @@ module _ {S : Type 0} (workers : List (Worker S)) (released : List (List (List �
       λ u h. let e : i + 1 + u ≡ i + suc u = omega arith in rw e (was.1 (suc u) (at_next p u h)),
     )
 
+    -- Where a unit's outputs do not begin with its list, it is the first that differs.
     pub differs_here : AreInOrder workers → ¬ (IsPrefix r a.outputs) → IsSoFar workers released i
         → DiffersFirst workers released a.seat.unit
     differs_here order p was =
@@ -54,6 +58,7 @@ module _ {S : Type 0} (workers : List (Worker S)) (released : List (List (List �
         let e : a.seat.unit ≡ i + 0 = unit_at workers i a order found ∙ omega arith in
         rw e (was.1 0 here)
 
+  -- Where the search came past the last unit, each unit's outputs begin with its list.
   pub all_begin : (i : ℕ) → length workers ≤ i → length released ≡ length workers → IsSoFar workers released i
       → BeginWith workers released
   all_begin i h same was = let k : length released ≤ i = omega arith in

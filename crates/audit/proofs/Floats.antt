@@ -7,6 +7,7 @@ use Rattle.model.specs.declared.moves.Flaw.TheVariants.{NoUnit, NothingToReceive
 use Rattle.audit.specs.declared.verdict.Verdict.{Verdict}
 use Rattle.audit.specs.Line.{outcome_data}
 
+-- The value of an audit's outcome has no float.
 pub has_float-outcome : (tenant : List ℕ) (outcome : Result Verdict Flaw)
     → has_float (outcome_data tenant outcome) ≡ false
 has_float-outcome tenant (Ok v) = refl

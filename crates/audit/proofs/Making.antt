@@ -18,6 +18,7 @@ use Rattle.audit.specs.Working.{AreInOrder, after_turn, packets_from, Makes}
 use Rattle.audit.specs.Audits.{joins, AreNumbered}
 use Rattle.audit.proofs.Orders.{numbered_at, numbered_set, numbered_more, length_more}
 
+-- Of workers in order, the one at a place is the unit of that number.
 pub unit_at : {S : Type 0} (workers : List (Worker S)) (u : ℕ) (a : Worker S) → AreInOrder workers
     → slice_get workers u ≡ Some a → a.seat.unit ≡ u
 unit_at workers u a order found = numbered_at (λ b. b.seat.unit) 0 workers u a order found ∙ zero-add u
@@ -31,6 +32,7 @@ module _ {S : Type 0} (M : Meaning S) (net : Network S) (u : ℕ) (source : Sour
   worked_plain workers packets turn sends order found e f g h =
       rw (f, h, g, e, unit_at net.workers u a order found) refl
 
+  -- What the code makes of a unit's turn is the network that the definition makes of it.
   pub worked : (ws now workers : List (Worker S)) (ps packets : List Packet) (units i n : ℕ) (turn : Turn S)
       (sends sent : List (ℕ × List ℕ))
       → ws ≡ net.workers → ps ≡ net.packets → AreInOrder net.workers → slice_get net.workers u ≡ Some a
@@ -115,6 +117,7 @@ module _ {S : Type 0} (M : Meaning S) (net next : Network S) (order : AreInOrder
 
 -- ---- all moves
 
+-- Behind a move that was made, units are in order and the moves left come to the same result.
 pub move_made : {S : Type 0} (M : Meaning S) (net next : Network S) (all : Result (Network S) Flaw)
     (moves : List Move) (i : ℕ) (m : Move)
     → AreInOrder net.workers × (run_from M net (drop i moves) ≡ all) → i < length moves → m ≡ get_or moves i m
@@ -173,10 +176,12 @@ workers_order M k (s ∷ seats) e =
     let rest : map (λ s. s.unit) seats ≡ numbers_from (suc k) (length seats) = cc in
     rw first (ap (λ ns. k ∷ ns) (workers_order M (suc k) seats rest))
 
+-- New workers at numbered seats are in order.
 pub workers_in_order : {S : Type 0} (M : Meaning S) (seats : List Seat) (workers : List (Worker S))
     → AreNumbered seats → workers ≡ map (new_worker M) seats → AreInOrder workers
 workers_in_order M seats workers order e = rw e (workers_order M 0 seats order)
 
+-- Behind a run the workers are in order, one for each seat and one for each join.
 pub run_kept : {S : Type 0} (M : Meaning S) (seats : List Seat) (moves : List Move) (workers : List (Worker S))
     (packets : List Packet) (last : Network S)
     → AreNumbered seats → workers ≡ map (new_worker M) seats

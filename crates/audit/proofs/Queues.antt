@@ -5,6 +5,7 @@ use Rattle.model.specs.FailureFree.{Packet, is_between, next_text, without_next}
 use Rattle.audit.specs.Working.{IsFirst}
 
 module _ (source target : ℕ) (packets : List Packet) (i : ℕ) where
+  -- Where none was found before, the packet at a place that is between two units is the first.
   pub first_here : (p : Packet) → i < length packets → p ≡ get_or packets i p → true ≡ is_between source target p
       → next_text source target (drop i packets) ≡ next_text source target packets
       → take i packets ++ without_next source target (drop i packets) ≡ without_next source target packets

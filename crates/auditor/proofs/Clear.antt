@@ -46,11 +46,13 @@ take_none (y ∷ xs) (suc u) e = ap (λ ys. y ∷ ys) (take_none xs u e)
 pub first_lists : (w : Option World) → [] ≡ take 0 (lists_at w)
 first_lists w = refl
 
+-- The texts that a unit released are the next list behind those of the units before it.
 pub list_found : (w : Option World) (u : ℕ) (texts : List (List ℕ)) (lists : List (List (List ℕ)))
     → released_at w u ≡ Some texts → lists ≡ take u (lists_at w) → lists ++ texts ∷ [] ≡ take (u + 1) (lists_at w)
 list_found w u texts lists found so_far = let e : u + 1 ≡ suc u = omega arith in
     rw (so_far, e) (sym (take_more (lists_at w) u texts (sym (released_is w u) ∙ found)))
 
+-- Where a unit isn't there, its place adds no list to those before it.
 pub list_missing : (w : Option World) (u : ℕ) (lists : List (List (List ℕ)))
     → released_at w u ≡ None → lists ≡ take u (lists_at w) → lists ≡ take (u + 1) (lists_at w)
 list_missing w u lists found so_far = let e : u + 1 ≡ suc u = omega arith in
@@ -85,10 +87,12 @@ module _ {S : Type 0} (M : Meaning S) where
       let len = length-map w.members (λ m. m.released) in
       omega (arith, few, len)
 
+  -- The first 16 lists of what a tenant's units released are all of them.
   pub all_lists : (tenant : List ℕ) (history : List Entry)
       → take 16 (lists_at (world_of M tenant history)) ≡ lists_at (world_of M tenant history)
   all_lists tenant history = take_all 16 _ (world_few (own tenant (pairs history)) (world_of M tenant history) refl)
 
+  -- The seats of a tenant's opening are numbered from 0 on.
   pub seats_numbered : (tenant : List ℕ) (history : List Entry) (seats : List Seat)
       → seats ≡ seats_at (world_of M tenant history) → AreNumbered seats
   seats_numbered tenant history seats e =
@@ -127,6 +131,7 @@ module _ {S : Type 0} (M : Meaning S) where
     held : Holds seats moves lists
     held = rw (is_seats, is_lists) (certified_holds (world_of M tenant history) moves certifies)
 
+    -- There is one list for each seat of the opening and for each join of the certificate.
     pub a_list_each : length lists ≡ length seats + joins moves
     a_list_each =
         let kept = run_kept M seats
@@ -137,6 +142,7 @@ module _ {S : Type 0} (M : Meaning S) where
     is_certificate None e = e
     is_certificate (Some w) c = c.0
 
+    -- The audit of a tenant's certificate finds no flaw.
     pub clear : (result : Result Verdict Flaw)
         → Audits M seats moves lists result → IsClear (world_of M tenant history) result
     clear (Ok v) h = h.3 ∙ ap length (is_certificate (world_of M tenant history) certifies)

@@ -24,6 +24,7 @@ same_name t u p = (bytes_eq-Decides t u).0 p
 module _ (before after : List ℕ → List Entry) (e : Entry)
     (here : after (addressed e.step).0 ≡ before (addressed e.step).0 ++ e ∷ [])
     (others : AreOtherPartsSame (addressed e.step).0 before after) where
+  -- Each tenant's part grows by what is its own of the new entry.
   pub one_more : (t : List ℕ) → after t ≡ before t ++ entries_of t (e ∷ [])
   one_more t = go (bytes_eq t (addressed e.step).0) refl
     where

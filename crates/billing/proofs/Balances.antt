@@ -122,6 +122,7 @@ letters accounts (text ∷ texts) =
     map-append told (carried_out_of accounts (request_in text)) (requests_of (ledger accounts text).state texts) in
     cc
 
+-- The letters and the balances of a ledger add up to the requests that it carried out.
 pub adds_up : (texts : List (List ℕ)) → AddsUp texts
 adds_up texts = record {
   letters = letters [] texts;

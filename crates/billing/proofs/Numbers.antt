@@ -10,6 +10,7 @@ use Rattle.billing.specs.Requests.{number_in}
 own : IsNumeralModel (λ ds. all_ascii_digits ds ≡ true) (digits_value 10)
 own = numerals_by_value (λ ds. all_ascii_digits ds ≡ true) tells_all_ascii_digits
 
+-- What parses as a number of 64 bits is the number that `number_in` finds.
 pub number : {E : Type 0} (digits : List ℕ) (r : Result ℕ E) → OkIff r (IsNumeral 10 digits
     × (digits_value 10 digits < 2 ^ 64)) (digits_value 10 digits) → result_ok r ≡ number_in digits
 number digits (Ok x) h = let all : all_ascii_digits digits ≡ true = own.from digits h.0.0.1 in grind (arith, nat_tests)

@@ -27,6 +27,7 @@ certified M tenant history moves e =
     subst (CertifiesAt M (world_of M tenant history))
     (sym e) (certified_after M (own tenant (pairs history)) (world_of M tenant history) refl)
 
+-- Legal histories that agree on a tenant's pairs agree on its replies, rollbacks and released texts.
 pub headline : {S : Type 0} (M : Meaning S) → IsHeadline M
 headline M tenant one other h k same = record {
   replies = (isolated M tenant one other h k same).0;

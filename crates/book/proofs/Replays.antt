@@ -41,11 +41,13 @@ pair_of e = (e.step, e.said)
 abbrev pub event_of_pair : Step × Said → Event
 event_of_pair p = record { step = (addressed p.0).1; said = p.1 }
 
+-- Names whose bytes are found equal are one name.
 pub same_name : (t u : List ℕ) → bytes_eq t u ≡ true → t ≡ u
 same_name t u p = (bytes_eq-Decides t u).0 p
 
 -- ---- more entries in the lists of a tenant
 
+-- A tenant's own events of two histories are those of the first and then those of the second.
 pub own-append : (t : List ℕ) (g h : List Entry) → own t (pairs (g ++ h)) ≡ own t (pairs g) ++ own t (pairs h)
 own-append t g h =
     ap (own t) (map-append pair_of g h)
@@ -53,6 +55,7 @@ own-append t g h =
     ∙ map-append event_of_pair
     (filter (λ (p : Step × Said). names t p.0) (pairs g)) (filter (λ (p : Step × Said). names t p.0) (pairs h))
 
+-- One more entry adds its own events to those that a tenant has.
 pub own-push : (t : List ℕ) (h : List Entry) (e : Entry)
     → own t (pairs (h ++ e ∷ [])) ≡ own t (pairs h) ++ own t (pair_of e ∷ [])
 own-push t h e = own-append t h (e ∷ [])
@@ -119,6 +122,7 @@ module _ {S : Type 0} (M : Meaning S) where
       ap (λ (c : Course). record { replies = (step M w x).reply ∷ c.replies; world = c.world })
       (course_from-push (step M w x).world events e)
 
+  -- An entry that names a tenant brings the tenant's world on by one step.
   pub world_of-named : (t : List ℕ) (h : List Entry) (e : Entry) → names t e.step ≡ true
       → world_of M t (h ++ e ∷ []) ≡ (step M (world_of M t h) (event_of e)).world
   world_of-named t h e is =
@@ -232,6 +236,7 @@ module _ {S : Type 0} (M : Meaning S) where
     honest_here : (grown : List Record) × Grows before.log.records grown after.log.records × IsHonestAfter M h e grown
     honest_here = done.logs.honest
 
+    -- What the store said during a step that was done is honest of the entry that was added.
     pub said_honestly : IsSaidHonestly
         M (record { history = h; log = before.log }) (record { history = h ++ e ∷ []; log = after.log })
     said_honestly other is = subst (λ (x : Entry). (grown : List Record) × Grows

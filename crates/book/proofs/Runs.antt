@@ -14,6 +14,7 @@ module _ (start : Ledger) (steps : List Step) where
   Leads now left done = (rest : List Reply) (after : Ledger)
       → Ran now left rest after → Ran start steps (done ++ rest) after
 
+  -- A run goes on by one more step that is entered, with its reply.
   pub ran_next : (now next : Ledger) (i : ℕ) (d : Step) (done : List Reply) (r : Reply) → i < length steps
       → IsEntered now Caller (get_or steps i d) r next
       → Leads now (drop i steps) done → Leads next (drop (i + 1) steps) (done ++ r ∷ [])
@@ -22,6 +23,7 @@ module _ (start : Ledger) (steps : List Step) where
       subst (λ x. Ran start steps x after) (sym (append_assoc done (r ∷ []) rest))
       (inv (r ∷ rest) after (subst (λ ss. Ran now ss (r ∷ rest) after) (sym split) (next, entered, ran)))
 
+  -- Where no step is left, all steps of the run were entered with the replies so far.
   pub ran_end : (now : Ledger) (left : List Step) (done : List Reply)
       → left ≡ [] → Leads now left done → Ran start steps done now
   ran_end now left done none inv =

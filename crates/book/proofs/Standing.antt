@@ -91,6 +91,7 @@ module _ {S : Type 0} (M : Meaning S) where
             (sym stands.log) (is_added M before after book.history _ stands.replay answered),
       )
 
+      -- A step that was answered is entered honestly in each book that the host stood for.
       pub enters : Carries (IsHostOf M) (EntersHonestly M who step reply) old new
       enters book stands = (
         later book.history,
@@ -113,6 +114,7 @@ module _ {S : Type 0} (M : Meaning S) where
         → StandsAt M (addressed step).0 (before.at (addressed step).0) w before.log.records
         → IsFresh (needs_at M w (addressed step).1) input
 
+    -- A step answered by a turn that fits is committed honestly in each book that the host stood for.
     pub commits : (who : Who) (step : Step) (said : Said) (reply : Reply) (input : Input S)
         → IsAnswered M step said reply before after → Fits step input
         → Carries (IsHostOf M) (CommitsHonestly M who step input (Replied reply)) old new
@@ -132,6 +134,7 @@ module _ {S : Type 0} (M : Meaning S) where
       ),
     )
 
+    -- Where nothing changed, a step with a worked turn is forgone in each book that the host stood for.
     pub forgoes_worked : (who : Who) (step : Step) (input : Input S) → HoldsAsBefore before after
         → Carries (IsHostOf M) (CommitsHonestly M who step input (Replied (memory_reply step))) old new
     forgoes_worked who step input same book stands =
@@ -150,6 +153,7 @@ module _ {S : Type 0} (M : Meaning S) where
           ),
         )
 
+    -- A step whose worked turn is stale is given back, and the host's books are as they were.
     pub gives_back : (who : Who) (step : Step) (input : Input S) → HoldsAsBefore before after → after.log ≡ before.log
         → ((w : Option World) → StandsAt M (addressed step).0 (before.at (addressed step).0) w before.log.records
         → ¬ IsFresh (needs_at M w (addressed step).1) input)
@@ -170,6 +174,7 @@ module _ {S : Type 0} (M : Meaning S) where
 
 -- ---- behind a step the host changes, and stands for the same
 
+-- What was carried to a host is carried to a later one with the same log that replays as well.
 pub carries_on : {S : Type 0} (M : Meaning S) {Becomes : Ledger → Ledger → Type 0}
     (old mid new : Hosted (TenantState S)) → new.log ≡ mid.log
     → ReplaysAsWell M mid new → Carries (IsHostOf M) Becomes old mid → Carries (IsHostOf M) Becomes old new

@@ -6,11 +6,13 @@ use Rattle.std.specs.List.{filter}
 use Rattle.std.proofs.lemmas.Bool.{true≢false}
 
 module _ {X : Type 0} where
+  -- An element that is set at a place within a list is there.
   pub get-set_same : (xs : List X) (i : ℕ) (v : X) → i < length xs → slice_get (set xs i v) i ≡ Some v
   get-set_same [] i v h = absurd (omega arith)
   get-set_same (x ∷ xs) zero v h = refl
   get-set_same (x ∷ xs) (suc i) v h = get-set_same xs i v (omega arith)
 
+  -- Setting an element leaves what a list has at any other place.
   pub get-set_other : (xs : List X) (i j : ℕ) (v : X) → (i ≡ j → ⊥) → slice_get (set xs i v) j ≡ slice_get xs j
   get-set_other [] i j v ne = refl
   get-set_other (x ∷ xs) zero zero v ne = absurd (ne refl)
@@ -18,6 +20,7 @@ module _ {X : Type 0} where
   get-set_other (x ∷ xs) (suc i) zero v ne = refl
   get-set_other (x ∷ xs) (suc i) (suc j) v ne = get-set_other xs i j v (λ e. ne (ap suc e))
 
+  -- A list has an element at each place below its length.
   pub get_within : (xs : List X) (i : ℕ) → i < length xs → (x : X) × (slice_get xs i ≡ Some x)
   get_within [] i h = absurd (omega arith)
   get_within (x ∷ xs) zero h = (x, refl)
@@ -73,6 +76,7 @@ module _ {X Y : Type 0} where
       ∙ rest
       ∙ ap (λ c. map f (cond c (x ∷ filter (λ y. p (f y)) xs) (filter (λ y. p (f y)) xs))) (sym e)
 
+  -- The images that pass a test are those of the elements whose images pass it.
   pub filter-map : (p : Y → Bool) (f : X → Y) (xs : List X) → filter p (map f xs) ≡ map f (filter (λ x. p (f x)) xs)
   filter-map p f [] = refl
   filter-map p f (x ∷ xs) = filter-map_at p f x xs (p (f x)) refl (filter-map p f xs)

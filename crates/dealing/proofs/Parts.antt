@@ -49,6 +49,7 @@ module _ (deal : List ℕ → ℕ) where
       filter-append (λ (x : Entry). deal (name_of x) == i) history (e ∷ [])
       ∙ ap (λ b. part_of deal i history ++ cond b (e ∷ []) []) (eq-eqb _ _ is)
 
+  -- An entry whose tenant is dealt elsewhere leaves a part of the history as it was.
   pub part-apart : (i : ℕ) (history : List Entry) (e : Entry)
       → (deal (name_of e) ≡ i → ⊥) → part_of deal i (history ++ e ∷ []) ≡ part_of deal i history
   part-apart i history e apart =

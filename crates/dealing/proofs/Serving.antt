@@ -37,6 +37,7 @@ module _ {B : Type 0} (Does : B → Step → Reply → B → Type 0) where
         (rest.0, rest.1, (p.0, p.1, one.0, p.3, (one.2, p.4.1), rest.2))
 
 module _ {S : Type 0} (M : Meaning S) where
+  -- Hosts that do each step where its tenant is dealt serve the lines for the book that they stand for.
   pub dealt_lines_serve : DealtLinesServe M
   dealt_lines_serve lines replies old new same p before is =
       let ran = serves_each (HostsDo M (dealt (length old)))

@@ -195,6 +195,7 @@ module _ {S : Type 0} (M : Meaning S) (deal : List ℕ → ℕ)
   goes a is (inr forgone) honest = goes_forgone a is forgone
 
 module _ {S : Type 0} (M : Meaning S) (deal : List ℕ → ℕ) where
+  -- A step that one of the hosts does is entered in each book that they stood for together.
   pub hosts_do : (old : List (HostState S)) (step : Step) (reply : Reply) (new : List (HostState S))
       → HostsDo M deal old step reply new
       → Carries (AreHostsOf M deal) (λ before after. IsEntered before Caller step reply after) old new
@@ -219,6 +220,7 @@ module _ {S : Type 0} (M : Meaning S) where
       legal-parts deal M book.history (λ tenant. let one = get_within hosts (deal tenant) (are.below tenant) in
       (are.each (deal tenant) one.0 one.1).legal)
 
+  -- New hosts that were served lines together run as some book.
   pub shards_run : ShardsRun M
   shards_run lines replies old new some fresh serves =
       let are : AreShardsOf M old (new_book old) = record {

@@ -24,12 +24,15 @@ pub escaped-char : (text : List ℕ) (c : ℕ) → IsEscaped text → is_markup 
 escaped-char text c escaped plain =
     escaped-more text (encode_utf8 c) escaped (inr (c ∷ [], append-nil (encode_utf8 c), (plain, tt)))
 
+-- The reference that stands for an ampersand is a piece of escaped text.
 pub IsPiece-ampersand : IsPiece (codes "&amp;")
 IsPiece-ampersand = inl (2, omega arith, refl)
 
+-- The reference that stands for a single quote is a piece of escaped text.
 pub IsPiece-quote : IsPiece (codes "&#39;")
 IsPiece-quote = inl (4, omega arith, refl)
 
+-- The replacement character is a piece of escaped text.
 pub IsPiece-replacement : IsPiece (239 ∷ 191 ∷ 189 ∷ [])
 unfolding encode
 IsPiece-replacement = inr (0xfffd ∷ [], refl, (refl, tt))

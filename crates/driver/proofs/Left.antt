@@ -52,6 +52,7 @@ in_released : (o : Option Member) → out_of o ≡ texts_in (option_map (λ m. m
 in_released None = refl
 in_released (Some m) = refl
 
+-- What a unit has let out is what it released, and nothing where it isn't there.
 pub out_is : (w : Option World) (u : ℕ) → out_at w u ≡ texts_in (released_at w u)
 out_is None u = refl
 out_is (Some w) u = in_released (slice_get w.members u)
@@ -261,6 +262,7 @@ along u (e ∷ events) (r ∷ replies) = left_by u e.step r ++ along u events re
 abbrev pub left_in : List ℕ → ℕ → List Entry → List (List ℕ)
 left_in tenant u history = flat_map (λ (e : Entry). left_from tenant u (e.step, e.reply)) history
 
+-- What left a unit in a history is what left it by its tenant's own events and their replies.
 pub own_leaves : (tenant : List ℕ) (u : ℕ) (history : List Entry)
     → left_in tenant u history ≡ along u (own tenant (pairs history)) (replies_to tenant history)
 own_leaves tenant u [] = refl
@@ -317,6 +319,7 @@ module _ {S : Type 0} (M : Meaning S) where
       go (Release unit) = sym (none_left u (Release unit) no_tenant.reply refl)
       go (Status unit) = refl
 
+  -- Behind some events a unit has let out what it had before, and what their replies let out.
   pub course_leaves : (w : Option World) (events : List Event) (u : ℕ)
       → out_at (course_from M w events).world u ≡ out_at w u ++ along u events (course_from M w events).replies
   course_leaves w [] u = sym (append-nil (out_at w u))

@@ -25,6 +25,7 @@ seven_pieces o a b d e f g h x1 x2 x3 x4 x5 x6 x7 p1 p2 p3 p4 p5 p6 p7 =
     (two_pieces x4 f _ x5 x7 p5
     (two_pieces x5 g h x6 x7 p6 p7)))))
 
+-- The line of an output is its text, its tenant and its unit under their keys, and a line feed.
 pub output_line_parts : (tenant : List ℕ) (unit : ℕ) (text : List ℕ) → output_line tenant unit text
     ≡ codes "{\"output\":" ++ (quoted text
     ++ (codes ",\"tenant\":" ++ (quoted tenant ++ (codes ",\"unit\":" ++ (decimal unit ++ codes "}\n")))))

@@ -114,6 +114,7 @@ module _ {B : Type 0} (Does : B → Step → Reply → B → Type 0) (tenant : L
         (sym (flat_map-cons lines_told (step, reply) [] ∙ append-nil (lines_told (step, reply)))) wrote,
   )
 
+  -- One step of the driver that was done, and whose lines were written, is driving without a fault.
   pub drove_one_on : (step : Step) (reply : Reply) (old new : B) (out out' : Option (List ℕ)) (f g : ℕ)
       → IsDriven tenant (step, reply) → Does old step reply new
       → Appends out out' (lines_told (step, reply)) → g ≡ f → DroveOn Does tenant old new out out' f g
@@ -303,6 +304,7 @@ pub record SoFar {B : Type 0} (Does : B → Step → Reply → B → Type 0)
   pub counted : length lines ≡ count
 
 module _ {B : Type 0} (Does : B → Step → Reply → B → Type 0) where
+  -- Before a line is read nothing was driven.
   pub so_far_none : (input out : Option (List ℕ)) (x : B) → SoFar Does input input out out x x 0
   so_far_none input out x = record {
     lines = [];
@@ -359,11 +361,13 @@ module _ {B : Type 0} (Does : B → Step → Reply → B → Type 0) where
 
   module _ (input mid input' out omid out' : Option (List ℕ))
       (old bmid new : B) (count : ℕ) (p : SoFar Does input mid out omid old bmid count) where
+    -- A turn that took a line adds one to the lines that were driven so far.
     pub so_far_took : Took Does true mid input' omid out' bmid new
         → SoFar Does input input' out out' old new (count + 1)
     so_far_took (line, round, one, is, grown) =
         so_far_more input mid input' out omid out' old bmid new count p line round one is grown
 
+    -- Driving that broke off in a turn ended early, with what was driven so far.
     pub so_far_broken : Broken Does mid input' omid out' bmid new
         → DroveSomeBy (AreRounds Does) input input' out out' old new
     so_far_broken (inl (part, same, kept)) =
@@ -441,6 +445,7 @@ module _ {S : Type 0} (M : Meaning S) where
   host_carried None old steps new p before is = (before, stays old new before p.1 is, (p.0, refl))
   host_carried (Some step) old steps new p before is = host_steps (addressed step).0 old steps new p before is
 
+  -- A host that does each line's round drives the lines for each book that it stands for.
   pub host_drives : (lines : List (List ℕ)) (old : HostState S) (rounds : List Round) (new : HostState S)
       → AreRounds (HostDoes M) lines old rounds new → HostDrives M lines old rounds new
   host_drives [] old rounds new p before is = (before, stays old new before p.1 is, (p.0, refl))
@@ -464,6 +469,7 @@ module _ {F B : Type 0} (g : Shared F (MutBor B × (Step × Unit {0})) (Reply ×
 
   module _ (Driving : List (List ℕ) → B → List Round → B → Type 0) (old new : B) (drives : (lines : List (List ℕ))
       (rounds : List Round) → AreRounds Other lines old rounds new → Driving lines old rounds new) where
+    -- What was driven to the end by calls of a function was driven so by what the calls do.
     pub drove_all : {E : Type 0} (r : Result ℕ E) (input out out' : Option (List ℕ))
         → IfOk r (λ count. DroveAllBy (AreRounds (DoesBy g f)) input out out' old new count)
         → IfOk r (λ count. DroveAllBy Driving input out out' old new count)
@@ -471,6 +477,7 @@ module _ {F B : Type 0} (g : Shared F (MutBor B × (Step × Unit {0})) (Reply ×
         (p.0, p.1, p.2, drives p.0 p.1 (rounds_as (DoesBy g f) Other calls_do p.0 old p.1 new p.3), p.4, p.5)
     drove_all (Err e) input out out' p = tt
 
+    -- What was driven up to a fault by calls of a function was driven so by what the calls do.
     pub drove_some : {A E : Type 0} (r : Result A E) (input input' out out' : Option (List ℕ))
         → OnErr r (DroveSomeBy (AreRounds (DoesBy g f)) input input' out out' old new)
         → OnErr r (DroveSomeBy Driving input input' out out' old new)

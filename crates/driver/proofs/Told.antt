@@ -133,6 +133,7 @@ module _ {S : Type 0} (M : Meaning S) where
       ∙ course_leaves M None (own tenant (pairs history)) u
       ∙ sym (own_leaves tenant u history ∙ ap (along u (own tenant (pairs history))) (legal tenant))
 
+  -- In a new book that was driven, each unit released what was told of it.
   pub book_released_is_told : BookReleasedIsTold M
   book_released_is_told lines rounds old new empty drives legal tenant u =
       let grew = rounds_grew lines old new rounds drives in
@@ -140,6 +141,7 @@ module _ {S : Type 0} (M : Meaning S) where
       ∙ ap (left_in tenant u) (grew.history ∙ ap (λ h. h ++ grew.entries) empty)
       ∙ grew.outputs tenant u
 
+  -- A new host that was driven stands for a book in which each unit released what was told of it.
   pub released_is_told : ReleasedIsTold M
   released_is_told lines rounds old new replay drives =
       let before : Ledger = record { history = []; log = old.log } in

@@ -17,6 +17,7 @@ module _ {S : Type 0} (M : Meaning S) where
     recorded = subst (λ (l : Logged). IsRecordedIn M book.history l.records) (sym is.log) is.replay.recorded;
   }
 
+  -- Each new host that was served lines runs as some book.
   pub host_runs : HostRuns M
   host_runs lines replies old new fresh serves =
       let start : Ledger = record { history = []; log = old.log } in
@@ -35,6 +36,7 @@ module _ {S : Type 0} (M : Meaning S) where
     promises = promises;
   }
 
+  -- Two new hosts that were served the same lines give the same promises.
   pub hosts_repeat : HostsRepeat M
   hosts_repeat lines one other old new old' new' fresh served promises fresh' served' promises' =
       let ran = host_runs lines one old new fresh served in
@@ -42,6 +44,7 @@ module _ {S : Type 0} (M : Meaning S) where
       repeats M lines one other
       ran.0 ran'.0 (is_run lines one new ran.0 ran.1 promises) (is_run lines other new' ran'.0 ran'.1 promises')
 
+  -- A new host that is served lines in two parts replies to each as one served the whole does.
   pub hosts_go_on : HostsGoOn M
   hosts_go_on first second start
       mid new start' new' seen missed all fresh served served' promises fresh' whole promises' =

@@ -119,6 +119,7 @@ module _ {S : Type 0} (M : Meaning S) where
     all_promises : All IsPromise (map reply_of new.history)
     all_promises = subst (All IsPromise) (sym replies_are) (entered-promises lines replies run.promises)
 
+  -- Two runs on the same lines give the same promises.
   pub repeats : Repeats M
   repeats lines one other new new' run run' =
       let answered = (each lines one new run).0 in
@@ -132,6 +133,7 @@ module _ {S : Type 0} (M : Meaning S) where
       entered-replies lines one other answered answered' (sym (replies_are lines one new run)
       ∙ same ∙ replies_are lines other new' run')
 
+  -- A new book that is served lines in two parts replies to each as one served the whole does.
   pub goes_on : GoesOn M
   goes_on first second start mid new new' seen missed all empty served served' book promises whole =
       let run : IsRun M (first ++ second) (seen ++ missed) new = record {

@@ -38,6 +38,7 @@ told_stopped count =
     ap (λ l. count_begins ++ l) (append_assoc (decimal count) no_memory (10 ∷ [])
     ∙ sym (append_assoc (decimal count) (44 ∷ []) memory_end))
 
+-- The line of each reply for want of memory ends by telling so.
 pub memory_is_told : MemoryIsTold
 memory_is_told count = (
   ap tells_memory told_refused ∙ ends_so (123 ∷ []),

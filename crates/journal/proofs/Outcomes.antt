@@ -179,6 +179,7 @@ module _ {S : Type 0} (M : Meaning S) where
   abbrev event : TenantStep → Said → Event
   event s said = record { step = s; said = said }
 
+  -- A step whose replies are promises comes out the same, whatever an honest store said.
   pub same_outcome : (tenant : List ℕ)
       (w : Option World) (s : TenantStep) (said other : Said) (grown grown' : List Record)
       → IsHonestAt M tenant w s said grown → IsHonestAt M tenant w s other grown'

@@ -11,6 +11,7 @@ use Rattle.lines.specs.Lines.{onto_first, lines_of, IsPart, Holds, LinesRead}
 use Rattle.lines.specs.Parts.{TakesPart, IsLineRead}
 use Rattle.lines.specs.declared.input.LineRead.TheVariants.{Line, Long, End}
 
+-- An input whose reader shows no bytes is at its end.
 pub at_end : (a : Option (List ℕ)) (shown : List ℕ)
     → length shown ≡ 0 → IfSome a (λ xs. length shown ≡ 0 → xs ≡ []) → IsAtEnd a
 at_end None shown none h = tt
@@ -36,9 +37,11 @@ lines_of-last (x ∷ y ∷ xs) part some =
     (ne_eqb x 10 (All-head (λ y. y ≢ 10) x (y ∷ xs) part))
     ∙ ap (onto_first x) (lines_of-last (y ∷ xs) (All-tail (λ y. y ≢ 10) x (y ∷ xs) part) (omega arith))
 
+-- No bytes are a part of a line.
 pub IsPart-nil : IsPart []
 IsPart-nil = All-nil (λ x. x ≢ 10)
 
+-- Two parts of a line, one behind the other, are a part of a line.
 pub IsPart-append : (a b : List ℕ) → IsPart a → IsPart b → IsPart (a ++ b)
 IsPart-append a b p q = All-append (λ x. x ≢ 10) a b p q
 
@@ -89,6 +92,7 @@ TakesPart-kept (Some x) None c p k = absurd p.2
 TakesPart-kept (Some x) (Some y) None p k = absurd k
 TakesPart-kept (Some x) (Some y) (Some z) p k = (p.0, p.1, p.2 ∙ ap (λ l. p.0 ++ l) (sym k))
 
+-- A line that was read is heard as it is held, or as one that is too long.
 pub heard_line : (is_long : Bool) (held text : List ℕ) (a c : Option (List ℕ))
     → Holds held is_long text → LinesRead a c (text ∷ []) → IsLineRead (cond is_long Long Line) held a c
 heard_line true held text a c h read = (text, h, read)
@@ -108,6 +112,7 @@ heard_none false held a b c is fits part taken ended kept =
     some [] e = absurd cc
     some (x ∷ xs) e = omega arith
 
+-- What is held where the input ends is heard as its last line, or as the end.
 pub heard_last : (is_long : Bool) (held text : List ℕ) (a b c : Option (List ℕ))
     → Holds held is_long text → IsPart text → Consumes a b text → IsAtEnd b → Keeps b c
     → IsLineRead (cond is_long Long (cond (eqb (length held) 0) End Line)) held a c
@@ -120,10 +125,12 @@ heard_last false held text a b c h part taken ended kept =
 
 -- ---- many lines
 
+-- Of an input that is as it was no lines were read.
 pub LinesRead-nil : (a : Option (List ℕ)) → LinesRead a a []
 LinesRead-nil None = tt
 LinesRead-nil (Some x) = (refl, ([], refl))
 
+-- A line that was read behind others was read with them.
 pub LinesRead-more : (a b c : Option (List ℕ)) (ls : List (List ℕ)) (l : List ℕ)
     → LinesRead a b ls → LinesRead b c (l ∷ []) → LinesRead a c (ls ++ l ∷ [])
 LinesRead-more None b c ls l p q = tt
@@ -134,6 +141,7 @@ LinesRead-more (Some x) (Some y) (Some z) ls l p q = (
   (p.1.0 ++ q.1.0, p.1.1 ∙ ap (λ r. p.1.0 ++ r) q.1.1 ∙ sym (append_assoc p.1.0 q.1.0 z)),
 )
 
+-- Lines that were read up to the end of the input are all of its lines.
 pub LinesRead-all : (a b : Option (List ℕ)) (ls : List (List ℕ))
     → LinesRead a b ls → IsAtEnd b → IfSome a (λ all. lines_of all ≡ ls)
 LinesRead-all None b ls p e = tt

@@ -123,6 +123,7 @@ module _ {S : Type 0} (M : Meaning S) where
       (before, subst (λ h. IsHostOf M h before) (sym p.1) is, inl (p.0, refl))
   step_each (Some step) old reply new (inr p) before is = let one = p Caller before is in (one.0, one.1, inr one.2.0)
 
+  -- A host that does each line's step serves the lines for each book that it stands for.
   pub host_serves : (lines : List (List ℕ)) (old : HostState S) (replies : List Reply) (new : HostState S)
       → ServesBy (HostDoes M) lines old replies new → HostServes M lines old replies new
   host_serves [] old replies new p before is = (before, subst (λ h. IsHostOf M h before) (sym p.1) is, (p.0, refl))
@@ -154,12 +155,14 @@ module _ {F B : Type 0} (g : Shared F (MutBor B × (Step × Unit {0})) (Reply ×
     as_calls lines replies p =
         serves lines replies (serves_as (DoesBy g f) Other (calls_do fact) lines old replies new p)
 
+    -- What was served to the end by calls of a function was served so by what the calls do.
     pub served_all : {E : Type 0} (r : Result ℕ E) (input out out' : Option (List ℕ))
         → IfOk r (λ count. ServedAllBy (ServesBy (DoesBy g f)) input out out' old new count)
         → IfOk r (λ count. ServedAllBy Serving input out out' old new count)
     served_all (Ok count) input out out' p = (p.0, p.1, p.2, as_calls p.0 p.1 p.3, p.4, p.5)
     served_all (Err e) input out out' p = tt
 
+    -- What was served up to a fault by calls of a function was served so by what the calls do.
     pub served_some : {A E : Type 0} (r : Result A E) (input input' out out' : Option (List ℕ))
         → OnErr r (ServedSomeBy (ServesBy (DoesBy g f)) input input' out out' old new)
         → OnErr r (ServedSomeBy Serving input input' out out' old new)

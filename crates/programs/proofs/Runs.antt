@@ -109,6 +109,7 @@ trapped c LoadAccessFault ne = refl
 trapped c StoreAddressMisaligned ne = refl
 trapped c StoreAccessFault ne = refl
 
+-- An exception that is no environment call cuts a course with a trap.
 pub gone_on_trap : (c : Course) (e : Exception) → e ≢ EnvironmentCall → stepped c.machine ≡ Err e
     → gone_on c ≡ Err (Trapped (Raised e))
 unfolding gone_on
@@ -118,6 +119,7 @@ gone_on_trap c e ne h = ap (upon_step c) h ∙ trapped c e ne
 pub utf8_test : (bytes : List ℕ) → IsUtf8 bytes → is_utf8 bytes ≡ true
 utf8_test = is_utf8-from_IsUtf8
 
+-- The test of UTF-8 fails for bytes that are no UTF-8.
 pub not_utf8_test : (bytes : List ℕ) → ¬ (IsUtf8 bytes) → is_utf8 bytes ≡ false
 not_utf8_test bytes never =
     elim (is_utf8 bytes) as (λ v. is_utf8 bytes ≡ v

@@ -26,6 +26,7 @@ pub step_of_text : (d : Data) → ArePrintable (json_tokens (outline d))
 unfolding step_of_tokens
 step_of_text d printable read = ap step_of_tokens (text_tokens d printable) ∙ ap (λ o. o >>= step_of) read
 
+-- The tokens of a post's shortest text are the step that its value is.
 pub post_text : (verb tenant text : List ℕ) (n u : ℕ) → n < 2 ^ 64 → u < 2 ^ 64
     → step_of_tokens (tokens (compact_text (post_data verb n tenant text u))) ≡ step_of (post_data verb n tenant text u)
 unfolding ArePrintable value members
@@ -40,6 +41,7 @@ post_text verb tenant text n u small few =
     )
     (rw (number_of-decimal n small) (rw (number_of-decimal u few) refl))
 
+-- The tokens of a delivery's shortest text are the step that its value is.
 pub deliver_text : (verb tenant : List ℕ) (n : ℕ) → n < 2 ^ 64
     → step_of_tokens (tokens (compact_text (deliver_data verb n tenant))) ≡ step_of (deliver_data verb n tenant)
 unfolding ArePrintable value members
@@ -47,6 +49,7 @@ deliver_text verb tenant n small =
     step_of_text (deliver_data verb n tenant) (tt, (tt, (tt, (tt, (IsNumber-decimal n small, (tt, (tt, (tt, tt))))))))
     (rw (number_of-decimal n small) refl)
 
+-- The tokens of the shortest text that names a tenant and a unit alone are the step that its value is.
 pub place_text : (verb tenant : List ℕ) (u : ℕ) → u < 2 ^ 64
     → step_of_tokens (tokens (compact_text (place_data verb tenant u))) ≡ step_of (place_data verb tenant u)
 unfolding ArePrintable value members
@@ -67,11 +70,13 @@ pub post_parts : (verb tenant text : List ℕ) (n u : ℕ) → compact_text (pos
 unfolding escape_byte
 post_parts verb tenant text n u = refl
 
+-- The shortest text of a delivery is its verb, and its tail behind that.
 pub deliver_parts : (verb tenant : List ℕ) (n : ℕ) → compact_text (deliver_data verb n tenant)
     ≡ codes "{\"do\":" ++ (quoted verb ++ deliver_tail n tenant)
 unfolding escape_byte
 deliver_parts verb tenant n = refl
 
+-- The shortest text of a step that names a tenant and a unit alone is its verb and then its tail.
 pub place_parts : (verb tenant : List ℕ) (u : ℕ) → compact_text (place_data verb tenant u)
     ≡ codes "{\"do\":" ++ (quoted verb ++ place_tail tenant u)
 unfolding escape_byte

@@ -56,28 +56,36 @@ starting : (t : Token) (ts : List Token) (o : Option (json.Json × List Token)) 
     → last_of o ≡ None → step_of_tokens (t ∷ ts) ≡ None
 starting t ts o is none = ap last_of is ∙ none
 
+-- An empty list of tokens is no step.
 pub nothing_is_no_step : step_of_tokens [] ≡ None
 nothing_is_no_step = ap last_of (value_is 127 [])
 
+-- Tokens that begin with a closing brace are no step.
 pub closing_is_no_step : (ts : List Token) → step_of_tokens (Token.end_object ∷ ts) ≡ None
 closing_is_no_step ts = starting Token.end_object ts None (value_is 127 (Token.end_object ∷ ts)) refl
 
+-- Tokens that begin with an opening bracket are no step.
 pub array_is_no_step : (ts : List Token) → step_of_tokens (Token.begin_array ∷ ts) ≡ None
 array_is_no_step ts = starting Token.begin_array ts (parse_map json.array (items (value 126) (length ts) ts))
     (value-begin_array 127 ts (omega arith)) (no_array (items (value 126) (length ts) ts))
 
+-- Tokens that begin with a closing bracket are no step.
 pub bracket_is_no_step : (ts : List Token) → step_of_tokens (Token.end_array ∷ ts) ≡ None
 bracket_is_no_step ts = starting Token.end_array ts None (value_is 127 (Token.end_array ∷ ts)) refl
 
+-- Tokens that begin with a key are no step.
 pub key_is_no_step : (s : List ℕ) (ts : List Token) → step_of_tokens (Token.key s ∷ ts) ≡ None
 key_is_no_step s ts = starting (Token.key s) ts None (value_is 127 (Token.key s ∷ ts)) refl
 
+-- Tokens that begin with a string are no step.
 pub text_is_no_step : (s : List ℕ) (ts : List Token) → step_of_tokens (Token.string s ∷ ts) ≡ None
 text_is_no_step s ts = starting (Token.string s) ts _ (value_is 127 (Token.string s ∷ ts)) (no_text s ts)
 
+-- Tokens that begin with a number are no step.
 pub number_is_no_step : (s : List ℕ) (ts : List Token) → step_of_tokens (Token.number s ∷ ts) ≡ None
 number_is_no_step s ts = starting (Token.number s) ts _ (value_is 127 (Token.number s ∷ ts)) (no_number s ts)
 
+-- Tokens that begin with a boolean are no step.
 pub flag_is_no_step : (b : Bool) (ts : List Token) → step_of_tokens (Token.boolean b ∷ ts) ≡ None
 unfolding step_of
 flag_is_no_step b ts = starting (Token.boolean b) ts _ (value_is 127 (Token.boolean b ∷ ts)) (at ts)
@@ -86,6 +94,7 @@ flag_is_no_step b ts = starting (Token.boolean b) ts _ (value_is 127 (Token.bool
     at [] = refl
     at (t ∷ ts) = refl
 
+-- Tokens that begin with `null` are no step.
 pub null_is_no_step : (ts : List Token) → step_of_tokens (Token.null ∷ ts) ≡ None
 unfolding step_of
 null_is_no_step ts = starting Token.null ts _ (value_is 127 (Token.null ∷ ts)) (at ts)
@@ -94,6 +103,7 @@ null_is_no_step ts = starting Token.null ts _ (value_is 127 (Token.null ∷ ts))
     at [] = refl
     at (t ∷ ts) = refl
 
+-- Tokens that begin with a bad one are no step.
 pub bad_is_no_step : (ts : List Token) → step_of_tokens (Token.bad ∷ ts) ≡ None
 bad_is_no_step ts = starting Token.bad ts None (value_is 127 (Token.bad ∷ ts)) refl
 
@@ -119,6 +129,7 @@ verbless_is_no_step b c e f g h =
     ∙ skipped k (codes "unit") refl h no_members in
     ap (λ o. option_and_then as_str o >>= (λ verb. form_of verb (object (chain None b c e f g h)))) none
 
+-- An object of the members that were seen is no step where no verb was among them.
 pub verbless : (s : Seen) → s.verb ≡ None → step_of (object (seen_members s)) ≡ None
 verbless s none =
     let b = option_map (λ t. string t.now) s.kind in

@@ -5,6 +5,7 @@ use Rattle.std.specs.Str.Parse.{AllDigits, digits_value, IsNumeral, ParsesUnsign
 use Rattle.std.proofs.lemmas.Str.Parse.{IsNumeralModel}
 use Rattle.std.proofs.lemmas.Fmt.{decimal-digits_value}
 
+-- Numbers that are found unequal differ.
 pub differs : (m n : ℕ) → IsTrue (not (nat_eq m n)) → m ≡ n → ⊥
 differs m n p = search rules
 

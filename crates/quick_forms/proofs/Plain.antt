@@ -15,6 +15,7 @@ quoted_at r t rest is plain = ap (λ (l : List ℕ). 34 ∷ l) is ∙ sym (quote
 unit_at : (r last : List ℕ) (u : ℕ) → r ≡ decimal u ++ last → last ≡ codes "}" → r ≡ decimal u ++ codes "}"
 unit_at r last u is end = is ∙ ap (λ (l : List ℕ). decimal u ++ l) end
 
+-- A plain tenant and a unit, read part by part, are the tail of a step that names these alone.
 pub place_is : (all r s last t : List ℕ) (u : ℕ) → all ≡ codes ",\"tenant\":\"" ++ r
     → r ≡ t ++ (codes "\",\"unit\":" ++ s) → escape t ≡ t → s ≡ decimal u ++ last → last ≡ codes "}"
     → all ≡ place_tail t u
@@ -24,6 +25,7 @@ place_is all r s last t u begun named plain unit end =
     quoted_at r t _ (named ∙ ap (λ (l : List ℕ). t ++ (codes "\",\"unit\":" ++ l)) whole) plain in
     begun ∙ ap (λ (l : List ℕ). codes ",\"tenant\":" ++ l) tenant
 
+-- A letter and a plain tenant, read part by part, are the tail of a delivery.
 pub deliver_is : (all r s last t : List ℕ) (n : ℕ) → all ≡ codes ",\"letter\":" ++ (decimal n ++ r)
     → r ≡ codes ",\"tenant\":\"" ++ s → s ≡ t ++ (codes "\"}" ++ last) → escape t ≡ t → last ≡ []
     → all ≡ deliver_tail n t
@@ -33,6 +35,7 @@ deliver_is all r s last t n begun next named plain end =
     begun ∙ ap (λ (l : List ℕ). codes ",\"letter\":" ++ (decimal n ++ l))
     (next ∙ ap (λ (l : List ℕ). codes ",\"tenant\":" ++ l) tenant)
 
+-- A number, a plain tenant, a plain text and a unit, read part by part, are the tail of a post.
 pub post_is : (all r s v w last tenant text : List ℕ) (n u : ℕ) → all ≡ codes ",\"number\":" ++ (decimal n ++ r)
     → r ≡ codes ",\"tenant\":\"" ++ s
     → s ≡ tenant ++ (codes "\",\"text\":\"" ++ v) → escape tenant ≡ tenant → v ≡ text ++ (codes "\",\"unit\":" ++ w)

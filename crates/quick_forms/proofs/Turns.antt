@@ -66,6 +66,7 @@ pub string_read : (m : ℕ) (s : List ℕ) (ts : List Token)
     → converted of_json (value m (Token.string s ∷ ts)) ≡ Some (string s, ts)
 string_read m s ts = ap (converted of_json) (value_is m (Token.string s ∷ ts))
 
+-- A number token that says a whole number is read as it, and the tokens behind it are left.
 pub number_read : (m : ℕ) (s : List ℕ) (n : ℕ) (ts : List Token) → number_of s ≡ Some (unsigned n)
     → converted of_json (value m (Token.number s ∷ ts)) ≡ Some (whole_data n, ts)
 number_read m s n ts e = ap (converted of_json) (value_is m (Token.number s ∷ ts)) ∙ rw e refl
@@ -92,6 +93,7 @@ past k l greater d None ms ns h = h
 past k l greater d (Some e) ms ns h = rw greater (ap (member l e) h)
 
 module _ (d : Data) (a b c e f g h : Option Data) where
+  -- A value put under `unit` among the members that were seen is set in its place there.
   pub put_unit : put (codes "unit") d (chain a b c e f g h) ≡ chain a b c e f g (Some d)
   put_unit =
       let k = codes "unit" in
@@ -100,6 +102,7 @@ module _ (d : Data) (a b c e f g h : Option Data) where
       (past k (codes "tenant") refl d f _ _
       (past k (codes "text") refl d g _ _ (here k refl d h no_members (λ x. refl)))))))
 
+  -- A value put under `text` among the members that were seen is set in its place there.
   pub put_text : put (codes "text") d (chain a b c e f g h) ≡ chain a b c e f (Some d) h
   put_text =
       let k = codes "text" in
@@ -107,6 +110,7 @@ module _ (d : Data) (a b c e f g h : Option Data) where
       (past k (codes "letter") refl d c _ _ (past k (codes "number") refl d e _ _
       (past k (codes "tenant") refl d f _ _ (here k refl d g _ (before k (codes "unit") refl h _ (λ x. refl)))))))
 
+  -- A value put under `tenant` among the members that were seen is set in its place there.
   pub put_tenant : put (codes "tenant") d (chain a b c e f g h) ≡ chain a b c e (Some d) g h
   put_tenant =
       let k = codes "tenant" in
@@ -114,6 +118,7 @@ module _ (d : Data) (a b c e f g h : Option Data) where
       (past k (codes "letter") refl d c _ _ (past k (codes "number") refl d e _ _
       (here k refl d f _ (before k (codes "text") refl g _ (before k (codes "unit") refl h _ (λ x. refl)))))))
 
+  -- A value put under `number` among the members that were seen is set in its place there.
   pub put_number : put (codes "number") d (chain a b c e f g h) ≡ chain a b c (Some d) f g h
   put_number =
       let k = codes "number" in
@@ -121,6 +126,7 @@ module _ (d : Data) (a b c e f g h : Option Data) where
       (here k refl d e _ (before k (codes "tenant") refl f _
       (before k (codes "text") refl g _ (before k (codes "unit") refl h _ (λ x. refl)))))))
 
+  -- A value put under `letter` among the members that were seen is set in its place there.
   pub put_letter : put (codes "letter") d (chain a b c e f g h) ≡ chain a b (Some d) e f g h
   put_letter =
       let k = codes "letter" in
@@ -128,6 +134,7 @@ module _ (d : Data) (a b c e f g h : Option Data) where
       (here k refl d c _ (before k (codes "number") refl e _ (before k (codes "tenant") refl f _
       (before k (codes "text") refl g _ (before k (codes "unit") refl h _ (λ x. refl)))))))
 
+  -- A value put under `kind` among the members that were seen is set in its place there.
   pub put_kind : put (codes "kind") d (chain a b c e f g h) ≡ chain a (Some d) c e f g h
   put_kind =
       let k = codes "kind" in
@@ -136,6 +143,7 @@ module _ (d : Data) (a b c e f g h : Option Data) where
       (before k (codes "number") refl e _ (before k (codes "tenant") refl f _
       (before k (codes "text") refl g _ (before k (codes "unit") refl h _ (λ x. refl)))))))
 
+  -- A value put under `do` among the members that were seen is set in its place there.
   pub put_verb : put (codes "do") d (chain a b c e f g h) ≡ chain (Some d) b c e f g h
   put_verb =
       let k = codes "do" in

@@ -22,18 +22,22 @@ pub one_string : (s : List ℕ) → print (string s ∷ []) ≡ quoted s
 unfolding print_from
 one_string s = append-nil (quoted s)
 
+-- The reply to an opening is written with the count of its units.
 pub opened_text : (n : ℕ) → reply_text (Opened n) ≡ codes "{\"ok\":\"open\",\"units\":" ++ (decimal n ++ codes "}")
 unfolding data_text escape_byte
 opened_text n = refl
 
+-- The reply to a join is written with the new unit's number.
 pub joined_text : (n : ℕ) → reply_text (Joined n) ≡ codes "{\"ok\":\"join\",\"unit\":" ++ (decimal n ++ codes "}")
 unfolding data_text escape_byte
 joined_text n = refl
 
+-- The reply to a flush is written with the count of its records.
 pub flushed_text : (n : ℕ) → reply_text (Flushed n) ≡ codes "{\"count\":" ++ (decimal n ++ codes ",\"ok\":\"flush\"}")
 unfolding data_text escape_byte
 flushed_text n = refl
 
+-- The reply to a kill is written with the count of the intervals that were lost.
 pub killed_text : (n : ℕ) → reply_text (Killed n) ≡ codes "{\"lost\":" ++ (decimal n ++ codes ",\"ok\":\"kill\"}")
 unfolding data_text escape_byte
 killed_text n = refl
@@ -56,12 +60,14 @@ at_text at rest =
     ap (λ (xs : List ℕ). codes "{\"at\":" ++ xs) (pair_text at.incarnation at.index rest)
     ∙ sym (flat (codes "{\"at\":[") (decimal at.incarnation) (decimal at.index) (codes "]" ++ rest))
 
+-- The reply to a checkpoint is written with its mark.
 pub checkpointed_text : (at : Mark) → reply_text (Checkpointed at)
     ≡ ((codes "{\"at\":[" ++ decimal at.incarnation) ++ (codes "," ++ decimal at.index))
     ++ codes "],\"ok\":\"checkpoint\"}"
 unfolding data_text escape_byte
 checkpointed_text at = at_text at (codes ",\"ok\":\"checkpoint\"}")
 
+-- The reply to a restart is written with its row.
 pub restarted_text : (row : Start) → reply_text (Restarted row)
     ≡ (codes "{\"ok\":\"restart\",\"row\":[" ++ decimal row.incarnation)
     ++ (codes "," ++ (decimal row.index ++ codes "]}"))
@@ -69,6 +75,7 @@ unfolding data_text escape_byte
 restarted_text row =
     ap (λ (xs : List ℕ). codes "{\"ok\":\"restart\",\"row\":" ++ xs) (pair_text row.incarnation row.index (codes "}"))
 
+-- The reply to a notice that appended a row is written with that row.
 pub noticed_row_text : (row : Start) → reply_text (Noticed (Some row))
     ≡ (codes "{\"ok\":\"notice\",\"row\":[" ++ decimal row.incarnation)
     ++ (codes "," ++ (decimal row.index ++ codes "]}"))
@@ -76,10 +83,12 @@ unfolding data_text escape_byte
 noticed_row_text row =
     ap (λ (xs : List ℕ). codes "{\"ok\":\"notice\",\"row\":" ++ xs) (pair_text row.incarnation row.index (codes "}"))
 
+-- The reply to a notice that appended no row is written with `null` in its place.
 pub noticed_none_text : reply_text (Noticed None) ≡ codes "{\"ok\":\"notice\",\"row\":null}"
 unfolding data_text escape_byte
 noticed_none_text = refl
 
+-- The reply to an accepted receipt is written with its mark, its count of held outputs and its letters.
 pub accepted_text : (at : Mark) (held : ℕ) (letters : List ℕ) → reply_text (Accepted at held letters)
     ≡ ((codes "{\"at\":[" ++ decimal at.incarnation) ++ (codes "," ++ decimal at.index))
     ++ ((codes "],\"held\":" ++ decimal held)
@@ -89,11 +98,13 @@ accepted_text at held letters =
     at_text at (codes ",\"held\":" ++ (decimal held
     ++ (codes ",\"letters\":[" ++ (items_text false (wholes letters) ++ codes ",\"ok\":\"accepted\"}"))))
 
+-- The reply to a release is written with its outputs.
 pub released_text : (outputs : List (List ℕ)) → reply_text (Released outputs)
     ≡ codes "{\"ok\":\"released\",\"outputs\":[" ++ (items_text false (texts outputs) ++ codes "}")
 unfolding data_text escape_byte
 released_text outputs = refl
 
+-- The reply to a status is written with all its members, in the order of their keys.
 pub status_text : (at : Mark) (held known outside released rows stable : ℕ) (up : Bool) (volatile : ℕ)
     → reply_text (Status up at held known outside released rows stable volatile)
     ≡ ((codes "{\"at\":[" ++ decimal at.incarnation) ++ (codes "," ++ decimal at.index))
@@ -137,11 +148,13 @@ name_text Store = refl
 name_text Memory = refl
 name_text Pending = refl
 
+-- The reply to a step that is refused is written with the refusal's name.
 pub refused_text : (r : Refusal) → reply_text (Refused r) ≡ codes "{\"no\":\"" ++ (refusal_name r ++ codes "\"}")
 unfolding data_text escape_byte
 refused_text r = ap (λ (xs : List ℕ). codes "{\"no\":" ++ (xs ++ codes "}")) (name_text r)
     ∙ ap (λ (xs : List ℕ). codes "{\"no\":\"" ++ xs) (append_assoc (refusal_name r) (codes "\"") (codes "}"))
 
+-- The reply to a flush that ended early is written with its count and the refusal's name.
 pub stopped_text : (n : ℕ) (r : Refusal) → reply_text (Stopped n r) ≡ codes "{\"count\":"
     ++ (decimal n ++ (codes ",\"no\":\"" ++ (refusal_name r ++ codes "\"}")))
 unfolding data_text escape_byte

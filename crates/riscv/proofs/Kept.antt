@@ -40,6 +40,7 @@ half_kept word n (suc (suc zero)) e h = omega arith
 half_kept word n (suc (suc (suc zero))) e h = absurd (omega arith)
 half_kept word n (suc (suc (suc (suc k)))) e h = absurd (omega arith)
 
+-- A byte that was stored is what is loaded from there, extended by zeros or by its sign.
 pub bytes_are_kept : BytesAreKept
 bytes_are_kept memory after a n is h =
     let t = passed (nat_lt a 262144) (Ok (put_byte memory a n)) StoreAccessFault after h in
@@ -52,6 +53,7 @@ bytes_are_kept memory after a n is h =
     ∙ byte_kept (word_at memory a) n (a % 4) place in
     (rw (t.0, byte) refl, rw (t.0, byte) refl)
 
+-- A halfword that was stored is what is loaded from there, extended by zeros or by its sign.
 pub halves_are_kept : HalvesAreKept
 halves_are_kept memory after a n is h =
     let s = passed (a % 2 == 0)
@@ -68,6 +70,7 @@ halves_are_kept memory after a n is h =
     ∙ half_kept (word_at memory a) n (a % 4) aligned place in
     (rw (s.0, t.0, half) refl, rw (s.0, t.0, half) refl)
 
+-- A word that was stored is what is loaded from there.
 pub words_are_kept : WordsAreKept
 words_are_kept memory after a n is h =
     let s = passed (a % 4 == 0)

@@ -12,6 +12,7 @@ use Rattle.riscv.specs.Decoding.{instruction_of}
 use Rattle.riscv.specs.Memories.{zero_page}
 use Rattle.riscv.specs.Predecoding.{meaning, unread_words, unread_page, Reads, KeepsCode, Decodes}
 
+-- A place within a page is within the instructions kept beside it, where any are kept.
 pub code_within : (code : Option (List Predecoded)) (words : List ℕ) (at : ℕ) → Decodes code words
     → length words ≡ 1024 → at < 1024 → IfSome code (λ xs. at < length xs)
 code_within None words at h long within = tt
@@ -43,6 +44,7 @@ nothing_read words long = record {
   reads = λ at h never. absurd (never (unread_at 1024 at));
 }
 
+-- As many unread instructions as a page has words are the unread page.
 pub unread_are : (code : List Predecoded) (n : ℕ) → code ≡ replicate n Unread → n ≡ 1024 → code ≡ unread_page
 unfolding unread_words
 unread_are code n e f = e ∙ ap (λ k. replicate k Unread) f
@@ -83,11 +85,13 @@ keeps_read code words at p long within said h = record {
       rw own (h.reads j there (λ e. never (own ∙ e))));
 }
 
+-- A page's instructions still fit where a word is written and its own is set back to unread.
 pub decodes_set : (code : Option (List Predecoded)) (words : List ℕ) (at n : ℕ) → length words ≡ 1024 → at < 1024
     → Decodes code words → Decodes (option_map (λ xs. set xs at Unread) code) (set words at n)
 decodes_set None words at n long within h = tt
 decodes_set (Some code) words at n long within h = keeps_set code words at n long within h
 
+-- A page's instructions still fit where the one that a word says is kept beside it.
 pub decodes_read : (code : Option (List Predecoded)) (words : List ℕ) (at : ℕ) (p : Predecoded)
     → length words ≡ 1024 → at < 1024 → meaning p ≡ instruction_of (get_or words at 0) → Decodes code words
     → Decodes (option_map (λ xs. set xs at p) code) words

@@ -136,5 +136,6 @@ word_has w =
     at_choice w (opcode w == 0x0f) _ _ (fence_has w) (
     at_choice w (opcode w == 0x73) _ _ (system_has w) (none w)))))))))))
 
+-- The operands of a decoded instruction are the fields of its word.
 pub operands_are_fields : OperandsAreFields
 operands_are_fields w i e = (subst (Has w) e (word_has w)).operands

@@ -55,12 +55,15 @@ zero_word zero i = refl
 zero_word (suc n) zero = refl
 zero_word (suc n) (suc i) = zero_word n i
 
+-- A page of zeros has 1,024 words.
 pub length_zero_page : length zero_page ≡ 1024
 length_zero_page = length_zero_words 1024
 
+-- Each word of a page of zeros is 0.
 pub zero_page_read : (i : ℕ) → get_or zero_page i 0 ≡ 0
 zero_page_read i = zero_word 1024 i
 
+-- A list that repeats 0 so many times is that many words of zeros.
 pub zero_words_are : (words : List ℕ) (n : ℕ) → words ≡ replicate n 0 → words ≡ zero_words n
 unfolding zero_words
 zero_words_are words n e = e
@@ -69,6 +72,7 @@ length_zero_pages : (n k : ℕ) → length (zero_pages n k) ≡ n
 unfolding zero_pages
 length_zero_pages n k = length-replicate n (replicate k 0)
 
+-- A memory of zeros has 64 pages.
 pub length_zeros : length zeros ≡ 64
 unfolding zeros
 length_zeros = length_zero_pages 64 1024
@@ -114,13 +118,16 @@ all_zeros [] (suc n) k h = absurd (omega arith)
 all_zeros (p ∷ ps) zero k h = absurd (omega arith)
 all_zeros (p ∷ ps) (suc n) k h = ap (λ b. bytes_eq p (replicate k 0) && b) (all_zeros ps n k (omega arith))
 
+-- The walk through 64 pages finds each of zeros just where they equal a memory of zeros.
 pub are_zeros : (pages : Words) → length pages ≡ 64
     → list_all (λ p. bytes_eq p zero_page) pages ≡ pages_equal pages zeros
 unfolding zeros
 are_zeros pages h = all_zeros pages 64 1024 h
 
+-- A memory of zeros is found equal to some pages just where they are found equal to it.
 pub zeros_are_same : (pages : Words) → pages_equal zeros pages ≡ pages_equal pages zeros
 zeros_are_same pages = (lists_equiv nat_list_eq_equiv).symm zeros pages
 
+-- A memory of zeros is found equal to itself.
 pub zeros_are_equal : pages_equal zeros zeros ≡ true
 zeros_are_equal = (lists_equiv nat_list_eq_equiv).refl zeros

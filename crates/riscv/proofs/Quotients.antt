@@ -13,6 +13,7 @@ use Rattle.riscv.specs.Laws.{HasSignOf, SignedDivides}
 use lib.Signed.{mag, mag_rem}
 use mir.Val.{of_z}
 
+-- Numbers that differ are not found equal.
 pub apart : (m n : ℕ) → m ≢ n → (m == n) ≡ false
 apart m n ne = elim (m == n) as (λ v. (m == n) ≡ v
     → v ≡ false) [ true ↦ λ e. absurd (ne ((Decides-eqb m n).0 e)) | false ↦ λ e. refl ] refl
@@ -54,6 +55,7 @@ remainder_sign : (x y : ℤ) → HasSignOf (int_rem x y) x
 remainder_sign (pos a) y = tt
 remainder_sign (negsuc a) y = negated_sign (suc a % unsigned_abs y) a
 
+-- Signed quotient and remainder make up the dividend, where the divisor isn't 0 and nothing overflows.
 pub signed_divides : SignedDivides
 signed_divides a b ha hb ne other =
     let test : (b == 0) ≡ false = apart b 0 ne in

@@ -50,6 +50,7 @@ module _ {S X : Type 0} (M : Meaning S) (steps : X → List Step)
         | inr past ↦ ([], λ h. absurd (omega arith))
       ]
 
+  -- The replies that each shard gave to its own steps.
   pub all_replies : ℕ → List Reply
   all_replies i = (replies_of i).0
 
@@ -57,6 +58,7 @@ module _ {S X : Type 0} (M : Meaning S) (steps : X → List Step)
   unfolding all_replies
   is_of i h = (replies_of i).1 h
 
+  -- Each shard has the lines of its replies, or of the first of them where memory ran out.
   pub told_new : (i : ℕ) (d : X)
       → i < length new → Told (all_replies i) (bytes (get_or new i d)) (lens (get_or new i d)) 0 0
   told_new i d h =
@@ -90,6 +92,7 @@ module _ {S X : Type 0} (M : Meaning S) (steps : X → List Step)
         (subst (λ (ss : List Step). DoesEach (HostDoes M) ss (host x.0) (all_replies j) (host y.0))
         own (is_of j within x.0 y.0 x.1 y.1).0))
 
+    -- What was read of a block is answered, line by line, by the merged replies of the shards.
     pub answered : AnswersEachBy
         (HostsDo M (dealt among)) readings (map host old) (merged places all_replies) (map host new)
     answered =
@@ -100,6 +103,7 @@ module _ {S X : Type 0} (M : Meaning S) (steps : X → List Step)
         (λ tenant. subst (λ n. dealt among tenant < n)
         (sym (length-map old host ∙ few)) (dealt_below among tenant some)) each_did)
 
+    -- Each place of a block that is dealt is that of a shard.
     pub below : (n : ℕ) → n ≡ among → All (IsBelow n) places
     below n is =
         subst (λ m. All (IsBelow m) places) (sym is)
@@ -114,6 +118,7 @@ idle steps xs none i h =
     let x = get_within xs i within in
     get_or-map steps xs i x.0 [] within ∙ none i x.0 within
 
+-- Shards without steps, and one more that has none, are all without steps.
 pub idle_more : {X : Type 0} (steps : X → List Step) (xs : List X) (v : X)
     → AreIdle (map steps xs) → steps v ≡ [] → AreIdle (map steps (xs ++ v ∷ []))
 idle_more steps [] v all none zero h = none

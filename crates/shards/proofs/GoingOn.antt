@@ -92,12 +92,14 @@ module _ {S : Type 0} (M : Meaning S)
       → ServedSomeBy (ShardsServe M) input input' out out' old new
   some_served input input' out out' p = (p.0, p.1, p.2, p.3, p.4, shards_serve p.0 p.1 p.5, p.6)
 
+  -- Where serving ended well, all lines were served for each book that the shards stood for.
   pub all_of : (r : Result ℕ ServeFault) (input out out' : Option (List ℕ))
       → IfOk r (λ count. ServedAllBy (ServesBy (HostsDo M (dealt shards))) input out out' old new count)
       → IfOk r (λ count. ServedAllBy (ShardsServe M) input out out' old new count)
   all_of (Ok count) input out out' p = all_served input out out' count p
   all_of (Err fault) input out out' p = tt
 
+  -- Where serving failed, the lines so far were served for each book that the shards stood for.
   pub some_of : (r : Result ℕ ServeFault) (input input' out out' : Option (List ℕ))
       → OnErr r (ServedSomeBy (ServesBy (HostsDo M (dealt shards))) input input' out out' old new)
       → OnErr r (ServedSomeBy (ShardsServe M) input input' out out' old new)
@@ -106,6 +108,7 @@ module _ {S : Type 0} (M : Meaning S)
 
 -- ---- what was read of a line
 
+-- Where memory for a line's step was missing, that counts as a reading of what was heard too.
 pub reading_is : (kind : LineRead) (held : List ℕ) (read reading : Result Step LineFault)
     → IsReading kind held read → IsReadOr read reading → IsReading kind held reading
 reading_is kind held read reading is (inl e) = subst (IsReading kind held) (sym e) is
@@ -415,6 +418,7 @@ module _ {S : Type 0} (M : Meaning S)
 
   -- ---- a turn
 
+  -- Where no line waits, a turn's result holds, if nothing is left of the input where it says the end.
   pub turns_end : (result : Result Bool ServeFault) → waiting.places ≡ []
       → (result ≡ Ok true → IfSome start.input (λ _. IsAtEnd now.input)
       × (waiting.held ≡ []) × (waiting.is_long ≡ false)) → Turns M deal result start now waiting
@@ -423,11 +427,13 @@ module _ {S : Type 0} (M : Meaning S)
   turns_end (Err fault) none end = ends_here none
 
 module _ {S : Type 0} (M : Meaning S) (deal : List ℕ → ℕ) (start now : Ends S) (waiting : Waiting) where
+  -- Behind a turn that isn't the end serving is under way.
   pub turned_on : (is_end : Bool)
       → is_end ≡ false → Turns M deal (Ok is_end) start now waiting → Underway M deal start now waiting
   turned_on false e turned = turned
   turned_on true e turned = absurd cc
 
+  -- Behind a turn that is the end all lines are served.
   pub turned_end : (is_end : Bool) → is_end ≡ true → Turns M deal (Ok is_end) start now waiting
       → ServedAllBy (ServesBy (HostsDo M deal)) start.input start.out now.out start.hosts now.hosts waiting.count
   turned_end false e turned = absurd cc
@@ -445,6 +451,7 @@ module _ {S : Type 0} (M : Meaning S) (deal : List ℕ → ℕ)
   module _ (start : Ends S) (input : Option (List ℕ)) (held : List ℕ) (is_long : Bool) (count : ℕ)
       (under : Underway M deal start (record { input = input; out = out; hosts = hosts })
       (record { held = held; is_long = is_long; places = places; steps = steps; count = count })) where
+    -- Serving is under way behind a block whose lines are answered and whose replies are all written.
     pub goes_on_by : (mid out' : Option (List ℕ)) (places' : List Place) (steps' : List (List Step))
         → Answers (Appends out mid) → Keeps mid out' → places' ≡ [] → AreIdle steps'
         → Underway M deal start (record { input = input; out = out'; hosts = hosts' })
@@ -454,12 +461,14 @@ module _ {S : Type 0} (M : Meaning S) (deal : List ℕ → ℕ)
         goes_on M deal start _
         _ under out' hosts' one.0 one.1 places' steps' none idle (Appends-kept _ _ _ _ one.2 kept)
 
+    -- Serving stopped where a block is answered and a beginning of its replies is written.
     pub stops_by : (out' : Option (List ℕ)) → Answers (AppendsBeginning out out')
         → Stopped M deal start (record { input = input; out = out'; hosts = hosts' })
     stops_by out' answers =
         let one = answers under.readings under.are_dealt in
         stops M deal start _ _ under out' hosts' one.0 one.1 one.2
 
+    -- Serving may stop behind a block whose lines are answered and whose replies are all written.
     pub stops_after : (mid out' : Option (List ℕ)) → Answers (Appends out mid)
         → Keeps mid out' → Stopped M deal start (record { input = input; out = out'; hosts = hosts' })
     stops_after mid out' answers kept =
@@ -491,11 +500,13 @@ line_so {S} M deal start input out hosts hosts' held is_long places steps n coun
 
 -- ---- faults
 
+-- Where a call failed whose only fault is a failed write, the count of failures has risen.
 pub risen_err : {T : Type 0} (r : Result T ServeFault) (fault : ServeFault) (old mid new : ℕ)
     → mid ≡ old → r ≡ Err fault → IfErr r (λ e. (e ≡ Write) × HasRisen mid new) → HasRisen old new
 risen_err (Ok x) fault old mid new same e p = absurd cc
 risen_err (Err f) fault old mid new same e p = subst (λ n. HasRisen n new) same p.1
 
+-- Where no write failed, the count of failures is as it was.
 pub same_unless : {T : Type 0} (r : Result T ServeFault) (old mid new : ℕ)
     → mid ≡ old → IfErr r (λ e. (e ≡ Write) × HasRisen mid new) → OnOk r (new ≡ mid) → r ≢ Err Write → new ≡ old
 same_unless (Ok x) old mid new same p q apart = q ∙ same
@@ -504,9 +515,11 @@ same_unless (Err f) old mid new same p q apart = absurd (apart (ap Err p.0))
 -- ---- the same number of shards
 
 module _ {S : Type 0} (M : Meaning S) (n m : ℕ) (same : m ≡ n) (start now : Ends S) (waiting : Waiting) where
+  -- Serving that is under way among some shards is so among as many.
   pub under_same : Underway M (dealt n) start now waiting → Underway M (dealt m) start now waiting
   under_same under = subst (λ k. Underway M (dealt k) start now waiting) (sym same) under
 
+  -- What a turn comes to among some shards it comes to among as many.
   pub turns_same : (result : Result Bool ServeFault)
       → Turns M (dealt m) result start now waiting → Turns M (dealt n) result start now waiting
   turns_same result turned = subst (λ k. Turns M (dealt k) result start now waiting) same turned
@@ -516,6 +529,7 @@ module _ {S X : Type 0} (M : Meaning S)
     (host : X → HostState S) (steps : X → List Step) (n m : ℕ) (among : m ≡ n) (shards shards' shards'' : List X)
     (same : shards' ≡ shards) (places places' : List Place) (same' : places' ≡ places)
     (start : Ends S) (input input' out : Option (List ℕ)) (held : List ℕ) (is_long : Bool) (count : ℕ) where
+  -- Where the reader failed and kept its input, serving stops once the steps that wait are done.
   pub breaks_off : Keeps input input'
       → ((begin : Ends S) (rest written : Option (List ℕ)) (line : List ℕ) (long : Bool) (lines : ℕ)
       → Underway M (dealt m) begin (record { input = rest; out = written; hosts = map host shards' })
@@ -548,6 +562,7 @@ pub any_ok : {T E : Type 0} (r : Result T E) (P : Type 0) → P → OnOk r P
 any_ok (Ok x) P p = p
 any_ok (Err e) P p = tt
 
+-- What holds anyway holds where a call failed.
 pub any_err : {T E : Type 0} (r : Result T E) (P : Type 0) → P → OnErr r P
 any_err (Ok x) P p = tt
 any_err (Err e) P p = p

@@ -108,6 +108,7 @@ module _ {X : Type 0} (f : X → List Step) (deal : List ℕ → ℕ) (shards : 
   pub deals_none : (fault : LineFault) → DealsMore deal (Err fault) (Here fault) (map f shards) (map f shards)
   deals_none fault readings places are = dealt_here deal readings places (map f shards) are fault
 
+  -- A line that gives no step is dealt to none, though a shard is replaced by one with the same steps.
   pub deals_kept : (i : ℕ) (x v : X) (fault : LineFault) → x ≡ get_or shards i x → i < length shards → f v ≡ f x
       → DealsMore deal (Err fault) (Here fault) (map f shards) (map f (set shards i v))
   deals_kept i x v fault is within same =

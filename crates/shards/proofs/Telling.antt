@@ -65,6 +65,7 @@ pub loses_line : (is_full : Bool) (reply : Reply) (bytes lens bytes' lens' : Lis
 loses_line is_full reply bytes lens bytes' lens' same same' replies so =
     told_lost is_full replies bytes lens bytes' lens' reply so same same'
 
+-- One more reply has its line behind the others where appending went well, and is lost where it failed.
 pub tells_result : {A E : Type 0} (r : Result A E)
     (is_full full' : Bool) (reply : Reply) (bytes lens bytes' lens' : List ℕ) → is_full ≡ false → full' ≡ is_err r
     → OnOk r ((bytes' ≡ bytes ++ reply_line reply) × (lens' ≡ lens ++ line_len reply ∷ []))
@@ -76,6 +77,7 @@ tells_result (Err x) is_full full' reply bytes lens bytes' lens' room e p q =
     subst (λ f. TellsMore is_full f reply bytes lens bytes' lens')
     (sym e) (loses_line is_full reply bytes lens bytes' lens' q.0 q.1)
 
+-- Where memory ran out before, one more reply is lost and the lines are as they were.
 pub still_lost : (is_full : Bool) (reply : Reply) (bytes lens : List ℕ)
     → is_full ≡ true → TellsMore is_full is_full reply bytes lens bytes lens
 still_lost is_full reply bytes lens full replies so =
@@ -148,6 +150,7 @@ module _ (replies : List Reply)
         };
       }
 
+  -- The next line that a shard has is that of the first reply that is left of it.
   pub next_line : Next replies bytes lens at next len
   next_line = next_of is.told is.all is.text lengths_are
 
@@ -200,10 +203,12 @@ writes_some out mid out' done left all is p q = (
 
 -- ---- what a call's result says, seen otherwise
 
+-- What follows from what holds where a call went well holds there too.
 pub on_ok : {T E : Type 0} (r : Result T E) (P Q : Type 0) → OnOk r P → (P → Q) → OnOk r Q
 on_ok (Ok x) P Q p f = f p
 on_ok (Err e) P Q p f = tt
 
+-- What follows from what holds where a call failed holds there too.
 pub on_err : {T E : Type 0} (r : Result T E) (P Q : Type 0) → OnErr r P → (P → Q) → OnErr r Q
 on_err (Ok x) P Q p f = tt
 on_err (Err e) P Q p f = f p
@@ -224,6 +229,7 @@ wrote_next out out' bytes lens at next len line more is part grown replies told 
       left = subst (λ n. Told one.others bytes lens (at + n) (next + 1)) (sym is) one.left;
     }
 
+-- A beginning of a shard's next line is one of its first reply's line.
 pub wrote_some : (out out' : Option (List ℕ)) (bytes lens : List ℕ) (at next len : ℕ) (line : List ℕ)
     → next < length lens → len ≡ get_or lens next 0 → line ≡ take len (drop at bytes) → AppendsBeginning out out' line
     → (replies : List Reply) → Told replies bytes lens at next
@@ -236,6 +242,7 @@ wrote_some out out' bytes lens at next len line more is part begun replies told 
 
 -- ---- one place
 
+-- Writing the reply to a line that gave no step leaves the replies of the shards as they are.
 pub wrote_here : (out out' : Option (List ℕ))
     (place : Place) (fault : LineFault) (reply : Reply) (left : ℕ → List Reply) (Holds : (ℕ → List Reply) → Type 0)
     → place ≡ Here fault → reply ≡ reply_upon fault
@@ -250,6 +257,7 @@ wrote_here out out' place fault reply left Holds is told grown holds =
       holds = holds;
     })
 
+-- A beginning of the first line's reply, where that gave no step, begins what is to be written.
 pub begins_here : (out out' : Option (List ℕ))
     (place : Place) (fault : LineFault) (reply : Reply) (left : ℕ → List Reply) (places : List Place)
     → place ≡ Here fault → reply ≡ reply_upon fault → AppendsBeginning out out' (reply_line reply)
@@ -318,6 +326,7 @@ module _ {X C : Type 0} (bytes lens : X → List ℕ) (at next : C → ℕ) (sha
       (bs ls : List ℕ) (within : i < length shards) (long : length cursors ≡ length shards) (is : x ≡ get_or shards i x)
       (from : w ≡ get_or cursors i e) (bs_are : bs ≡ bytes x)
       (ls_are : ls ≡ lens x) (place : Place) (at_i : place ≡ Dealt i) (out out' : Option (List ℕ)) where
+    -- At a shard's cursor stand the lines of the replies that are left of it.
     pub told_first : (left : ℕ → List Reply) → AllTold left cursors → Told (left i) bs ls (at w) (next w)
     told_first left all =
         subst (λ (b : List ℕ). Told (left i) b ls (at w) (next w)) (sym bs_are)
@@ -326,6 +335,7 @@ module _ {X C : Type 0} (bytes lens : X → List ℕ) (at next : C → ℕ) (sha
         (subst (λ (u : C). Told (left i) (bytes (get_or shards i x)) (lens (get_or shards i x)) (at u) (next u))
         (sym from) (all i x e within))))
 
+    -- Where a shard's next line is written, its place is, and the cursor behind it fits what is left.
     pub dealt_ok : ((replies : List Reply)
         → Told replies bs ls (at w) (next w) → WroteFirst out out' replies bs ls (at v) (next v))
         → (left : ℕ → List Reply)
@@ -338,6 +348,7 @@ module _ {X C : Type 0} (bytes lens : X → List ℕ) (at next : C → ℕ) (sha
         subst (λ p. WroteOne out out' p left (λ rest. AllTold rest (set cursors i v))) (sym at_i)
         (wrote_dealt cursors left all i x v one.first one.others within long is one.all others out out' one.written)
 
+    -- A beginning of a shard's next line, where its place is first, begins what is to be written.
     pub dealt_err : ((replies : List Reply)
         → Told replies bs ls (at w) (next w) → AppendsBeginning out out' (reply_line (first_of replies)))
         → (left : ℕ → List Reply) (places : List Place)
@@ -357,6 +368,7 @@ module _ {X C : Type 0} (bytes lens : X → List ℕ) (at next : C → ℕ) (sha
       → (left : ℕ → List Reply) × (done : List Reply) × AllTold left cursors
       × (done ++ merged rest left ≡ merged places replies) × Appends out out' (flat_map reply_line done)
 
+  -- With each cursor at the beginning, no place's reply is written yet.
   pub written_none : (places : List Place) (cursors : List C) (out : Option (List ℕ)) (n : ℕ) (z : C)
       → cursors ≡ replicate n z → n ≡ length shards → at z ≡ 0 → next z ≡ 0
       → Written places places cursors out out
@@ -379,6 +391,7 @@ module _ {X C : Type 0} (bytes lens : X → List ℕ) (at next : C → ℕ) (sha
     so_far : Written places (place ∷ rest) cursors out mid
     so_far = subst (λ (l : List Place). Written places l cursors out mid) next_is so_far'
 
+    -- Where the next place's reply is written too, so are those of all places up to it.
     pub written_more : (cursors' : List C) (out' : Option (List ℕ)) → ((left : ℕ → List Reply)
         → AllTold left cursors → WroteOne mid out' place left (λ others. AllTold others cursors'))
         → Written places rest cursors' out out'
@@ -393,6 +406,7 @@ module _ {X C : Type 0} (bytes lens : X → List ℕ) (at next : C → ℕ) (sha
           writes_more out mid out' so.1 one.reply so.4 one.written,
         )
 
+    -- Where writing broke off at a place, a beginning of all the replies is written.
     pub written_some : (out' : Option (List ℕ))
         → ((left : ℕ → List Reply) (places : List Place)
         → AllTold left cursors → AppendsBeginning mid out' (flat_map reply_line (merged (place ∷ places) left)))
@@ -404,6 +418,7 @@ module _ {X C : Type 0} (bytes lens : X → List ℕ) (at next : C → ℕ) (sha
         writes_some out mid out'
         so.1 (merged (place ∷ rest) so.0) (merged places replies) so.3 so.4 (begun so.0 rest so.2)
 
+  -- Where no place is left, the replies of all places are written in their order.
   pub written_all : (places : List Place) (cursors : List C) (out out' : Option (List ℕ))
       → Written places [] cursors out out'
       → (replies : ℕ → List Reply) → ((i : ℕ) (d : X)

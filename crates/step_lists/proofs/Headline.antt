@@ -49,6 +49,7 @@ module _ {S : Type 0} (M : Meaning S) where
       let all : after.history ≡ e.0 = e.1 ∙ ap (λ (h : List Entry). h ++ e.0) run.empty in
       record { steps = ap (map step_of) all ∙ e.2; replies = ap (map reply_of) all ∙ e.3 }
 
+  -- Runs of two lists that agree on a tenant's own steps come out the same for that tenant.
   pub headline_of_lists : HeadlineOfLists M
   headline_of_lists tenant steps steps' replies replies' one other run run' same =
       let w = wholly steps replies one run in

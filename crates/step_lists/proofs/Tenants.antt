@@ -57,6 +57,7 @@ module _ (t : List ℕ) where
       ∙ later
       ∙ sym (ap (λ b. map told_step (cond b (e.step ∷ others) others)) is)
 
+  -- The steps of a tenant's own events are its own steps of the history.
   pub own_events : (history : List Entry)
       → map event_step (own t (pairs history)) ≡ map told_step (own_steps t (map step_of history))
   own_events [] = refl
@@ -74,6 +75,7 @@ module _ (t : List ℕ) where
       let others = filter (λ (x : Entry). names t x.step) rest in
       subst (All IsPromise) (sym (ap (λ b. map reply_of (cond b (e ∷ others) others)) is)) later
 
+  -- Where each reply of a history is a promise, so is each reply to a tenant.
   pub own_promises : (history : List Entry)
       → All IsPromise (map reply_of history) → All IsPromise (replies_to t history)
   own_promises [] p = All-nil IsPromise
@@ -110,6 +112,7 @@ module _ {S : Type 0} (M : Meaning S) (t : List ℕ) where
       subst (HonestFrom (world_of M t before)) (sym (own-later t e rest is))
       (subst (λ w. HonestFrom w (own t (pairs rest))) (world_of-apart before e is) later)
 
+  -- Where the store was honest during some entries, it was so during a tenant's own events of them.
   pub honest_from : (before rest : List Entry) (records : List Record) → RecordedAfter M before rest records
       → HonestFrom (world_of M t before) (own t (pairs rest))
   honest_from before [] records recorded = tt
@@ -132,6 +135,7 @@ module _ {S : Type 0} (M : Meaning S) (t : List ℕ) where
         p (subst (λ (s : TenantStep). IsPromise (step M w (told s)).reply) (sym steps) q)
         ∙ ap (λ (s : TenantStep). step M w (told s)) steps
 
+  -- Events with the same steps, honest answers and promises for replies make the same course.
   pub same_course : (w : Option World) (events events' : List Event) → HonestFrom w events → HonestFrom w events'
       → map event_step events ≡ map event_step events'
       → All IsPromise (course_from M w events).replies → All IsPromise (course_from M w events').replies
