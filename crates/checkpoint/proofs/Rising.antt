@@ -31,6 +31,7 @@ rises_based base others at b found r = record {
       ((at + 1) + i) ((at + 1) + j) x y (omega arith) (get_drop others (at + 1) i x e) (get_drop others (at + 1) j y f);
 }
 
+-- An element of a list without its first one stands one place later in the whole list.
 pub remove_first : {X : Type 0} (xs : List X) (i : ℕ) (x : X)
     → slice_get (remove xs 0) i ≡ Some x → slice_get xs (suc i) ≡ Some x
 remove_first [] i x e = cc

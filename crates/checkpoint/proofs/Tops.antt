@@ -14,6 +14,7 @@ all_hold p [] i x e f = cc
 all_hold p (z ∷ xs) zero x e f = subst (λ y. p y ≡ true) (same_Some z x f) (and_both (p z) (list_all p xs) e).0
 all_hold p (z ∷ xs) (suc i) x e f = all_hold p xs i x (and_both (p z) (list_all p xs) e).1 f
 
+-- Where the test for the top of a shelf passes, no snapshot is above the index.
 pub top_is : {S : Type 0} (s : Shelved S) (index : ℕ) → tops s index ≡ true → IsTop s index
 top_is s index e x (inl h) =
     le_true x.index index (subst (λ b. option_map_or (is_within index) b true ≡ true) h (and_both _ _ e).0)

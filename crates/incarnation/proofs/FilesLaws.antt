@@ -238,6 +238,7 @@ same_filed {xs} {ys} {ps} {qs} e d = ap (λ zs. let f : Filed = record { rows = 
 pub files_none : Files [] []
 files_none = record { filed = λ u. refl; ordered = record { counted = λ u. refl; in_order = λ u j r e. cc } }
 
+-- Files in which each unit has what it had before are files of the same rows.
 pub files_same : (rows : List Row) (files now : List Filed)
     → Files rows files → ((u : ℕ) → filed_at now u ≡ filed_at files u) → Files rows now
 files_same rows files now f same = record { filed = λ u. same u ∙ f.filed u; ordered = f.ordered }
@@ -316,6 +317,7 @@ pub tells_none : (rows : List Row) (known unit : ℕ) (mark : Mark) (b : Bool) �
 tells_none rows known unit mark b o none is =
     is ∙ or_false (mark.incarnation == 0) ∙ tells_is rows nothing_filed known unit mark o (sym none)
 
+-- The known rows lose no mark of a unit for which nothing is filed.
 pub loses_none : (rows : List Row) (known unit : ℕ) (mark : Mark)
     → Ordered rows → filed_of rows unit ≡ nothing_filed → false ≡ mark_lost (take known rows) unit mark
 loses_none rows known unit mark o none = loses_is rows nothing_filed known unit mark false o (sym none) (
@@ -326,6 +328,7 @@ loses_none rows known unit mark o none = loses_is rows nothing_filed known unit 
     empty : (j : ℕ) (r : Row) → slice_get [] j ≡ Some r → ⊥
     empty j r e = cc
 
+-- A unit for which nothing is filed has the incarnation 0.
 pub latest_none : (rows : List Row) (unit : ℕ)
     → Ordered rows → filed_of rows unit ≡ nothing_filed → 0 ≡ incarnation_of rows unit
 latest_none rows unit o none = let c = o.counted unit in let l = ap (λ (x : Filed). length x.rows) none in omega arith

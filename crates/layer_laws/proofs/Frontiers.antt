@@ -53,6 +53,7 @@ first_tells w n [] h = refl
 first_tells w n (o ∷ os) h = h 0 o refl
 
 module _ {S : Type 0} (M : Meaning S) where
+  -- A unit's frontier tells which of its held outputs can be released.
   pub frontiers_tell : FrontiersTell M
   frontiers_tell w r u m found =
       let s = (reachable_invariant M r).chain.sound in

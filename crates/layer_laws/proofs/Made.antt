@@ -27,6 +27,7 @@ use Rattle.layer_laws.specs.Laws.{IsMade, NodeVectorsAreMade, vector_before, vec
 use Rattle.layer_laws.proofs.Marks.{mark_for-joined}
 use Rattle.layer_laws.proofs.Numbers.{length-numbers, get_or-numbers}
 
+-- A node's vector has an entry for each unit that the tenant had when the node was made.
 pub length-vector_of : (nodes : List Node) (x : ℕ) → length (vector_of nodes x) ≡ (node_at nodes x).units
 length-vector_of nodes x = length-map (numbers_from 0 (node_at nodes x).units) (greatest_mark (past_nodes nodes x))
     ∙ length-numbers 0 (node_at nodes x).units

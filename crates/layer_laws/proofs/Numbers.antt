@@ -2,6 +2,7 @@
 use Rattle.std.proofs.Common.{◌≡◌, refl, ◌∙◌, ap, ℕ, zero, suc, ◌+◌, ◌<◌, length, get_or, arith, map}
 use Rattle.model.specs.Lists.{numbers_from}
 
+-- A list of so many numbers, counted on from one, is that long.
 pub length-numbers : (k n : ℕ) → length (numbers_from k n) ≡ n
 length-numbers k zero = refl
 length-numbers k (suc n) = ap suc (length-numbers (suc k) n)

@@ -36,6 +36,7 @@ cut_at p ys path n long is le = go (nat_lt (position_or_len p ys) (length ys)) r
         not_below a b n m e is long le = grind (arith, nat_tests)
 
 module _ {S : Type 0} (M : Meaning S) where
+  -- A unit's path is kept up to the first place whose vector is an orphan's.
   pub first_orphan_cuts : FirstOrphanCuts M
   first_orphan_cuts w r u m found =
       let s = (reachable_invariant M r).chain.sound in

@@ -174,6 +174,7 @@ module _ {S : Type 0} (M : Meaning S) where
       let long = length-along w.nodes (length w.members) path in
       omega (arith, own, long)
 
+  -- Sessions are none at first, and go on along a path by each node's receipt and sends.
   pub sessions_go_on : SessionsGoOn M
   sessions_go_on w r =
       let g = reachable_invariant M r in

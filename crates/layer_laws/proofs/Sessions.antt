@@ -63,6 +63,7 @@ module _ {S : Type 0} (M : Meaning S) where
       let count = length-numbers 0 n in
       ap (λ (x : Exchange). x.taken) (entry_along nodes n path v (omega (arith, h, long, count)))
 
+  -- The sessions along a unit's path tell which receipts and letters are next.
   pub sessions_tell : SessionsTell M
   sessions_tell w r u m found = (
     (λ source counted.

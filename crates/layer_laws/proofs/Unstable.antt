@@ -66,6 +66,7 @@ module _ {S : Type 0} (M : Meaning S) (w : World) (g : Invariant M w) (x : ℕ) 
       ]
 
 module _ {S : Type 0} (M : Meaning S) where
+  -- A node's vector counts as many unstable units as have an unstable node in its past.
   pub unstable_are_counted : UnstableAreCounted M
   unstable_are_counted w r x h =
       let g = reachable_invariant M r in

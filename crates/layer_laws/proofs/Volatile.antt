@@ -46,6 +46,7 @@ take_behind i s xs = elim (dec_le s i) [
 ]
 
 module _ {S : Type 0} (M : Meaning S) where
+  -- A unit's volatile log follows what flushes, going back and kills make of the unit.
   pub volatile_logs_follow : VolatileLogsFollow M
   volatile_logs_follow w r u m found name =
       let s = (reachable_invariant M r).chain.sound.units u m found in

@@ -21,6 +21,7 @@ take_none : (n : ℕ) → take {A = Record} n [] ≡ []
 take_none zero = refl
 take_none (suc n) = refl
 
+-- One and a number make the number's successor.
 pub one : (n : ℕ) → 1 + n ≡ suc n
 one n = omega arith
 

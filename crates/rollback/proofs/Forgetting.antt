@@ -15,6 +15,7 @@ use Rattle.rollback.specs.Units.{Recovering, IsKept}
 use Rattle.rollback.proofs.Cuts.{one}
 use Rattle.rollback.proofs.Outside.{outside_based}
 
+-- Numbers that differ fail the test for equality.
 pub unequal : (a b : ℕ) → a ≢ b → (a == b) ≡ false
 unequal a b h = elim (bool_cases (a == b)) [ inl e ↦ absurd (h (eq_true a b e)) | inr e ↦ e ]
 

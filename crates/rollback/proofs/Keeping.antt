@@ -122,6 +122,7 @@ put_base {P} s x = go (has_index s x.index)
     go true = refl
     go false = refl
 
+-- Indices still rise where a snapshot is put on a shelf that has none above it.
 pub put_rises : {P : Type 0} (s : Shelved P) (x : Snapshot P)
     → IsTop s x.index → Rises s.base s.others → Rises (put_on s x).base (put_on s x).others
 put_rises {P} s x top r = go (has_index s x.index) refl

@@ -76,15 +76,18 @@ outside_based base outside n xs o h =
 
 -- ---- counts of a whole path
 
+-- The receipts from outside are counted still where an interval is added.
 pub counts_taken : (outside before : ℕ) (xs : List Interval) (i : Interval) → 0 < length xs
     → outside ≡ before + from_outside (drop 1 xs) → outside + one_if i ≡ before + from_outside (drop 1 (xs ++ i ∷ []))
 counts_taken outside before xs i h is = let p = outside_push xs i h in omega (arith, p, is)
 
+-- The receipts from outside are counted still where the intervals are cut to the first few.
 pub counts_shorter : (outside before : ℕ) (xs : List Interval) (k : ℕ)
     → 0 < k → outside ≡ before + from_outside (drop 1 xs)
     → outside - from_outside (drop k xs) ≡ before + from_outside (drop 1 (take k xs))
 counts_shorter outside before xs k h is = let c = outside_cut xs k h in omega (arith, c, is)
 
+-- The receipts from outside are counted still where the first intervals are forgotten.
 pub counts_based : (outside before k : ℕ) (xs : List Interval) → outside ≡ before + from_outside (drop 1 xs)
     → outside ≡ (before + from_outside (take k (drop 1 xs))) + from_outside (drop 1 (drop k xs))
 counts_based outside before k xs is = let d = outside_drop xs k in omega (arith, d, is)

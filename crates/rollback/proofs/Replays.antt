@@ -9,6 +9,7 @@ use Rattle.model.specs.Handler.{Meaning}
 use Rattle.compact.specs.Compact.{Progress}
 use Rattle.compact.specs.Laws.{replayed, replayed_one}
 
+-- Replay of one record more is replay of those before it, and then of that record.
 pub replayed_more : {S : Type 0} (M : Meaning S)
     (seat : Seat) (p : Progress S) (records : List Record) (i : ℕ) (r : Record) → slice_get records i ≡ Some r
     → replayed M seat p (take (i + 1) records) ≡ replayed_one M seat (replayed M seat p (take i records)) r

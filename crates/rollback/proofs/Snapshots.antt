@@ -48,6 +48,7 @@ put_there {P} s x = go (has_index s x.index) refl
     go true e = has_there s x.index e
     go false e = (x, inr (length (making_room s.others), append_get_last (making_room s.others) x), refl)
 
+-- Where a snapshot is put on top of a shelf, the nearest one to its index is of that index.
 pub shelved_nearest : {P : Type 0} (s : Shelved P) (index : ℕ) (o : Option P) → IsTop s index → Rises s.base s.others
     → is_some o ≡ true → option_map (λ (x : Snapshot P). x.index) (nearest_of (shelf_with s index o) index) ≡ Some index
 shelved_nearest s index None top r e = cc
@@ -86,6 +87,7 @@ put_keeps {P} s x = go (has_index s x.index)
           | inr h ↦ inr h
         ]
 
+-- A shelf on which a snapshot may be put keeps what it had, but for the first where it is full.
 pub shelved_keeps : {P : Type 0} (s : Shelved P) (index : ℕ) (o : Option P) → KeepsShelved s (shelf_with s index o)
 shelved_keeps s index None = record { base = refl; others = λ y there. inl there }
 shelved_keeps {P} s index (Some p) = put_keeps s (record { index = index; state = p })

@@ -159,5 +159,6 @@ module _ {S : Type 0} (r : Recovering S) (x : Unit S)
   )
 
 module _ {S : Type 0} (M : Meaning S) where
+  -- A recovery unit after a checkpoint keeps the compact unit after one, perhaps without its first snapshot.
   pub checkpoints_are_seen : CheckpointsAreSeen M
   checkpoints_are_seen r x k s whole p up = checkpoint_seen r x k s whole p up

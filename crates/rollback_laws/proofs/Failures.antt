@@ -71,12 +71,15 @@ module _ {S : Type 0} (r : Recovering S) (x : Unit S) (k : IsKept r) (s : IsSeen
   }
 
 module _ {S : Type 0} (M : Meaning S) where
+  -- A recovery unit that is killed keeps the compact unit that is killed.
   pub kills_are_seen : KillsAreSeen M
   kills_are_seen r x k s = kill_seen r x k s
 
+  -- A recovery unit that marks intervals as stable keeps the compact unit that is flushed.
   pub flushes_are_seen : FlushesAreSeen M
   flushes_are_seen r x k s place count few = flush_seen r x k s place count few
 
+  -- A recovery unit still keeps the compact unit whose frontier goes on.
   pub frontiers_are_seen : FrontiersAreSeen M
   frontiers_are_seen r x s rows stable_lengths = record {
     seat = s.seat;

@@ -85,6 +85,7 @@ module _ {S : Type 0} (r : Recovering S) (x : Unit S) (k : IsKept r)
   forgotten_is = ap (λ b. cond b r (based_on r base)) other
 
 module _ {S : Type 0} (M : Meaning S) where
+  -- A recovery unit that forgets up to a shelved index keeps the compact unit with that base.
   pub forgetting_is_seen : ForgettingIsSeen M
   forgetting_is_seen r x k s base has other =
       let f = found r x k s base has other in (

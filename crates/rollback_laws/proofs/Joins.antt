@@ -8,6 +8,7 @@ use Rattle.rollback_laws.specs.Laws.{BeginningsAreSeen, JoinsAreSeen}
 use Rattle.rollback_laws.proofs.Lists.{mapped, still_some}
 
 module _ {S : Type 0} (M : Meaning S) where
+  -- A recovery unit at its beginning keeps the compact unit at its beginning.
   pub beginnings_are_seen : BeginningsAreSeen M
   beginnings_are_seen width rows seat = record {
     seat = refl;
@@ -21,6 +22,7 @@ module _ {S : Type 0} (M : Meaning S) where
     volatile = refl;
   }
 
+  -- A recovery unit that is widened to more units keeps the compact unit that is fitted to them.
   pub joins_are_seen : JoinsAreSeen M
   joins_are_seen r x s n = record {
     seat = s.seat;

@@ -76,8 +76,10 @@ module _ {S : Type 0} (r : Recovering S) (x : Unit S)
           past m n e h = grind (arith, nat_tests)
 
 module _ {S : Type 0} (M : Meaning S) where
+  -- As much is kept of a path as comes before the first orphan that the recovery unit has.
   pub orphans_are_seen : OrphansAreSeen M
   orphans_are_seen r x k s c low high clean = kept_is r x k s c low high clean
 
+  -- What the search for the first orphan finds is how much is kept of the path.
   pub first_orphans_are_seen : FirstOrphansAreSeen M
   first_orphans_are_seen r x k s c low high clean o e = first_is r x k s c low high clean o e

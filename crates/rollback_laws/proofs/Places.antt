@@ -13,16 +13,20 @@ use Rattle.rollback_laws.specs.Seen.{HasPlaces, IsSeen, shelved_as}
 use Rattle.rollback_laws.specs.Laws.{PlacesAreSeen}
 
 module _ {S : Type 0} (r : Recovering S) (x : Unit S) (k : IsKept r) (s : IsSeen r x) where
+  -- The base of a compact unit has the index of the recovery unit's base.
   pub base_is : x.base.index ≡ r.base
   base_is =
       same_Some x.base.index r.base (ap (λ o. option_map (λ (b : Shelf (Progress S)). b.index) o) (sym s.base) ∙ k.base)
 
+  -- A compact unit has as many places as the recovery unit that keeps it.
   pub places_are : all_of x ≡ places r
   places_are = λ i. base_is i + length (s.intervals i)
 
+  -- A compact unit's stable length is all that the recovery unit has but its volatile records.
   pub stable_is : x.stable ≡ (r.base + length r.intervals) - length r.volatile
   stable_is = s.stable
 
+  -- A recovery unit has fewer volatile records than intervals.
   pub some_stable : length r.volatile < length r.intervals
   some_stable = k.stable
 
@@ -58,6 +62,7 @@ module _ {S : Type 0} (r : Recovering S) (x : Unit S) (k : IsKept r) (s : IsSeen
   shelved_there y (inr h) = let m = map_at shelved_as x.shelf h.0 y (ap (λ ys. slice_get ys h.0) (sym s.shelf) ∙ h.1) in
       (m.0, inr (h.0, m.1), m.2)
 
+  -- Each snapshot of a compact unit is of a stable interval.
   pub low : (t : Snapshot S) → (t ≡ x.base) ⊎ ((i : ℕ) × (slice_get x.shelf i ≡ Some t)) → t.index < x.stable
   low t (inl e) = let a : t.index ≡ x.base.index = ap (λ (z : Snapshot S). z.index) e in
       let b = base_low in omega (arith, a, b)
@@ -67,10 +72,12 @@ module _ {S : Type 0} (r : Recovering S) (x : Unit S) (k : IsKept r) (s : IsSeen
   pub behind : (i : ℕ) (t : Snapshot S) → slice_get x.shelf i ≡ Some t → x.base.index < t.index
   behind i t e = k.rises.above (shelved_as x.base) i (shelved_as t) s.base (shelf_there i t e)
 
+  -- No snapshot of a compact unit is before its base.
   pub high : (t : Snapshot S) → (t ≡ x.base) ⊎ ((i : ℕ) × (slice_get x.shelf i ≡ Some t)) → x.base.index ≤ t.index
   high t (inl e) = let a : t.index ≡ x.base.index = ap (λ (z : Snapshot S). z.index) e in omega (arith, a)
   high t (inr h) = let a = behind h.0 t h.1 in omega (arith, a)
 
 module _ {S : Type 0} (M : Meaning S) where
+  -- A recovery unit and the compact unit that it keeps agree on base, places and unstable places.
   pub places_are_seen : PlacesAreSeen M
   places_are_seen r x k s = has_places r x k s

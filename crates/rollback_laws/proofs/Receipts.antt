@@ -54,15 +54,19 @@ module _ {S : Type 0} (M : Meaning S) (r : Recovering S) (x : Unit S) (k : IsKep
       (at_map (λ (v : Interval). v.vector) r.intervals (length r.intervals - 1) i there))
 
 module _ {S : Type 0} (M : Meaning S) where
+  -- A recovery unit that takes a receipt's record keeps the compact unit that receives it.
   pub receipts_are_seen : ReceiptsAreSeen M
   receipts_are_seen r x k s name c u q = receipt_seen M r x k s name c u q
 
+  -- The record of a receipt bears the index of the recovery unit's next place.
   pub marks_are_seen : MarksAreSeen M
   marks_are_seen r x k s name c u q = places_are r x k s
 
+  -- The vector at a recovery unit's last place is the compact unit's last vector.
   pub last_vectors_are_seen : LastVectorsAreSeen M
   last_vectors_are_seen r x k s index last i e = last_seen M r x k s index last i e
 
+  -- The turn that a recovery unit asks for upon a receipt is the compact unit's upon it.
   pub turns_are_seen : TurnsAreSeen M
   turns_are_seen r x s q input e =
       let f : Progress S → Input S = λ p. record { seat = r.seat; state = p.state; source = q.source; text = q.text } in

@@ -195,6 +195,7 @@ module _ {S : Type 0} (M : Meaning S) (r : Recovering S) (x : Unit S) (k : IsKep
   restored_is = record { progress = progress; there = progress_is; rebuilt = rebuilt_is; seen = back_seen }
 
 module _ {S : Type 0} (M : Meaning S) where
+  -- A recovery unit that is restored by replay keeps the compact unit that has gone back.
   pub restores_are_seen : RestoresAreSeen M
   restores_are_seen r x k s c target t last =
       let g = begins r x k s target t in

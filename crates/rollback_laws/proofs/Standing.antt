@@ -124,6 +124,7 @@ module _ {S : Type 0} (M : Meaning S) (name : List ℕ) (k : Compact S)
   }
 
 module _ {S : Type 0} (M : Meaning S) where
+  -- Where a compact state stands for a world, its units meet what going back asks for.
   pub units_are_ready : UnitsAreReady M
   units_are_ready name k w log stands u x at r kept s =
       let width = stands.represents.width in

@@ -56,12 +56,14 @@ same_grows before after e = λ whole h.
     subst (λ (ws : List Record). IsLeftOf after ws) (sym (append-nil whole))
     (subst (λ (rs : List (Option Record)). IsLeftOf rs whole) (sym e) h)
 
+-- By an append that succeeds, the log grows by just the record that was appended.
 pub append_grows : {T E : Type 0} (done : Result T E) (before after : List (Option Record)) (r : Record)
     → OnOk done (after ≡ before ++ Some r ∷ []) → OnOk done (Grows before (r ∷ []) after)
 append_grows (Ok x) before after r e = λ whole h. subst
     (λ (rs : List (Option Record)). IsLeftOf rs (whole ++ r ∷ [])) (sym e) (left_append before r whole h)
 append_grows (Err x) before after r e = tt
 
+-- A log in which places are emptied grows by no record.
 pub emptied_grows : (places : List ℕ) (before after : List (Option Record))
     → after ≡ emptied places before → Grows before [] after
 emptied_grows places before after e = λ whole h.
@@ -83,6 +85,7 @@ emptied_held [] records place r h = h
 emptied_held (q ∷ places) records place r h =
     set_held records q place r (emptied_held places (slice_set records q None) place r h)
 
+-- Where places are emptied, each place that still has a record has the one that it had.
 pub emptied_keeps : (places : List ℕ) (before after : List (Option Record))
     → after ≡ emptied places before → KeepsContents before after
 emptied_keeps places before after e =

@@ -115,10 +115,12 @@ get_within [] (suc place) r e = absurd (let t : None ≡ Some r = e in cc)
 get_within (x ∷ records) zero r e = omega arith
 get_within (x ∷ records) (suc place) r e = let h = get_within records place r e in omega (arith, h)
 
+-- Each of the live places of a unit has a record that is not forgotten.
 pub all_held : (tenant : List ℕ) (unit : ℕ) (records : List (Option Record))
     → All (IsHeld records) (places_from tenant unit 0 records)
 all_held tenant unit records = held_from tenant unit [] records
 
+-- Each of the live places of a unit is within the list of records.
 pub all_within : (tenant : List ℕ) (unit : ℕ) (records : List (Option Record))
     → All (λ p. p < length records) (places_from tenant unit 0 records)
 all_within tenant unit records = All-weaker (IsHeld records) (λ p. p < length records)
@@ -345,6 +347,7 @@ lost_lists before after records tenant unit first count k own others =
     ∙ sym (own_lost tenant unit first count 0 records)))
     (λ t u other. others t u other ∙ (k t u ∙ sym (other_lost t tenant u unit first count 0 records other)))
 
+-- An index stays right where a unit's list is cut to its front and the places behind are emptied.
 pub cut_lists : (before after : Lists) (records now : List (Option Record)) (tenant : List ℕ) (unit keep : ℕ)
     → Indexes before records
     → now ≡ emptied (drop keep (before tenant unit)) records
@@ -365,6 +368,7 @@ cut_lists before after records now tenant unit keep k e own others t u =
     ∙ (ap (λ (qs : List ℕ). emptied qs records) (take_rest ps keep)
     ∙ sym e)))
 
+-- An index stays right where the first places of a unit's list leave it and are emptied.
 pub forget_lists : (before after : Lists) (records now : List (Option Record)) (tenant : List ℕ) (unit count : ℕ)
     → Indexes before records
     → now ≡ emptied (take count (before tenant unit)) records
@@ -408,6 +412,7 @@ length_emptied (place ∷ places) records =
 
 -- ---- the clauses of an append
 
+-- By an append that succeeds, the record's unit has the new place behind those that it had.
 pub append_own : {T E : Type 0} (done : Result T E)
     (before after : Lists) (records now : List (Option Record)) (old new : Logged) (r : Record) (count : ℕ)
     → Indexes before records → Indexes after now → count ≡ length records → records ≡ old.records → now ≡ new.records
@@ -420,6 +425,7 @@ append_own (Ok x) before after records now old new r count k m n e f own =
     ∙ ap (λ (p : ℕ). places_of r.tenant r.unit old ++ p ∷ []) (n ∙ ap length e)))
 append_own (Err x) before after records now old new r count k m n e f own = tt
 
+-- By an append that fails, no unit gains or loses a live record.
 pub append_kept : {T E : Type 0}
     (done : Result T E) (before after : Lists) (records now : List (Option Record)) (old new : Logged)
     → Indexes before records → Indexes after now → records ≡ old.records → now ≡ new.records

@@ -58,6 +58,7 @@ pub record Shown {S : Type 0} (M : Meaning S)
 
 module _ {S : Type 0} (M : Meaning S) (name : List ℕ) (live : ℕ → List ℕ)
     (t : TenantState S) (w : World) (log : List Record) (s : StandsFor M name live t w log) (u : ℕ) where
+  -- A compact unit that a member keeps stands for a unit of the world.
   pub shown : (m : Member S) (x : KeepsUnit t live s.0 u m) → Shown M name w log u x.unit
   shown m x =
       let within = slice_get_within s.0.units u x.unit x.at in

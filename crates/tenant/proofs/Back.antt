@@ -105,6 +105,7 @@ spans : (kept stable base index : ℕ)
     → base ≤ index → min kept stable - 1 - base - (index - base) ≡ min kept stable - 1 - index
 spans kept stable base index h = omega (arith, h)
 
+-- A number that fails the test of being at most another is above it.
 pub above : (a b : ℕ) → nat_le a b ≡ false → b < a
 above a b e = grind (arith, nat_tests)
 
@@ -547,6 +548,7 @@ module _ {S : Type 0} (M : Meaning S) (name : List ℕ)
           (later_first x.unit.up Up _ (x.is.seen.up ∙ f.0) ∙ later_first (nat_le 65535 (incarnation_of k.table u))
           Limit _ (ap (λ rows. nat_le 65535 (incarnation_of rows u)) is.table ∙ f.1) ∙ failing_first))
 
+      -- A notice that cuts the path does what the definitions say, whether or not the device fails.
       pub notice_returns : is_some r.progress ≡ true → target + 1 < places r
           → nat_le 65535 (incarnation_of t.table u) ≡ false → (start : Start) → start ≡ record {
             incarnation =
@@ -563,6 +565,7 @@ module _ {S : Type 0} (M : Meaning S) (name : List ℕ)
           (later_first (nat_le 65535 (incarnation_of k.table u))
           Limit _ (ap (λ rows. nat_le 65535 (incarnation_of rows u)) is.table ∙ room) ∙ failing_first))
 
+      -- A notice that would cut the path is refused where the unit has no incarnation left.
       pub notice_worn : is_some r.progress ≡ true
           → target + 1 < places r → nat_le 65535 (incarnation_of t.table u) ≡ true
           → Did M name w t (Notice u) quiet (Refused Limit) before before
@@ -613,6 +616,7 @@ module _ {S : Type 0} (M : Meaning S) (name : List ℕ)
               subst (λ (z : Unit S). kept_places k z < all_of z) (sym e) less in
               none_true (true_lt (kept_places k x.unit) (all_of x.unit) h) (all_kept whole_path)
 
+  -- A restart that is refused whatever the store says is refused as the definitions say.
   pub restart_refused_by : (q : Refusal) → restart_refusal t.table u (slice_get t.members u) ≡ Some q
       → Did M name w t (Restart u) quiet (Refused q) before before
   restart_refused_by q e = go (slice_get t.members u) refl e

@@ -36,6 +36,7 @@ module _ {S : Type 0} (M : Meaning S) (name : List ℕ)
       let is = s.2.represents.letters l m x b a in
       route_same x m is.source is.receiver)
 
+  -- The table, the frontiers and the letters' routes of a tenant are those of its world.
   pub is_kept_of : IsKeptOf M w t.table t.frontiers (routes_by t.letters)
   is_kept_of =
       record { table_is = table_same M name live t w log s; frontiers_are = frontiers_same; routes_are = routes_same }

@@ -85,6 +85,7 @@ module _ {S : Type 0} (M : Meaning S) (name : List ℕ) (t : TenantState S) (w :
       (λ l c x at made. whole_same u m f here there l c x at (stands.2.represents.letters l x c
       made (ap (λ ls. slice_get ls l) are ∙ at)).receiver ∙ ap (λ k. keeps_letter w u m f (k, x)) (omega arith))
 
+  -- A tenant keeps as much of a unit's past as the rules of keeping leave.
   pub kept_same : (u : ℕ) → kept_by t u ≡ kept_in M w shelves u
   kept_same u = elim (dec_lt u (length w.members)) [
     | yes q ↦

@@ -84,6 +84,7 @@ module _ {S : Type 0} (M : Meaning S) (name : List ℕ) (live : ℕ → List ℕ
 
   -- ---- before the turn
 
+  -- A delivery of a letter that isn't there needs no turn, and is refused.
   pub letter_none : slice_get t.letters l ≡ None → IsAsked (deliver_needs M w l) (deliver M w l) w (Err NoLetter)
   unfolding deliver_needs
   letter_none e =
@@ -128,6 +129,7 @@ module _ {S : Type 0} (M : Meaning S) (name : List ℕ) (live : ℕ → List ℕ
             ap length (sym (lengths_are M name k w log s.2.reached s.2.represents) ∙ lengths_kept) in
             omega (arith, long, a, b)
 
+    -- A delivery to a unit that isn't there needs no turn, and is refused.
     pub letter_no_unit : slice_get t.members c.receiver ≡ None
         → IsAsked (deliver_needs M w l) (deliver M w l) w (Err NoUnit)
     unfolding deliver_needs
@@ -163,6 +165,7 @@ module _ {S : Type 0} (M : Meaning S) (name : List ℕ) (live : ℕ → List ℕ
       before = sym (deliveries_are_tested M name k w log s.2 l received c sent.at at_k f.member x.unit at_w unit_at)
           ∙ refusal_of
 
+      -- A delivery that is refused before its turn needs no turn, and is refused so by the definitions.
       pub letter_refused_first : (r : Refusal)
           → letter_refusal_of t m c ≡ Some r → IsAsked (deliver_needs M w l) (deliver M w l) w (Err r)
       unfolding deliver_needs
@@ -189,6 +192,7 @@ module _ {S : Type 0} (M : Meaning S) (name : List ℕ) (live : ℕ → List ℕ
             ∙ ap (λ (input : Input S). Some input)
             (input_is M name live t w log s c.receiver m x f (FromUnit c.source) content.text input asked)
 
+        -- A delivery that is not refused before its turn needs the turn of the input that is asked.
         pub letter_asked : letter_refusal_of t m c ≡ None → (r : Result (Input S) Refusal)
             → IfOk r (λ input. asking m.unit_state (FromUnit c.source) content.text ≡ Some input)
             → IfErr r (λ refusal. (refusal ≡ Down) × (m.unit_state.progress ≡ None))
@@ -224,6 +228,7 @@ module _ {S : Type 0} (M : Meaning S) (name : List ℕ) (live : ℕ → List ℕ
               ∙ ap (λ (o : Option Content). deliver_content M name k l c o x.unit) whole
               ∙ (λ i. or_refused k (accepted_of M name k c.receiver q x.unit) (or_next (pass i) (after i)))
 
+          -- A delivery that is refused for what its turn makes leaves the tenant as it was.
           pub letter_refused_then : (r : Refusal) → turn_refusal_of t m (turn_upon_input M input) ≡ Some r
               → Leaves M name live (deliver M w l) (Refused r) t log
           letter_refused_then r e = leaves M name live log (deliver M w l) reach _ (record {

@@ -11,6 +11,7 @@ use Rattle.tenant.proofs.Logging.{take_one}
 use Rattle.tenant.proofs.Places.{found_whole}
 use Rattle.compact.proofs.Words.{drop_get}
 
+-- An element of a list stands earlier by as many places as are dropped before it.
 pub dropped_at : {X : Type 0} (xs : List X) (n i k : ℕ) (x : X)
     → k ≡ n + i → slice_get xs k ≡ Some x → slice_get (drop n xs) i ≡ Some x
 dropped_at xs n i k x e f = drop_get xs n i x (ap (slice_get xs) (sym e) ∙ f)
@@ -43,6 +44,7 @@ module _ (records : List (Option Record)) (places : List ℕ)
       so_far ∙ ap (map (slice_get records)) (take_all (i - first) (drop first places) (omega (arith, past, long))
       ∙ sym (take_all (last - first) (drop first places) (omega (arith, past, long, above))))
 
+  -- Where fetching one by one ends, all records from the first position to the last are fetched.
   pub fetched_end : (last : ℕ)
       → last ≤ i → (first ≤ last → i ≤ last) → (last ≤ first → i ≤ first) → AreFetched records places first last fetched
   fetched_end last below range none =

@@ -100,6 +100,7 @@ module _ {S : Type 0} (M : Meaning S) (name : List ℕ)
         (λ down. (refl, refl, refl)),
       )
 
+  -- A flush of a unit that isn't there or isn't up is refused, and changes nothing.
   pub flush_refused : (r : Refusal)
       → up_refusal (slice_get t.members u) ≡ Some r → Did M name w t (Flush u) quiet (Refused r) before before
   flush_refused r e =
@@ -342,6 +343,7 @@ module _ {S : Type 0} (M : Meaning S) (name : List ℕ)
             (sym live_own)
             (last_more x.unit.live (live u) (numbers_from (length whole) said.appended) x.is.places)))))
 
+    -- A flush of a unit that is up does what the definitions say for what the store took.
     pub flush_done : (said.end ≡ Device → HasRisen before.failures after.failures)
         → Did M name w v (Flush u) said (flush_reply said.end said.appended) before after
     flush_done device =

@@ -65,6 +65,7 @@ pub record KeepsUnit {S : Type 0}
   pub is : IsMember t live u m unit
 
 module _ {S : Type 0} (t : TenantState S) (live : ℕ → List ℕ) (k : Compact S) (is : IsCompact t live k) (u : ℕ) where
+  -- Each member of a tenant keeps a unit of the compact state.
   pub keeps : (m : Member S) → slice_get t.members u ≡ Some m → KeepsUnit t live k u m
   keeps m e =
       let within = slice_get_within t.members u m e in
@@ -72,6 +73,7 @@ module _ {S : Type 0} (t : TenantState S) (live : ℕ → List ℕ) (k : Compact
       let x = get_below k.units u (omega (arith, within, width)) in
       record { unit = x.0; at = x.1; is = is.members u m x.0 e x.1 }
 
+  -- Where a tenant has no member, its compact state has no unit.
   pub none_kept : slice_get t.members u ≡ None → slice_get k.units u ≡ None
   none_kept e = elim (dec_lt u (length t.members)) [
     | yes q ↦ let m = get_below t.members u q in absurd (different m.0 (sym m.1 ∙ e))

@@ -26,6 +26,7 @@ module _ {S : Type 0} (table : List Row) (lengths : List ℕ) (members : List (M
     there : slice_get fs i ≡ Some read
     there = let y = get_below fs i within in y.1 ∙ ap (λ n. Some n) (sym (is ∙ get_or_from_slice_get fs i y.0 read y.1))
 
+    -- Once a unit's frontier is written, the frontiers up to that unit's have gone on.
     pub gone_one : GoneOn i fs → AsBefore i fs → GoneOn (i + 1) (slice_set fs i front)
     gone_one done rest u m f below found was is_front = elim (at_last u below) [
       | inl h ↦ set_get_other fs i u front (λ e. omega (arith, h, e)) ∙ done u m f h found was is_front
@@ -41,6 +42,7 @@ module _ {S : Type 0} (table : List Row) (lengths : List ℕ) (members : List (M
         at_last : (u : ℕ) → u < i + 1 → (u < i) ⊎ (u ≡ i)
         at_last u h = grind arith
 
+    -- Once a unit's frontier is written, the frontiers behind it are as before.
     pub before_one : AsBefore i fs → AsBefore (i + 1) (slice_set fs i front)
     before_one rest u above = set_get_other fs i u front (λ e. omega (arith, above, e)) ∙ rest u (omega (arith, above))
 
@@ -55,6 +57,7 @@ module _ {S : Type 0} (v : TenantState S) (u count at : ℕ) (same : at ≡ u)
   there_too : slice_get v.members at ≡ Some m
   there_too = ap (slice_get v.members) same ∙ found
 
+  -- A tenant with a flushed unit and with frontiers gone on has so many more stable intervals.
   pub flushed_by : (seen_members : List (Member S)) (seen_lengths : List ℕ)
       → seen_members ≡ members → seen_lengths ≡ lengths → GoOn v.table seen_lengths seen_members v.frontiers fronts
       → MakesStable v u count m (record v { members = members; stable_lengths = lengths; frontiers = fronts })

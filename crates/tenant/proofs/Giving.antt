@@ -99,6 +99,7 @@ module _ (before after : List Line) (u : ℕ) (len : length after ≡ length bef
     letters = is.letters;
   }
 
+  -- A tenant that gives up released texts of a unit stands for the world that it stood for.
   pub stands_still : {S : Type 0} (M : Meaning S) (t : TenantState S)
       → t.gone ≡ gone_of before → t.released ≡ released_of before
       → (name : List ℕ) (w : World) (records : List (Option Record)) → Stands M name t w records

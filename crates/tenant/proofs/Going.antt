@@ -15,9 +15,11 @@ use Rattle.tenant.specs.Returns.{Went}
 use Rattle.tenant.proofs.Places.{places_same}
 
 module _ (name : List ℕ) (u : ℕ) (before mid after : Logged) (same : mid.records ≡ before.records) where
+  -- A log that grew by no record since it had the same records has grown by none in all.
   pub grows_on : Grows mid.records [] after.records → Grows before.records [] after.records
   grows_on g = subst (λ (rs : List (Option Record)). Grows rs [] after.records) same g
 
+  -- Other units' live records that stayed since the log had the same records stayed in all.
   pub others_on : OthersKept name u mid after → OthersKept name u before after
   others_on o n x other = o n x other ∙ places_same before mid same n x
 
@@ -27,6 +29,7 @@ module _ (name : List ℕ) (u : ℕ) (before mid after : Logged) (same : mid.rec
     alike : q ≡ m
     alike = same_Some q m (sym there ∙ found)
 
+    -- A unit that is rebuilt by replay, and whose later records are live no more, has gone back.
     pub went : (a.reply ≡ given) × IsPlain a
         → IsReplayed M before.records (places_of name u before) q.unit_state target (length t.members) progress
         → v ≡ returned_kept t u m target (incarnation_of t.table u + 1) progress

@@ -43,6 +43,7 @@ fit_one n (x ∷ members) zero m last e =
     ap (λ y. fitted_member n y ∷ (map (fitted_member n) members ++ last ∷ [])) (sym (same_Some x m e))
 fit_one n (x ∷ members) (suc at) m last e = ap (λ ys. x ∷ ys) (fit_one n members at m last e)
 
+-- Once the unit at a place is fitted for a join too, all units from that place on are fitted.
 pub fitted_one : {S : Type 0} (n : ℕ)
     (members mid after : List (Member S)) (at : ℕ) (last : Member S) (sessions : Option Counts) → at < length members
     → ((m : Member S) → slice_get members at ≡ Some m
@@ -122,6 +123,7 @@ module _ {S : Type 0} (M : Meaning S) (name : List ℕ) (live : ℕ → List ℕ
   reach : (z : World) → (join M w n).world ≡ Some z → Reachable M z
   reach z f = stepped (record { step = Join n; said = record { appended = 0; end = Whole } }) s.2.reached f
 
+  -- A join of an unknown kind is refused, and the tenant stays as it was.
   pub join_unknown : M.kind n ≡ None → Leaves M name live (join M w n) (Refused BadOpen) t log
   join_unknown e = leaves M name live log (join M w n) reach _ (record { reply = Refused BadOpen; state = k })
       (joins_follow M name k w log s.2 n) (ap (join_kind_of M k) e) t s.1
@@ -136,6 +138,7 @@ module _ {S : Type 0} (M : Meaning S) (name : List ℕ) (live : ℕ → List ℕ
     unfolding first_refusal
     fits h = rw (not_le 16 (length k.units) h) refl
 
+    -- A join of a tenant with 16 units is refused, and the tenant stays as it was.
     pub join_full : 16 ≤ length t.members → Leaves M name live (join M w n) (Refused Limit) t log
     join_full h = leaves M name
         live log (join M w n) reach _ (record { reply = Refused Limit; state = k }) (joins_follow M name k w log s.2 n)
@@ -265,6 +268,7 @@ module _ {S : Type 0} (M : Meaning S) (name : List ℕ) (live : ℕ → List ℕ
           letters = i.letters;
         }
 
+    -- A join that is not refused adds a unit at its beginning, as the definitions say.
     pub join_done : length t.members < 16 → (unit : ℕ) → unit ≡ length t.members
         → (v : TenantState S) → (length t.released ≡ length t.members → v ≡ joined_kept M t kind)
         → Leaves M name live (join M w n) (Joined unit) v log

@@ -62,6 +62,7 @@ letters_whole u vector c [] i l e = absurd (cc e)
 letters_whole u vector c (s ∷ sends) zero l e = ap (λ (x : Letter). is_none x.content) (sym (same_Some _ l e))
 letters_whole u vector c (s ∷ sends) (suc i) l e = letters_whole u vector (sent_one c s.0) sends i l e
 
+-- Where the letters stay as they were, none is made and none gives up its content.
 pub no_letters : {S : Type 0} (t v : TenantState S) → v.letters ≡ t.letters → AddsLetters t v
 no_letters t v e = record { made = []; letters = e ∙ sym (append-nil t.letters); whole = λ i c h. absurd (cc h) }
 
@@ -147,6 +148,7 @@ refused_is (Notice u) r z shelves = refl
 refused_is (Release u) r z shelves = refl
 refused_is (Status u) r z shelves = refl
 
+-- A step that is refused and leaves the tenant as it was keeps what the rules leave.
 pub refused_keeps : {S : Type 0} (M : Meaning S) (name : List ℕ) (t v : TenantState S)
     (records : List (Option Record)) (step : TenantStep) (said : Said) (reply : Reply) (r : Refusal)
     → reply ≡ Refused r → v ≡ t → KeepsOn M name t step said reply v records
@@ -174,10 +176,12 @@ stays_is step (status_stays u) reply z shelves = refl
 
 module _ {S : Type 0} (M : Meaning S) (name : List ℕ)
     (t v : TenantState S) (records : List (Option Record)) (step : TenantStep) (stays : StepStays step) where
+  -- A step that neither puts nor gives up checkpoints keeps what the rules leave.
   pub same_keeps : SameShelves t v → (a : Answer) → KeepsOn M name t step a.said a.reply v records
   same_keeps same a = keeps_after
       M name t v records step a.said a.reply (λ shelves. shelves) same_bases (stays_is step stays a.reply) same
 
+  -- A call that succeeds, of a step that leaves all checkpoints, keeps what the rules leave.
   pub same_ok : {E : Type 0} (r : Result Answer E)
       → IfOk r (λ _. SameShelves t v) → IfOk r (λ a. KeepsOn M name t step a.said a.reply v records)
   same_ok (Ok a) same = same_keeps same a
@@ -188,6 +192,7 @@ module _ {S : Type 0} (M : Meaning S) (name : List ℕ)
   same_some None same = tt
   same_some (Some a) same = same_keeps same a
 
+  -- A call with a worked turn that answers, and changes no checkpoints, keeps what the rules leave.
   pub same_worked : {E : Type 0} (r : Result (Option Answer) E) → IfOk r (λ o. IfSome o (λ _. SameShelves t v))
       → IfOk r (λ o. IfSome o (λ a. KeepsOn M name t step a.said a.reply v records))
   same_worked (Ok o) same = same_some o same
@@ -227,6 +232,7 @@ after_return_bases u (Stopped count refusal) = same_bases
 after_return_bases u (Refused refusal) = same_bases
 
 module _ {S : Type 0} (M : Meaning S) (name : List ℕ) (t v : TenantState S) (records : List (Option Record)) where
+  -- A join that succeeds and changes the checkpoints as a join does keeps what the rules leave.
   pub join_ok : {E : Type 0} (kind : List ℕ) (r : Result Answer E) → IfOk r (λ a. length t.released ≡ length t.members
       → Shelves (after_join a.reply) t v) → IfOk r (λ a. KeepsOn M name t (Join kind) a.said a.reply v records)
   join_ok kind (Ok a) made = λ w z shelves s e kept.
@@ -235,18 +241,21 @@ module _ {S : Type 0} (M : Meaning S) (name : List ℕ) (t v : TenantState S) (r
       (after_join_bases a.reply) (λ z shelves. refl) (made (is.lines ∙ sym is.width)) w z shelves s e kept
   join_ok kind (Err e) made = tt
 
+  -- A restart that succeeds and cuts the checkpoints by its reply keeps what the rules leave.
   pub restart_ok : {E : Type 0} (u : ℕ) (r : Result Answer E) → IfOk r (λ a. Shelves (after_return u a.reply) t v)
       → IfOk r (λ a. KeepsOn M name t (Restart u) a.said a.reply v records)
   restart_ok u (Ok a) made = keeps_after M name t v records
       (Restart u) a.said a.reply (after_return u a.reply) (after_return_bases u a.reply) (λ z shelves. refl) made
   restart_ok u (Err e) made = tt
 
+  -- A notice that succeeds and cuts the checkpoints by its reply keeps what the rules leave.
   pub notice_ok : {E : Type 0} (u : ℕ) (r : Result Answer E) → IfOk r (λ a. Shelves (after_return u a.reply) t v)
       → IfOk r (λ a. KeepsOn M name t (Notice u) a.said a.reply v records)
   notice_ok u (Ok a) made = keeps_after M name t v
       records (Notice u) a.said a.reply (after_return u a.reply) (after_return_bases u a.reply) (λ z shelves. refl) made
   notice_ok u (Err e) made = tt
 
+  -- A release that succeeds and changes no checkpoints keeps what the rules leave.
   pub release_ok : {E : Type 0} (u : ℕ) (r : Result Answer E)
       → IfOk r (λ _. (other : List ℕ) (w : World) (log : List (Option Record)) → Stands M other t w log
       → SameShelves t v) → IfOk r (λ a. KeepsOn M name t (Release u) a.said a.reply v records)
@@ -303,6 +312,7 @@ module _ {S : Type 0} (M : Meaning S) (name : List ℕ) (t mid v : TenantState S
       ap (λ (o : Option (Progress S)). shelf_of (record r { shelf = shelf_with r.shelf last o })) p.1
       ∙ put_is r kept last p.0
 
+  -- A checkpoint that is put, and after which the bases move, keeps what the rules leave.
   pub checkpoint_keeps : (said : Said) (reply : Reply)
       → reply ≡ Checkpointed at → KeepsOn M name t (Checkpoint u) said reply v records
   checkpoint_keeps said reply is w z shelves s e kept =
@@ -353,6 +363,7 @@ module _ {S : Type 0} (M : Meaning S) (name : List ℕ) (t mid v : TenantState S
   after_is Device z shelves = refl
   after_is NoMemory z shelves = refl
 
+  -- A flush after which the bases move keeps what the rules leave.
   pub flush_keeps : (reply : Reply)
       → reply ≡ flush_reply said.end said.appended → KeepsOn M name t (Flush u) said reply v before.records
   flush_keeps reply is w z shelves s e kept =
@@ -379,6 +390,7 @@ begun_shelves M width (n ∷ names) ms =
     ∙ ap (λ ss. ss ++ replicate (length names) first_shelf) (map-append of_member ms _)
     ∙ append_assoc (map of_member ms) (first_shelf ∷ []) (replicate (length names) first_shelf)
 
+-- A tenant that is opened with units at their beginning keeps what the rules leave.
 pub opens_past : {S : Type 0} (M : Meaning S) (kinds : List (List ℕ)) (quota : Quota) (optimism : ℕ) (reply : Reply)
     (t : TenantState S) → t ≡ opened_kept M kinds quota optimism → reply ≡ Opened (length kinds) → OpensPast reply t
 opens_past {S} M kinds quota optimism reply t is answer z shelves =
@@ -391,6 +403,7 @@ opens_past {S} M kinds quota optimism reply t is answer z shelves =
     none : (l : ℕ) (c : Letter) → slice_get (opened_kept M kinds quota optimism).letters l ≡ Some c → ⊥
     none l c e = cc e
 
+-- What an opened tenant keeps by a reply it keeps by an equal one.
 pub opened_past : {S : Type 0} (o : Option (TenantState S)) (reply answer : Reply)
     → answer ≡ reply → IfSome o (OpensPast reply) → IfSome o (OpensPast answer)
 opened_past None reply answer e h = tt

@@ -78,6 +78,7 @@ module _ {S : Type 0} (M : Meaning S) (name : List ℕ) (live : ℕ → List ℕ
   abbrev k : Compact S
   k = s.0
 
+  -- A kill of a unit that isn't there or isn't up is refused, and the tenant stays as it was.
   pub kill_refused : (r : Refusal)
       → up_refusal (slice_get t.members u) ≡ Some r → Leaves M name live (kill w u) (Refused r) t log
   kill_refused r e = leaves M name live log (kill w u) (λ z f. stepped (record {
@@ -122,6 +123,7 @@ module _ {S : Type 0} (M : Meaning S) (name : List ℕ) (live : ℕ → List ℕ
         stable_low : (a p v n : ℕ) → a ≡ p - v → n ≡ p → a ≤ n
         stable_low a p v n e f = omega (arith, e, f)
 
+    -- A kill of a unit that is up leaves it killed, as the definitions say.
     pub kill_done : is_some m.unit_state.progress ≡ true → Leaves M name live (kill w u)
         (Killed (length m.unit_state.volatile)) (record t { members = slice_set t.members u (killed_member m) }) log
     kill_done e =

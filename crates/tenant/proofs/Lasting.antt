@@ -39,11 +39,13 @@ use Rattle.tenant.proofs.Reading.{stands_at}
 
 -- ---- closed, and opened for the proofs of this crate
 
+-- That a tenant keeps what is left of its past can be opened.
 pub past_opened : {S : Type 0} {t : TenantState S} {w : World} {shelves : List Shelf}
     → KeepsPast t w shelves → IsKeeping t w shelves
 unfolding KeepsPast
 past_opened k = k
 
+-- That a tenant keeps what is left of its past can be closed again.
 pub past_closed : {S : Type 0} {t : TenantState S} {w : World} {shelves : List Shelf}
     → IsKeeping t w shelves → KeepsPast t w shelves
 unfolding KeepsPast
@@ -239,6 +241,7 @@ module _ {S : Type 0} (M : Meaning S) (name : List ℕ)
         ]
       ]
 
+  -- After a step that changes the shelves but no base, the tenant keeps what is left of its past.
   pub keeps_on : IsKeeping v z (change shelves)
   keeps_on = record {
     shelved = made.shelves ∙ ap change keeping.shelved;
@@ -247,9 +250,11 @@ module _ {S : Type 0} (M : Meaning S) (name : List ℕ)
 
 -- ---- what leaves the bases
 
+-- Shelves that stay as they were have the bases that they had.
 pub same_bases : SameBases (λ shelves. shelves)
 same_bases shelves u s at = inl (s, at, refl)
 
+-- Where one unit's shelf changes and its base doesn't, all shelves have the bases that they had.
 pub changed_bases : (f : Shelf → Shelf) → ((s : Shelf) → (f s).base ≡ s.base) → (u : ℕ) → SameBases (changed f u)
 changed_bases f keeps u shelves v s at = go (slice_get shelves u) refl at
   where
@@ -261,6 +266,7 @@ changed_bases f keeps u shelves v s at = go (slice_get shelves u) refl at
       | inr h ↦ inl (s, h.1, refl)
     ]
 
+-- A shelf on which an index is put has the base that it had.
 pub put_base : (index : ℕ) (s : Shelf) → (put index s).base ≡ s.base
 put_base index s = go ((s.base == index) || has s.others index)
   where
@@ -268,6 +274,7 @@ put_base index s = go ((s.base == index) || has s.others index)
     go true = refl
     go false = refl
 
+-- Where the first shelf of a new unit is added, the other shelves have the bases that they had.
 pub joined_bases : SameBases (λ shelves. shelves ++ first_shelf ∷ [])
 joined_bases shelves u s at = elim (get_append shelves first_shelf s u at) [
   | inl h ↦ inl (s, h, refl)

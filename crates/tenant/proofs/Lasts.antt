@@ -4,9 +4,11 @@ use Rattle.std.proofs.Common.{length-append, length-drop, length-take}
 use Rattle.std.proofs.lemmas.List.{drop-append-le, drop-take, drop_all}
 use Rattle.tenant.specs.Represents.{AreLast}
 
+-- No places are the last of any places.
 pub last_none : (live : List ℕ) → AreLast [] live
 last_none live = sym (drop_all (length live - 0) live (omega arith))
 
+-- Places that are the last of others are no more than those.
 pub last_fits : (own live : List ℕ) → AreLast own live → length own ≤ length live
 last_fits own live h = let a = ap length h in let b = length-drop (length live - length own) live in omega (arith, a, b)
 

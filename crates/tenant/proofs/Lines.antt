@@ -68,6 +68,7 @@ pub front_is : (frontiers : List ℕ) (u v frontier : ℕ)
 front_is frontiers u v frontier e there =
     ap (slice_index frontiers) e ∙ get_or_from_slice_get frontiers u frontier 0 there
 
+-- A unit that is written without its firm outputs leaves the units as a release does.
 pub member_out : {S : Type 0} (members : List (Member S))
     (u : ℕ) (m q p : Member S) (frontiers : List ℕ) (frontier at : ℕ) → at ≡ u
     → q ≡ m → m.unit ≡ u → slice_get frontiers u ≡ Some frontier → p ≡ released_member q (slice_index frontiers q.unit)
@@ -76,6 +77,7 @@ member_out members u m q p frontiers frontier at a same own there new =
     let front = front_is frontiers u q.unit frontier (ap (λ (n : Member _). n.unit) same ∙ own) there in
     (λ i. slice_set members (a i) (new i)) ∙ (λ i. slice_set members u (released_member (same i) (front i)))
 
+-- Firm texts that are added to their unit's line leave the released texts as a release does.
 pub texts_out : {S : Type 0} (before mid after : List Line)
     (u : ℕ) (m q : Member S) (frontiers : List ℕ) (frontier : ℕ) (texts : List (List ℕ))
     → q ≡ m → m.unit ≡ u → slice_get frontiers u ≡ Some frontier → slice_get (released_of before) u ≡ Some texts
@@ -105,11 +107,13 @@ none_out (l ∷ lines) (suc n) e none =
 
 -- ---- how many texts were given up
 
+-- The list of counts of given-up texts has each line's count at the line's place.
 pub count_there : (lines : List Line) (u : ℕ) → u < length lines → slice_get (gone_of lines) u ≡ Some (count_of lines u)
 count_there [] u h = absurd (omega (arith, h))
 count_there (l ∷ lines) zero h = refl
 count_there (l ∷ lines) (suc u) h = count_there lines u (omega (arith, h))
 
+-- Lines of the same counts of given-up texts have the same list of counts.
 pub same_counts : (lines others : List Line)
     → length lines ≡ length others → ((u : ℕ) → count_of lines u ≡ count_of others u) → gone_of lines ≡ gone_of others
 same_counts [] [] h same = refl
@@ -120,6 +124,7 @@ same_counts (l ∷ lines) (m ∷ others) h same =
     let tail = same_counts lines others (omega (arith, h)) (λ u. same (suc u)) in
     λ i. head i ∷ tail i
 
+-- Lines that gave up no text have a list of zeros as counts.
 pub none_gone : (lines : List Line) (n : ℕ)
     → length lines ≡ n → ((u : ℕ) → count_of lines u ≡ 0) → gone_of lines ≡ replicate n 0
 none_gone [] zero e none = refl
@@ -130,6 +135,7 @@ none_gone (l ∷ lines) (suc n) e none =
     let tail = none_gone lines n (omega (arith, e)) (λ u. none (suc u)) in
     λ i. head i ∷ tail i
 
+-- Where a line that gave up nothing is added, the list of counts has a zero more.
 pub one_gone_more : (lines others : List Line) → length lines ≡ length others + 1
     → ((u : ℕ) → count_of lines u ≡ count_of others u) → gone_of lines ≡ gone_of others ++ 0 ∷ []
 one_gone_more [] others h same = absurd (omega (arith, h))

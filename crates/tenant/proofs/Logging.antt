@@ -19,6 +19,7 @@ module _ (tenant : List ℕ) (records : List Record)
     (i : ℕ) (within : i < length records) (before mid after : List (Option Record))
     (one : (r : Record) → slice_get records i ≡ Some r
     → (after ≡ mid ++ Some r ∷ []) × (bytes_eq r.tenant tenant ≡ true)) where
+  -- Once the next record is appended, the log has one more of the records that are to be logged.
   pub logged_one : mid ≡ before ++ map Some (take i records) → after ≡ before ++ map Some (take (i + 1) records)
   logged_one so_far =
       let r = get_below records i within in
@@ -28,6 +29,7 @@ module _ (tenant : List ℕ) (records : List Record)
       ∙ ap (λ rs. before ++ rs)
       (sym (ap (map Some) (take_one records i r.0 r.1) ∙ map-append Some (take i records) (r.0 ∷ [])))
 
+  -- Where the next record is of the tenant, one more of the first records are of the tenant.
   pub of_one : AreOf tenant records i → AreOf tenant records (i + 1)
   of_one so_far k r below found = elim (last k below) [
     | inl h ↦ so_far k r h found

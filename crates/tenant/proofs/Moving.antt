@@ -107,6 +107,7 @@ next_is r f base e =
     let n = nearest_is r.shelf t x.0 x.1 in
     (ap (has_index r.shelf) (sym x.2) ∙ n.0, let a = x.2 in let b = n.1 in omega (arith, a, b))
 
+-- The next base of a unit is one of its places.
 pub next_within : {S : Type 0} (r : Recovering S) (f last : ℕ)
     → last + 1 ≡ places r → (o : Option ℕ) → o ≡ next_base r f → IfSome o (λ b. b < places r)
 next_within r f last e None g = tt
@@ -381,6 +382,7 @@ module _ {S : Type 0} (M : Meaning S) (name : List ℕ) (t : TenantState S) (w :
 
 -- ---- beside it
 
+-- A log that stays as it was takes no record, and keeps those of other tenants live.
 pub beside_same : (name : List ℕ) (log : Logged) → IsBeside name log log
 beside_same name log =
     record { others = λ other u differs. refl; grows = same_grows log.records log.records refl; failures = refl }
@@ -390,6 +392,7 @@ pub grows_then : (a b c : List (Option Record)) (grown : List Record) → Grows 
 grows_then a b c grown g h =
     λ whole left. subst (λ ws. IsLeftOf c ws) (append-nil (whole ++ grown)) (h (whole ++ grown) (g whole left))
 
+-- Two changes of a log that each keep other tenants' records and take none do so together.
 pub beside_then : (name : List ℕ) (a b c : Logged) → IsBeside name a b → IsBeside name b c → IsBeside name a c
 beside_then name a b c g h = record {
   others = λ other u differs. h.others other u differs ∙ g.others other u differs;
@@ -397,6 +400,7 @@ beside_then name a b c g h = record {
   failures = h.failures ∙ g.failures;
 }
 
+-- A log that lets first records of one unit go keeps those of other tenants, and takes none.
 pub lets_beside : (name : List ℕ) (u count : ℕ) (before after : Logged)
     → LetsGo name u count before after → IsBeside name before after
 lets_beside name u count before after go = record {
@@ -438,6 +442,7 @@ next_at : (xs : List Interval) (i j : ℕ) (v : Interval)
 next_at [] i j v e h = absurd (cc h)
 next_at (x ∷ xs) i j v e h = ap (slice_get (x ∷ xs)) (sym e) ∙ h
 
+-- Emptying one more interval's letter leaves the letters emptied up to that interval.
 pub passed_one : (letters : List Letter) (intervals : List Interval) (base index : ℕ)
     → base ≤ index → (v : Interval) → slice_get intervals (index + 1 - base) ≡ Some v
     → emptied_by (emptied_all letters (take (index - base) (drop 1 intervals)))

@@ -31,6 +31,7 @@ module _ {S : Type 0} (M : Meaning S) (name : List ℕ) (live : ℕ → List ℕ
   reach : (z : World) → (release M w u).world ≡ Some z → Reachable M z
   reach z f = stepped (record { step = Release u; said = record { appended = 0; end = Whole } }) s.2.reached f
 
+  -- A release of a unit that isn't there or isn't up is refused, and the tenant stays as it was.
   pub release_refused : (r : Refusal)
       → up_refusal (slice_get t.members u) ≡ Some r → Leaves M name live (release M w u) (Refused r) t log
   release_refused r e = leaves M name live log (release M w u) reach _ (record { reply = Refused r; state = k })
@@ -41,6 +42,7 @@ module _ {S : Type 0} (M : Meaning S) (name : List ℕ) (live : ℕ → List ℕ
     after frontier texts =
         record t { members = with_firm_out t.members u m frontier; released = firm_of t.released u m frontier texts }
 
+    -- A release of a unit that is up leaves its firm outputs released, as the definitions say.
     pub release_done : (v : TenantState S) (texts : List (List ℕ))
         → ((frontier : ℕ) (had : List (List ℕ)) → m.unit ≡ u
         → slice_get t.frontiers u ≡ Some frontier → slice_get t.released u ≡ Some had → v ≡ after frontier had)

@@ -36,9 +36,11 @@ other_places name u p (y ∷ ys) h =
     ap (λ b. (if b then p ∷ [] else []) ++ places_from name u (p + 1) (map Some ys)) (h 0 y refl)
     ∙ other_places name u (p + 1) ys (λ i r e. h (suc i) r e)
 
+-- A record of a tenant's unit passes the test for that owner.
 pub owns : (name : List ℕ) (u : ℕ) (r : Record) → r.tenant ≡ name → r.unit ≡ u → is_owner name u (owner_of r) ≡ true
 owns name u r e f = rw ((bytes_eq-Decides r.tenant name).1 e, (Decides-eqb r.unit u).1 f) refl
 
+-- A record of another tenant or another unit fails the test for the owner.
 pub owns_not : (name : List ℕ) (u : ℕ) (r : Record)
     → (r.tenant ≡ name → r.unit ≡ u → ⊥) → is_owner name u (owner_of r) ≡ false
 owns_not name u r differ = go (bytes_eq r.tenant name) (r.unit == u) refl refl

@@ -29,9 +29,11 @@ module _ {S : Type 0} (name : List ℕ) (t : TenantState S)
   plan_is : IsPlan name t u m q turn up.0.sessions plan
   plan_is = planned.1 up.0 up.1
 
+  -- The vector of a planned record has at most 256 marks.
   pub planned_few : length plan.logged.vector ≤ 256
   planned_few = plan_is.few
 
+  -- The answer that is planned for a receipt is one without the store.
   pub planned_plain : IsPlain plan.answer
   planned_plain = plan_is.plain
 

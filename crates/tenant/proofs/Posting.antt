@@ -45,6 +45,7 @@ module _ {S : Type 0} (M : Meaning S) (name : List ℕ) (live : ℕ → List ℕ
 
   -- ---- before the turn
 
+  -- A post to a unit that isn't there needs no turn, and is refused.
   pub post_none : slice_get t.members u ≡ None
       → IsAsked (post_needs M w u number text) (post M w u number text) w (Err NoUnit)
   unfolding post_needs
@@ -66,6 +67,7 @@ module _ {S : Type 0} (M : Meaning S) (name : List ℕ) (live : ℕ → List ℕ
     before : first_refusal (post_front w f.member number text) ≡ post_refused t.quota.volatile m.unit_state number text
     before = sym (posts_are_tested M name k w log s.2 u f.member x.unit f.at x.at number text) ∙ refusal_of
 
+    -- A post that is refused before its turn needs no turn, and is refused so by the definitions.
     pub post_refused_first : (r : Refusal) → post_refused t.quota.volatile m.unit_state number text ≡ Some r
         → IsAsked (post_needs M w u number text) (post M w u number text) w (Err r)
     unfolding post_needs
@@ -83,6 +85,7 @@ module _ {S : Type 0} (M : Meaning S) (name : List ℕ) (live : ℕ → List ℕ
     asked_by passes input asked = ap (post_to_needs M w number text) f.at
         ∙ (λ i. input_unless (input_is M name live t w log s u m x f Outside text input asked i) ((before ∙ passes) i))
 
+    -- A post that is not refused before its turn needs the turn of the input that is asked.
     pub post_asked : post_refused t.quota.volatile m.unit_state number text ≡ None
         → (r : Result (Input S) Refusal) → IfOk r (λ input. asking m.unit_state Outside text ≡ Some input)
         → IfErr r (λ refusal. (refusal ≡ Down) × (m.unit_state.progress ≡ None))
@@ -105,6 +108,7 @@ module _ {S : Type 0} (M : Meaning S) (name : List ℕ) (live : ℕ → List ℕ
           ∙ (λ i. or_refused k
           (accepted_of M name k u (posted number text) x.unit) (or_next ((refusal_of ∙ is.passes) i) (after i)))
 
+      -- A post that is refused for what its turn makes leaves the tenant as it was.
       pub post_refused_then : (r : Refusal) → turn_refusal_of t m (turn_upon_input M input) ≡ Some r
           → Leaves M name live (post M w u number text) (Refused r) t log
       post_refused_then r e = leaves M name live log (post M w u number text) reach _ (record {

@@ -58,6 +58,7 @@ module _ {S : Type 0} (M : Meaning S) (name : List ℕ)
     pub kept : IsMember t live u member unit
     pub stands : IsUnit M name w log m unit
 
+  -- For each unit of the world, the tenant has a member that stands for it.
   pub stands_at : (u : ℕ) (m : InWorld) → slice_get w.members u ≡ Some m → StandsAt u m
   stands_at u m at =
       let represents = s.2.represents in
@@ -74,6 +75,7 @@ module _ {S : Type 0} (M : Meaning S) (name : List ℕ)
         stands = represents.units u m x.0 at x.1;
       }
 
+  -- The table of a tenant is that of its world.
   pub table_same : t.table ≡ w.table
   table_same = sym s.1.table ∙ s.2.represents.table
 
@@ -101,6 +103,7 @@ module _ {S : Type 0} (M : Meaning S) (name : List ℕ)
       let width = s.1.width in omega (arith, within, width)) in
       sym (s.1.members u n x.0 a x.1).seen.seat ∙ (s.2.represents.units u m x.0 b x.1).seat)
 
+  -- The seats that a tenant was opened with are those of its world's opening.
   pub opening_same : opening_of (seats_of t.members) ≡ opening_seats w
   opening_same = ap opening_of seats_same
       ∙ ap (λ n. take n (map (λ (m : InWorld). m.seat) w.members)) (sym (units_opened w.members))

@@ -166,6 +166,7 @@ module _ {S : Type 0} (r : Recovering S) where
       at_base None e = absurd (cc e)
       at_base (Some b) e = ap (λ m. (m == n) || list_any (is_at n) others) (same_Some b.index r.base e)
 
+  -- A shelf on which a snapshot is put has, by its indices, the snapshot's index put.
   pub put_is : IsKept r → (index : ℕ) (p : Progress S)
       → shelf_of (record r { shelf = put_on r.shelf (record { index = index; state = p }) }) ≡ put index (shelf_of r)
   put_is k index p = go (has_index r.shelf index)
@@ -182,6 +183,7 @@ module _ {S : Type 0} (r : Recovering S) where
 
   -- ---- a path is cut
 
+  -- A shelf that is cut at an index has, by its indices, those that are cut there.
   pub cut_is : (n : ℕ) → shelf_of (record r { shelf = cut_at r.shelf n }) ≡ cut n (shelf_of r)
   cut_is n = ap (shelf r.base) (front_is n others)
 
@@ -205,6 +207,7 @@ module _ {S : Type 0} (r : Recovering S) where
           let top : x.index ≤ (r.base + length r.intervals) - length r.volatile - 1 = k.top x (inr (i, e)) in
           tests_agree x.index f (places r - 1) (omega (arith, top)) (omega (arith, low))
 
+  -- A unit whose base is below the frontier has a next base.
   pub next_there : IsKept r → (f : ℕ) → r.base < f → next_base r f ≡ None → ⊥
   next_there k f low e = let h = next_last k f low in cc (e, h)
 
@@ -223,6 +226,7 @@ module _ {S : Type 0} (r : Recovering S) where
       go false t = ap (shelf base) (behind_is base
           others (λ i j x y lt f g. k.rises.rising i j x y lt f g) (others_have r.shelf r.base base k.base t there))
 
+  -- A unit that forgets up to its next base has, by its indices, a shelf that is based at the frontier.
   pub based_is : IsKept r → (f : ℕ)
       → r.base < f → (base : ℕ) → next_base r f ≡ Some base → shelf_of (forgotten r base) ≡ based f (shelf_of r)
   based_is k f low base e =

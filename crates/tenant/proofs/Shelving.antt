@@ -66,12 +66,14 @@ module _ {S : Type 0} (M : Meaning S) (name : List ℕ) (live : ℕ → List ℕ
   reach : (z : World) → (checkpoint w u).world ≡ Some z → Reachable M z
   reach z f = stepped (record { step = Checkpoint u; said = record { appended = 0; end = Whole } }) s.2.reached f
 
+  -- A checkpoint of a unit that isn't there or isn't up is refused, and the tenant stays as it was.
   pub checkpoint_refused : (r : Refusal)
       → up_refusal (slice_get t.members u) ≡ Some r → Leaves M name live (checkpoint w u) (Refused r) t log
   checkpoint_refused r e = leaves M name live log (checkpoint w u) reach _ (record { reply = Refused r; state = k })
       (checkpoints_follow M name k w log s.2 u) (not_up t live k s.1 u (checkpoint_of k u) r e) t s.1
 
   module _ (m : Member S) (found : slice_get t.members u ≡ Some m) (up : is_some m.unit_state.progress ≡ true) where
+    -- A checkpoint of a unit with volatile records is refused, and the tenant stays as it was.
     pub checkpoint_unlogged : 0 < length m.unit_state.volatile
         → Leaves M name live (checkpoint w u) (Refused Unlogged) t log
     checkpoint_unlogged some =
@@ -91,6 +93,7 @@ module _ {S : Type 0} (M : Meaning S) (name : List ℕ) (live : ℕ → List ℕ
     not_lt : (a b : ℕ) → b - a ≡ 0 → nat_lt a b ≡ false
     not_lt a b e = grind (arith, nat_tests)
 
+    -- A checkpoint of a unit that is up and has no volatile record is put, as the definitions say.
     pub checkpoint_done : length m.unit_state.volatile ≡ 0
         → (at : Mark) → ((x : Unit S) → IsKept m.unit_state → IsSeen m.unit_state x → at ≡ last_mark u x)
         → Leaves M name live (checkpoint w u)

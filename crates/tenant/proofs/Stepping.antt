@@ -35,6 +35,7 @@ module _ {S : Type 0} (M : Meaning S) (name : List ℕ) (t v : TenantState S)
         };
       })
 
+  -- A step without the store is done where its answer is the definitions' under the tenant's name.
   pub plain_ok : {E : Type 0} (r : Result Answer E)
       → IfOk r (λ a. DoesAs M name (λ w. step_open M w step quiet) t a.reply v) → IfOk r IsPlain
       → IfOk r (λ a. (w : World) → Stands M name t w before.records → Did M name w v step a.said a.reply before before)
@@ -46,6 +47,7 @@ module _ {S : Type 0} (M : Meaning S) (name : List ℕ) (t v : TenantState S)
       → IsPlain a → (w : World) → Stands M name t w before.records → Did M name w v step a.said a.reply before before
   any_did a does plain = plain_did a (does name) plain
 
+  -- A step without the store is done where its answer is the definitions' whatever the tenant's name.
   pub any_ok : {E : Type 0} (r : Result Answer E)
       → IfOk r (λ a. Does M (λ w. step_open M w step quiet) t a.reply v) → IfOk r IsPlain
       → IfOk r (λ a. (w : World) → Stands M name t w before.records → Did M name w v step a.said a.reply before before)

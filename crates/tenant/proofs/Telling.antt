@@ -27,6 +27,7 @@ module _ {S : Type 0} (M : Meaning S) (name : List ℕ) (live : ℕ → List ℕ
   abbrev k : Compact S
   k = s.0
 
+  -- A status of a unit that isn't there is refused, and the tenant stays as it was.
   pub status_refused : slice_get t.members u ≡ None → Leaves M name live (status M w u) (Refused NoUnit) t log
   status_refused e = leaves M name live log (status M w u) (λ z f. stepped (record {
     step = StatusStep u;
@@ -35,6 +36,7 @@ module _ {S : Type 0} (M : Meaning S) (name : List ℕ) (live : ℕ → List ℕ
   }) s.2.reached f) _ (record { reply = Refused NoUnit; state = k })
       (statuses_follow M name k w log s.2 u) (no_unit t live k s.1 u (status_of k u) e) t s.1
 
+  -- A status of a unit that is there tells of it what the definitions say.
   pub status_done : (m : Member S) → slice_get t.members u ≡ Some m
       → (at : Mark) (held known outside released rows stable : ℕ) (up : Bool) (volatile : ℕ)
       → ((x : Unit S) → IsKept m.unit_state → IsSeen m.unit_state x → at ≡ last_mark u x)

@@ -51,6 +51,7 @@ module _ (w : World) (u : ℕ) (said : Said) where
   restart_of back None e = absurd (cc e)
   restart_of back (Some m) e = restart_at back m e
 
+  -- A restart that is refused for the store is one that asks the store.
   pub restart_asked : (restart w u said).reply ≡ Refused Store → restart_fetches w u (slice_get w.members u) ≡ true
   unfolding at_unit
   restart_asked e = restart_of _ (slice_get w.members u) e
@@ -67,6 +68,7 @@ module _ (w : World) (u : ℕ) (said : Said) where
   notice_of None e = absurd (cc e)
   notice_of (Some m) e = notice_at m e
 
+  -- A notice that is refused for the store is one that asks the store.
   pub notice_asked : (notice w u said).reply ≡ Refused Store → notice_fetches w u (slice_get w.members u) ≡ true
   unfolding at_up at_unit
   notice_asked e = notice_of (slice_get w.members u) e

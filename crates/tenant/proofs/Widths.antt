@@ -21,6 +21,7 @@ pub vector_within : {S : Type 0} (M : Meaning S) (w : World) (g : Invariant M w)
 vector_within M w g n x h e = let a = length-vector_of w.nodes x in
     let b = units_within M w g x h in omega (arith, a, b, e)
 
+-- No vector of a unit's intervals has more entries than there are units.
 pub widths : {S : Type 0} (M : Meaning S) (name : List ℕ) (k : Compact S) (w : World) (log : List Record)
     → StandsCompact M name k w log → (u : ℕ) (x : Unit S) → slice_get k.units u ≡ Some x
     → (intervals : List Interval) → x.intervals ≡ intervals → (n : ℕ) → length k.units ≡ n → NoLonger n intervals

@@ -55,6 +55,7 @@ passed_none (t ∷ tests) h = rw h.0 (passed_none tests h.1)
 unless_pass : (w : World) (tests : List (Bool × Refusal)) (out : Outcome) → Passed tests → unless w tests out ≡ out
 unless_pass w tests out h = ap (outcome_or w out) (passed_none tests h)
 
+-- A step at a unit that is there and up does what is to be done with it.
 pub at_up_found : (w : World) (u : ℕ) (f : Member → Outcome) (m : Member)
     → slice_get w.members u ≡ Some m → m.up ≡ true → at_up w u f ≡ f m
 unfolding at_up
@@ -173,6 +174,7 @@ module _ {S : Type 0} (M : Meaning S) where
   limited_change h (releases u m found) = h
   limited_change h (joins kind room) = h
 
+  -- In a world that can be reached, no unit's incarnation is above 65,535.
   pub reachable_limited : {w : World} → Reachable M w → Limited w
   reachable_limited {w} (opened e h) = λ u. rw ((first_counted M e.step w h).no_rows) (omega arith)
   reachable_limited {w} (stepped {v = v} e r h) =

@@ -22,6 +22,7 @@ use Rattle.theory.proofs.Sending.{turns_length}
 
 -- ---- sends
 
+-- An execution has one list of sends for each node.
 pub sends_length : {S : Type 0} (M : Meaning S) (nodes : List Node) → length (execution M nodes).sends ≡ length nodes
 sends_length M [] = refl
 sends_length M (n ∷ older) = ap suc (sends_length M older)

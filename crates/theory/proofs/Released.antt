@@ -115,6 +115,7 @@ pairs_seconds {Y} f (x ∷ xs) = map-append (λ (o : ℕ × Y). o.1) (map (λ t.
     ∙ ap (λ t. t ++ map (λ (o : ℕ × Y). o.1) (pairs_of f xs)) (second_pairs x (f x))
     ∙ ap (λ t. f x ++ t) (pairs_seconds f xs)
 
+-- Of a list without a part of its passing front, what is left of that front is the passing front.
 pub take_while_drop : {X : Type 0} (p : X → Bool) (k : ℕ) (xs : List X)
     → k ≤ length (take_while p xs) → take_while p (drop k xs) ≡ drop k (take_while p xs)
 take_while_drop p zero xs h = refl
@@ -161,6 +162,7 @@ nodes_kept M {v} (joins kind room) x h = (
 )
 
 module _ {S : Type 0} (M : Meaning S) where
+  -- The turn of an older node is the same once a node is added.
   pub turns_older : (v : World) (n : Node) (x : ℕ) (d : Turn S)
       → x < length v.nodes → from_end (execution M (n ∷ v.nodes)).turns x d ≡ from_end (executed M v).turns x d
   turns_older v n x d h = let k = turns_length M v.nodes in

@@ -79,6 +79,7 @@ without_other v u v' u' h (p ∷ ps) = go (is_between v u p) refl (is_between v'
     go false q true q' e = rw q' (ap (λ t. p.text ∷ t) e)
     go false q false q' e = rw q' e
 
+-- A list from a place on is the element there and the list behind that place.
 pub drop_at : {X : Type 0} (xs : List X) (k : ℕ) (x : X) → slice_get xs k ≡ Some x → drop k xs ≡ x ∷ drop (suc k) xs
 drop_at [] k x e = cc
 drop_at (y ∷ ys) zero x e = let q = same_Some y x e in rw q refl

@@ -24,6 +24,7 @@ use Rattle.theory.proofs.Certificate.{reachable_invariant}
 
 -- ---- marks and tests
 
+-- A node whose incarnation is the first or has a row passes the test of being told.
 pub row_told : (rows : List Row) (n : Node) → Told rows n → is_told rows n ≡ true
 row_told rows n (inl e) = or_left (n.incarnation == 0)
     (list_any (λ r. (r.unit == n.unit) && (r.incarnation == n.incarnation)) rows) (true_eq n.incarnation 0 e)

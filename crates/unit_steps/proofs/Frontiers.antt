@@ -42,6 +42,7 @@ module _ {S : Type 0} (rows : List Row) (stable_lengths : List ℕ) (r : Recover
   abbrev test : Interval → Bool
   test x = is_firm_by rows stable_lengths x.vector
 
+  -- Where the interval at a place is firm, the frontier from there is the frontier from the next place.
   pub goes_on : k < places r → (b : Bool) → b ≡ true → ((x : Interval) → slice_get r.intervals (k - r.base) ≡ Some x
       → b ≡ test x) → frontier_of rows stable_lengths r (k + 1) ≡ frontier_of rows stable_lengths r k
   goes_on within b firm same =
@@ -50,6 +51,7 @@ module _ {S : Type 0} (rows : List Row) (stable_lengths : List ℕ) (r : Recover
       let next : (k + 1) - r.base ≡ suc (k - r.base) = omega (arith, base) in
       rw next (omega (arith, one))
 
+  -- Where the interval at a place is not firm, the frontier from there on stays there.
   pub ends : k < places r → (b : Bool) → b ≡ false → ((x : Interval)
       → slice_get r.intervals (k - r.base) ≡ Some x → b ≡ test x) → k ≡ frontier_of rows stable_lengths r k
   ends within b left same =

@@ -93,13 +93,16 @@ module _ {S : Type 0} (M : Meaning S)
   fronts rows stable_lengths = λ i. x.frontier + firm_front
       rows stable_lengths (map (λ v. v.vector) (drop (x.frontier - there.base i) (seen.intervals i)))
 
+-- A turn is refused at one unit as it is on the compact state.
 pub turns_are_refused : {S : Type 0} (M : Meaning S) → TurnsAreRefused M
 turns_are_refused M k x turn = refl
 
+-- The mark and the vector of the next interval at one unit are those on the compact state.
 pub vectors_are_made : {S : Type 0} (M : Meaning S) → VectorsAreMade M
 vectors_are_made M r x kept seen k u q =
     record { mark = marks M r x kept seen k u; vector = vectors M r x kept seen k u q }
 
+-- A frontier goes on at one unit as it does on the compact state.
 pub frontiers_go_on : {S : Type 0} (M : Meaning S) → FrontiersGoOn M
 frontiers_go_on M r x kept seen rows stable_lengths = fronts M r x kept seen (record {
   quota = record {
@@ -113,8 +116,10 @@ frontiers_go_on M r x kept seen rows stable_lengths = fronts M r x kept seen (re
   letters = [];
 }) rows stable_lengths
 
+-- A post is refused at one unit as it is on the compact state.
 pub posts_are_refused : {S : Type 0} (M : Meaning S) → PostsAreRefused M
 posts_are_refused M r x kept seen k number text = posts M r x kept seen k number text r.progress refl
 
+-- A letter is refused at one unit as it is on the compact state.
 pub letters_are_refused : {S : Type 0} (M : Meaning S) → LettersAreRefused M
 letters_are_refused M r x kept seen k c = letter M r x kept seen k c c.content
