@@ -1,7 +1,7 @@
 -- A letter that is taken.
-use Rattle.std.proofs.Common.{◌≡◌, refl, sym, ◌∙◌, ap, ℕ, ◌<◌, List, length, arith, nat_lt, true}
+use Rattle.std.proofs.Common.{◌≡◌, refl, ◌∙◌, ap, ℕ, ◌<◌, List, length, arith, nat_lt, true}
 use Rattle.std.proofs.lemmas.Bool.Decides.{nat_tests}
-use Rattle.std.specs.Prelude.{Option, Some, Result, Ok, slice_get}
+use Rattle.std.specs.Prelude.{Some, Ok, slice_get}
 use Rattle.model.specs.FailureFree.{Network, Worker, next_text, takes_letter, without_next, works_on}
 use Rattle.model.specs.Handler.{Meaning}
 use Rattle.model.specs.declared.names.Source.TheVariants.{Unit as FromUnit}

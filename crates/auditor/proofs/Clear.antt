@@ -1,9 +1,8 @@
 -- The audit of a book's tenant finds no flaw.
-use Rattle.std.proofs.Common.{◌≡◌, refl, sym, ◌∙◌, ap, subst, ℕ, zero, suc, ◌+◌, ◌<◌, ◌≤◌, List, [], ◌∷◌, ◌++◌, length}
+use Rattle.std.proofs.Common.{◌≡◌, refl, sym, ◌∙◌, ap, subst, ℕ, zero, suc, ◌+◌, ◌≤◌, List, [], ◌∷◌, ◌++◌, length}
 use Rattle.std.proofs.Common.{map, take, arith}
 use Rattle.std.proofs.lemmas.List.{length-map, take_all}
 use Rattle.std.specs.Prelude.{Option, Some, None, Result, Ok, Err, slice_get, option_map}
-use mathlib.Core.List.{IsPrefix}
 use Rattle.model.specs.Alone.{Event, alone}
 use Rattle.model.specs.FailureFree.{Worker, Network, BeginWith, failure_free, new_worker, opening_units}
 use Rattle.model.specs.Handler.{Meaning}
@@ -15,11 +14,11 @@ use Rattle.model.specs.declared.moves.Flaw.TheVariants.{NoUnit, NothingToReceive
 use Rattle.model.specs.declared.moves.Move.{Move}
 use Rattle.model.specs.declared.names.Seat.{Seat}
 use Rattle.model.specs.declared.replies.Entry.{Entry}
-use Rattle.theory.proofs.Certificate.{Invariant, reachable_invariant}
+use Rattle.theory.proofs.Certificate.{reachable_invariant}
 use Rattle.theory.proofs.Courses.{courses_reach}
 use Rattle.theory.proofs.LettersExact.{take_more}
 use Rattle.audit.proofs.Making.{run_kept}
-use Rattle.audit.specs.Audits.{AreNumbered, Audits, Tells, joins}
+use Rattle.audit.specs.Audits.{AreNumbered, Audits, joins}
 use Rattle.audit.specs.Released.{DiffersFirst}
 use Rattle.audit.specs.declared.verdict.Verdict.{Verdict}
 use Rattle.book.specs.Certificates.{CertifiesAt, certificate_at, seats_at}

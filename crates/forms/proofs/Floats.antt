@@ -1,6 +1,5 @@
 -- The value of a record has no float.
 use Rattle.std.proofs.Common.{◌≡◌, List, [], ◌∷◌, false, Option, Some, None, refl, ℕ}
-use Rattle.serde_json.specs.Data.{array}
 use Rattle.serde_json.specs.Written.{has_float, items_have_float}
 use Rattle.forms.specs.Writing.{marks, record_data}
 use Rattle.model.specs.declared.names.Mark.{Mark}

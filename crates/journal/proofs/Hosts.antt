@@ -1,12 +1,12 @@
 -- A host's run is that of a book.
-use Rattle.std.proofs.Common.{◌≡◌, refl, sym, subst, ℕ, List, [], ◌++◌, All}
+use Rattle.std.proofs.Common.{refl, sym, subst, ℕ, List, [], ◌++◌, All}
 use Rattle.model.specs.Handler.{Meaning}
 use Rattle.model.specs.declared.replies.Reply.{Reply}
 use Rattle.shared_log.specs.Logged.{Logged}
 use Rattle.book.specs.Entries.{Ledger}
 use Rattle.book.specs.History.{IsRecordedIn}
 use Rattle.book.specs.Standing.{HostState, IsHostOf}
-use Rattle.journal.specs.GoingOn.{GoesOn, HostRuns, HostsGoOn, HostsRepeat, IsBook, IsPromise, IsRun, Repeats, RunsAs}
+use Rattle.journal.specs.GoingOn.{HostRuns, HostsGoOn, HostsRepeat, IsBook, IsPromise, IsRun, RunsAs}
 use Rattle.journal.proofs.Lines.{goes_on, repeats}
 
 module _ {S : Type 0} (M : Meaning S) where

@@ -1,10 +1,8 @@
 -- Reading a feed, one line after the other.
-use Rattle.std.proofs.Common.{◌≡◌, ◌≢◌, ◌≤◌, arith, ℕ, List, [], ◌∷◌, ◌++◌, length, cond, Option, None, Result, refl}
-use Rattle.std.proofs.Common.{sym, ap, subst}
-use Rattle.std.proofs.lemmas.Bool.{le-leb}
-use Rattle.model.specs.declared.limits.TheConstants.{MAX_LINE_BYTES}
+use Rattle.std.proofs.Common.{◌≢◌, arith, ℕ, List, [], ◌∷◌, ◌++◌, Option, Result, refl}
+use Rattle.std.proofs.Common.{sym, subst}
 use Rattle.model.specs.declared.steps.Step.{Step}
-use Rattle.forms.specs.Reading.{Gives, step_of_line}
+use Rattle.forms.specs.Reading.{Gives}
 use Rattle.forms.specs.declared.fault.LineFault.{LineFault}
 use Rattle.lines.specs.Lines.{LinesRead}
 use Rattle.lines.specs.Parts.{IsLineRead}

@@ -27,7 +27,7 @@ use Rattle.lines.specs.Lines.{LinesRead}
 use Rattle.written.specs.Beginnings.{AppendsBeginning}
 use Rattle.model.specs.Handler.{Meaning}
 use Rattle.book.specs.Standing.{Carries, HostState, IsHostOf}
-use Rattle.lines.specs.Serving.{line_step, AnsweredLine, AnsweredLineBy, AnsweredStep, AnsweredStepBy, EntersStep}
+use Rattle.lines.specs.Serving.{line_step, AnsweredLineBy, AnsweredStep, AnsweredStepBy}
 use Rattle.lines.specs.Serving.{HostDoes, HostServes, Serves, ServedAllBy, ServedSomeBy, ServesBy, IsRemembered, told}
 use Rattle.lines.specs.Serving.{entered_before, IsBadOr, EntersEach, reply_line, TookLine, Broken}
 use Rattle.lines.proofs.Parts.{LinesRead-more, TakesPart-none}

@@ -10,7 +10,7 @@ use Rattle.json.specs.Lex.{tokens}
 use Rattle.json.specs.Reads.{token_of}
 use Rattle.json.specs.declared.token.Token.{Token as ReadToken}
 use Rattle.json.specs.Json as json
-use Rattle.json.specs.Json.{Parse, parse_map, items, value, if_last}
+use Rattle.json.specs.Json.{parse_map, items, value, if_last}
 use Rattle.json.proofs.Grammar.{value_is, value-begin_array}
 use Rattle.serde_json.specs.Data.{Data, Num, Items, Members, number, string, array, object, no_members}
 use Rattle.serde_json.specs.Read.{of_json, of_items, number_of}

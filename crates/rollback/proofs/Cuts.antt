@@ -1,6 +1,6 @@
 -- What a unit keeps when its path is cut.
 use Rattle.std.proofs.Common.{◌≡◌, inl, inr, refl, sym, ◌∙◌, ap, subst, ℕ, zero, suc, ◌+◌, ◌-◌, ◌<◌, ◌≤◌, ◌^◌, Bool}
-use Rattle.std.proofs.Common.{true, false, cond, List, [], ◌∷◌, length, take, drop, arith}
+use Rattle.std.proofs.Common.{true, false, List, [], ◌∷◌, length, take, drop, arith}
 use Rattle.std.specs.Prelude.{Option, Some, None, slice_get, nat_lt, option_map}
 use Rattle.std.specs.List.{take_while, prefix_len}
 use Rattle.std.proofs.lemmas.Option.{same_Some, slice_get_within}

@@ -1,5 +1,5 @@
 -- Serving goes on, a block after the other.
-use Rattle.std.proofs.Common.{◌≡◌, ◌≢◌, ◌<◌, ◌≤◌, ◌+◌, ℕ, List, [], ◌∷◌, ◌++◌, length, map, cond, eqb, Bool, true}
+use Rattle.std.proofs.Common.{◌≡◌, ◌≢◌, ◌+◌, ℕ, List, [], ◌∷◌, ◌++◌, length, map, cond, eqb, Bool, true}
 use Rattle.std.proofs.Common.{false, refl, sym, ap, subst, ◌∙◌, inl, inr, arith, append_assoc, append-nil}
 use Rattle.std.proofs.Common.{length-append}
 use Rattle.std.specs.Prelude.{Option, Some, None, Result, Ok, Err, OnOk, OnErr, IfErr, IfOk, flat_map, IfSome}
@@ -8,28 +8,24 @@ use Rattle.std.proofs.KnownBytes.{Appends-kept, Appends-nil, Appends-trans, Cons
 use Rattle.std.proofs.lemmas.List.Concat.{flat_map-append}
 use Rattle.model.specs.Failures.{HasRisen}
 use Rattle.model.specs.Handler.{Meaning}
-use Rattle.model.specs.declared.limits.TheConstants.{MAX_LINE_BYTES}
-use Rattle.model.specs.declared.refusals.Refusal.TheVariants.{BadLine}
 use Rattle.model.specs.declared.replies.Reply.{Reply}
-use Rattle.model.specs.declared.replies.Reply.TheVariants.{Refused}
 use Rattle.model.specs.declared.steps.Step.{Step}
 use Rattle.book.specs.Standing.{HostState}
 use Rattle.forms.specs.declared.fault.LineFault.{LineFault}
 use Rattle.forms.specs.declared.fault.LineFault.TheVariants.{Bad, NoMemory}
-use Rattle.forms.specs.Reading.{Gives}
 use Rattle.lines.specs.Feeds.{AreReadings, IsReading, ReadingOf}
 use Rattle.lines.specs.Lines.{Holds, IsPart, LinesRead, lines_of}
-use Rattle.lines.specs.Parts.{IsLineRead, LineGoesOn, Takes, TakesPart}
+use Rattle.lines.specs.Parts.{IsLineRead, LineGoesOn, Takes}
 use Rattle.lines.specs.Serving.{AnsweredLineBy, AnsweredStepBy, IsUnread, ServedAllBy, ServedSomeBy, ServesBy}
-use Rattle.lines.specs.Serving.{line_step, reply_line, reply_upon}
+use Rattle.lines.specs.Serving.{line_step, reply_line}
 use Rattle.lines.specs.declared.fault.ServeFault.{ServeFault}
 use Rattle.lines.specs.declared.fault.ServeFault.TheVariants.{Write}
 use Rattle.lines.specs.declared.input.LineRead.{LineRead}
 use Rattle.lines.specs.declared.input.LineRead.TheVariants.{Line, Long, End}
-use Rattle.lines.specs.declared.part.Part.TheVariants.{More, Ended, AtEnd}
+use Rattle.lines.specs.declared.part.Part.TheVariants.{Ended, AtEnd}
 use Rattle.lines.proofs.Feeds.{AreReadings-more, heard_reading}
 use Rattle.lines.proofs.Parts.{IsAtEnd-unread, IsPart-append, IsPart-nil, LinesRead-all, LinesRead-ended}
-use Rattle.lines.proofs.Parts.{LinesRead-more, LinesRead-nil, TakesPart-none, heard_last, heard_line}
+use Rattle.lines.proofs.Parts.{LinesRead-more, LinesRead-nil, heard_last, heard_line}
 use Rattle.written.specs.Beginnings.{AppendsBeginning}
 use Rattle.shards.specs.Blocks.{AnswersBy, AnswersEachBy, AreDealt, AreIdle, DealsMore, IsReadOr, place_of}
 use Rattle.dealing.specs.Dealing.{HostsDo, ShardsServe, dealt}

@@ -1,8 +1,8 @@
 -- What each shard does of a block's lines, taken together.
-use Rattle.std.proofs.Common.{◌≡◌, ◌≢◌, ◌<◌, ◌≤◌, ◌+◌, ℕ, zero, suc, List, [], ◌∷◌, ◌++◌, length, map, drop, take}
-use Rattle.std.proofs.Common.{get_or, set, cond, All, Bool, true, false, refl, sym, ap, subst, ◌∙◌, ◌⊎◌, inl, inr}
-use Rattle.std.proofs.Common.{arith, length-set, append_assoc, append-nil, length-append}
-use Rattle.std.specs.Prelude.{Option, Some, None, Result, Ok, Err, slice_get, slice_set, ◌==◌, flat_map}
+use Rattle.std.proofs.Common.{◌≡◌, ◌<◌, ◌+◌, ℕ, List, [], ◌∷◌, ◌++◌, length, map}
+use Rattle.std.proofs.Common.{get_or, set, cond, All, true, false, refl, sym, ap, subst, ◌∙◌, ◌⊎◌, inl, inr}
+use Rattle.std.proofs.Common.{length-set, append-nil}
+use Rattle.std.specs.Prelude.{Some, Result, Ok, Err, slice_get, ◌==◌}
 use Rattle.std.proofs.lemmas.Bool.{cases_eq, eq-eqb, ne_eqb}
 use Rattle.std.proofs.lemmas.List.{get_or-map, get_or-set_other, get_or-set_same, length-map, map-append, map-set}
 use Rattle.std.proofs.lemmas.List.Elements.{All-cons, All-nil}
@@ -12,7 +12,7 @@ use Rattle.model.specs.declared.replies.Reply.{Reply}
 use Rattle.model.specs.declared.steps.Step.{Step}
 use Rattle.book.specs.Standing.{HostState}
 use Rattle.forms.specs.declared.fault.LineFault.{LineFault}
-use Rattle.lines.specs.Serving.{HostDoes, reply_line, reply_upon}
+use Rattle.lines.specs.Serving.{HostDoes, reply_upon}
 use Rattle.dealing.specs.Dealing.{HostsDo, tenant_of}
 use Rattle.shards.specs.declared.place.Place.{Place}
 use Rattle.shards.specs.declared.place.Place.TheVariants.{Here, Dealt}

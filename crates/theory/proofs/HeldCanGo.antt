@@ -12,8 +12,6 @@ use Rattle.std.proofs.lemmas.List.{length-map}
 use native.Mathlib.Decide.{dec_lt, ℕ_discrete}
 use Rattle.model.specs.declared.names.Row.{Row}
 use Rattle.model.specs.declared.refusals.Refusal.{Refusal}
-use Rattle.model.specs.declared.replies.Said.{Said}
-use Rattle.model.specs.declared.replies.End.TheVariants.{Whole}
 use Rattle.model.specs.declared.steps.TenantStep.TheVariants.{Kill, Restart, Notice, Release}
 use Rattle.model.specs.Handler.{Meaning}
 use Rattle.model.specs.Lists.{has, from_end}

@@ -34,14 +34,13 @@ use Rattle.std.proofs.Common.{
   length-take,
   append-nil,
 }
-use Rattle.std.specs.Prelude.{Option, Some, None, slice_get, slice_set, nat_lt, nat_le, ◌==◌}
-use Rattle.std.specs.List.{count_by, flat_map, fold, take_while}
+use Rattle.std.specs.Prelude.{Option, Some, None, slice_get, nat_lt, ◌==◌}
+use Rattle.std.specs.List.{flat_map, fold, take_while}
 use Rattle.std.proofs.lemmas.Bool.Decides.{nat_tests}
 use Rattle.std.proofs.lemmas.Grind.{flat_map-append}
 use Rattle.std.proofs.lemmas.List.{length-drop, length-map}
 use Rattle.std.proofs.lemmas.List.Sums.{sum_by-append, sum_by-cons, take_while-cons}
 use Rattle.std.proofs.lemmas.Option.{same_Some}
-use mathlib.Core.List.{IsPrefix}
 use Rattle.model.specs.declared.names.Quota.{Quota}
 use Rattle.model.specs.declared.names.Row.{Row}
 use Rattle.model.specs.declared.names.Seat.{Seat}
@@ -63,12 +62,12 @@ use Rattle.model.specs.declared.steps.TenantStep.TheVariants.{
   Release,
   Status,
 }
-use Rattle.model.specs.Alone.{Event, Reachable, step_open, step_unopened}
+use Rattle.model.specs.Alone.{Reachable, step_open, step_unopened}
 use Rattle.model.specs.Alone.Reachable.{opened, stepped}
 use Rattle.model.specs.Handler.{Meaning, Turn}
 use Rattle.model.specs.Lists.{from_end}
 use Rattle.model.specs.Nodes.{Cause, Message, Node, begun, count_along, letter, letters_of, line, outside, sends_within}
-use Rattle.model.specs.World.{World, Member, executed, held, incarnation_of, path_outputs, releasable, taken}
+use Rattle.model.specs.World.{World, Member, executed, held, incarnation_of, path_outputs, releasable}
 use Rattle.model.specs.Steps.{
   Outcome,
   at_unit,
@@ -100,7 +99,7 @@ use Rattle.model.specs.Steps.{
   with_released,
   with_unit,
 }
-use Rattle.theory.specs.Laws.{IsWithin, StaysWithin, rows_of}
+use Rattle.theory.specs.Laws.{StaysWithin, rows_of}
 use Rattle.theory.proofs.ListLaws.{
   and_both,
   append_get_last,

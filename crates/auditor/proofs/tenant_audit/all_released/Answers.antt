@@ -1,4 +1,4 @@
-use Rattle.std.proofs.Common.{◌≡◌, ◌∙◌, sym, ap, take, arith, ℕ, ◌≤◌, subst}
+use Rattle.std.proofs.Common.{◌≡◌, ◌∙◌, ap, take, arith}
 use Rattle.book.specs.History.{world_of}
 use Rattle.auditor.specs.Lists.{lists_at}
 use Rattle.auditor.proofs.Clear.{list_found, list_missing, all_lists}

@@ -1,4 +1,4 @@
-use Rattle.std.proofs.Common.{◌≡◌, ◌∙◌}
+use Rattle.std.proofs.Common.{◌∙◌}
 use Rattle.auditor.proofs.Clear.{seats_numbered, a_list_each, clear}
 use Rattle.auditor.proofs.tenant_audit.audit_moves.Goals as goal
 

@@ -1,4 +1,4 @@
-use Rattle.std.proofs.Common.{◌≡◌, subst}
+use Rattle.std.proofs.Common.{subst}
 use Rattle.lines.specs.Feeds.{IsReading}
 use Rattle.shards.proofs.GoingOn.{reading_is}
 use Rattle.shards.proofs.block.add_line.Goals as goal

@@ -1,4 +1,4 @@
-use Rattle.std.proofs.Common.{◌≡◌, ◌<◌, ◌∙◌, List, ℕ, length, refl, sym, ap, subst, arith, rules}
+use Rattle.std.proofs.Common.{◌<◌, ◌∙◌, length, sym, subst}
 use Rattle.std.specs.Prelude.{All, flat_map}
 use Rattle.std.specs.Io.KnownBytes.{Appends}
 use Rattle.lines.specs.Serving.{reply_line}

@@ -1,4 +1,4 @@
-use Rattle.std.proofs.Common.{◌<◌, length, map, subst}
+use Rattle.std.proofs.Common.{◌<◌, map, subst}
 use Rattle.shards.specs.Blocks.{merged}
 use Rattle.dealing.specs.Dealing.{dealt}
 use Rattle.shards.proofs.Answered.{all_replies, answered, idle}

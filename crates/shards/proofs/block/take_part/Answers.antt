@@ -1,7 +1,6 @@
-use Rattle.std.proofs.Common.{◌≡◌, sym, subst}
+use Rattle.std.proofs.Common.{◌≡◌, subst}
 use Rattle.std.specs.Prelude.{true}
 use Rattle.lines.specs.Parts.{Takes}
-use Rattle.lines.specs.declared.part.Part.TheVariants.{AtEnd}
 use Rattle.shards.proofs.block.take_part.Goals as goal
 
 pub returns-in-Ok-clause-ok : goal.returns-in-Ok-clause-ok

@@ -1,4 +1,4 @@
-use Rattle.std.proofs.Common.{◌≡◌, ◌∙◌, ◌+◌, ap, cond, eqb, length, map, sym, subst}
+use Rattle.std.proofs.Common.{◌∙◌, ◌+◌, ap, cond, eqb, length, map, subst}
 use Rattle.lines.specs.Parts.{Takes}
 use Rattle.lines.specs.declared.input.LineRead.TheVariants.{Line, Long, End}
 use Rattle.dealing.specs.Dealing.{dealt}

@@ -1,5 +1,5 @@
-use Rattle.std.proofs.Common.{◌≡◌, ◌∙◌, map, ap, refl, sym, subst}
-use Rattle.std.specs.Prelude.{Ok, Err, true}
+use Rattle.std.proofs.Common.{◌∙◌, map, ap, refl}
+use Rattle.std.specs.Prelude.{Ok, Err}
 use Rattle.dealing.specs.Dealing.{dealt}
 use Rattle.shards.proofs.GoingOn.{breaks_off, ended, turns_same, under_same}
 use Rattle.shards.proofs.serving.read_more.Goals as goal

@@ -1,4 +1,3 @@
-use Rattle.std.proofs.Common.{◌≡◌}
 use Rattle.dealing.specs.Dealing.{dealt}
 use Rattle.shards.proofs.GoingOn.{places_same}
 use Rattle.shards.proofs.serving.read_on.Goals as goal

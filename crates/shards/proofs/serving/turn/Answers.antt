@@ -1,4 +1,4 @@
-use Rattle.std.proofs.Common.{◌≡◌, ◌∙◌, ap, refl, subst}
+use Rattle.std.proofs.Common.{◌≡◌, ◌∙◌, ap, subst}
 use Rattle.model.specs.Failures.{HasRisen}
 use Rattle.std.specs.Prelude.{Err}
 use Rattle.lines.specs.declared.fault.ServeFault.TheVariants.{Write}

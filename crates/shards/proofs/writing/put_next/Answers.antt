@@ -1,4 +1,4 @@
-use Rattle.std.proofs.Common.{◌≡◌, ◌<◌, ◌≤◌, ◌+◌, ◌-◌, length, List, ℕ, get_or, take, drop, refl, sym, ap, ◌∙◌, arith}
+use Rattle.std.proofs.Common.{◌≡◌, ◌<◌, ◌+◌, ◌-◌, length, get_or, take, drop, refl, ap, arith}
 use Rattle.std.proofs.Common.{rules}
 use Rattle.shards.proofs.Telling.{next_line, on_err, on_ok, wrote_next, wrote_some}
 use Rattle.shards.proofs.writing.put_next.Goals as goal

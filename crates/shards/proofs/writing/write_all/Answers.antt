@@ -1,4 +1,4 @@
-use Rattle.std.proofs.Common.{◌≡◌, ◌<◌, ◌+◌, ◌∙◌, [], length, drop, get_or, refl, sym, ap, subst, rules}
+use Rattle.std.proofs.Common.{◌+◌, ◌∙◌, length, drop, refl, ap, subst}
 use Rattle.std.proofs.lemmas.List.{drop_all, drop_more, length-replicate}
 use Rattle.model.specs.Failures.{HasRisen}
 use Rattle.shards.proofs.Telling.{Written, written_all, written_more, written_none, written_some}

@@ -1,5 +1,5 @@
-use Rattle.std.proofs.Common.{◌≡◌, ◌<◌, ℕ, length, refl, sym, subst, rules}
-use Rattle.shards.specs.Blocks.{IsBelow, Told}
+use Rattle.std.proofs.Common.{◌<◌, length, refl, subst}
+use Rattle.shards.specs.Blocks.{IsBelow}
 use Rattle.shards.proofs.Telling.{begins_here, dealt_err, dealt_ok, on_err, on_ok, told_first, wrote_here}
 use Rattle.shards.proofs.writing.write_one.Goals as goal
 

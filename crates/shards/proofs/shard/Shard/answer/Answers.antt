@@ -1,4 +1,4 @@
-use Rattle.std.proofs.Common.{◌≡◌, sym, subst}
+use Rattle.std.proofs.Common.{sym, subst}
 use Rattle.lines.specs.Serving.{HostDoes}
 use Rattle.shards.proofs.Telling.{still_lost, tells_result}
 use Rattle.shards.proofs.shard.Shard.answer.Goals as goal

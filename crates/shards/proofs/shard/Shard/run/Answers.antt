@@ -1,4 +1,4 @@
-use Rattle.std.proofs.Common.{◌≡◌, ◌++◌, ◌∷◌, [], refl, sym, ap, ◌∙◌, append_assoc, rules}
+use Rattle.std.proofs.Common.{◌≡◌, ◌++◌, ◌∷◌, [], sym, ap, ◌∙◌, append_assoc, rules}
 use Rattle.lines.specs.Serving.{HostDoes}
 use Rattle.shards.proofs.Merging.{DoesEach-more}
 use Rattle.shards.proofs.shard.Shard.run.Goals as goal

@@ -1,4 +1,4 @@
-use Rattle.std.proofs.Common.{◌≡◌, ◌<◌, ◌++◌, ◌∷◌, [], length, map, sym, subst, arith, length-append}
+use Rattle.std.proofs.Common.{◌<◌, ◌∷◌, [], length, map, sym, subst, arith, length-append}
 use Rattle.shards.specs.Blocks.{AreIdle}
 use Rattle.shards.proofs.Answered.{idle_more}
 use Rattle.shards.proofs.shards.Shards.add.Goals as goal
