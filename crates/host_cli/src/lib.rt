@@ -1,7 +1,7 @@
 //! The whole command line of a program that hosts a handler: a `main` of a few lines over it is one.
 //!
 //! - `run_program` (`program_run`): reads the words and does what they ask for; `run_either`: so with a second handler;
-//! - `run_asked`: `run` and `drive`, with a bar or lines of progress, thin over `runs`;
+//! - `run_asked`: `run` and `drive`, with a bar or lines of progress, thin over `runs`; `cores`: on how many cores;
 //! - `journals`: `journal`, thin over `files`.
 //!
 //! `run`, `feeds`, `draw`, `why`, `status` and `load` stand in `runs`, `feed_runs`, `drawings`, `views` and `images`.
@@ -19,6 +19,7 @@
 //! ```
 #![tactic(auto)]
 
+mod cores;
 mod journals;
 mod program_run;
 mod run_asked;

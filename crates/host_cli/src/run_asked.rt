@@ -2,11 +2,12 @@
 
 ghost use denote.Param.Send.{IsSend};
 
+use crate::cores::cores_for;
 use crate::program_run::Terminals;
 use files::{LogFile, Owner, Takeover, make_log, open_journal};
 use handler::Handler;
 use log::{Log, Logged, info, warn};
-use runs::{Hosted, run_journaled, run_on};
+use runs::{Hosted, run_journaled, run_on, run_on_cores};
 use shared_log::MemoryStore;
 use stable_log::WriterStore;
 use std::fs::{File, Files};
@@ -27,11 +28,12 @@ pub(crate) fn shows_bar(terminals: Terminals, verbosity: Verbosity) -> bool {
 /// told to a terminal unasked.
 pub(crate) fn run_as_asked<
     R: Threads + Wait + Sync + Files<File = File> + Clock + Print + Eprint + Input + AllocGlobal,
-    H: Handler + Copy,
+    H: Handler + Copy + Send,
 >(rt: &R, handler: H, program: &Program<'_>, terminals: Terminals, asked: &RunWords<'_>) -> u8 {
     let shows = shows_bar(terminals, asked.verbosity);
+    let is_alone = matches!(asked.cores, None | Some(1));
     let run = RunWords {
-        explain: asked.explain || shows,
+        explain: asked.explain || shows && is_alone,
         ..*asked
     };
     let work = if shows { input_size(rt) } else { None };
@@ -53,7 +55,8 @@ pub(crate) fn run_as_asked<
         let command = if run.drives { "drive" } else { "run" };
         warn!(&told; "waiting for step lines from the terminal, up to Ctrl-D: `{name} {command} --help` lists them");
     }
-    let status = run_reported(rt, &told, handler, program, &run, &bar);
+    let cores = cores_for(rt, &told, terminals, &run);
+    let status = run_reported(rt, &told, handler, program, &run, cores, &bar);
     bar.clear();
     let pace = bar.pace_so_far();
     let (lines, rate) = (Plural(pace.lines, "line"), Plural(pace.rate(), "line"));
@@ -66,10 +69,18 @@ pub(crate) fn run_as_asked<
 fn run_reported<
     R: Threads + Wait + Sync + Files<File = File> + Clock + Print + Eprint + Input + AllocGlobal,
     L: Log,
-    H: Handler + Copy,
->(rt: &R, told: &L, handler: H, program: &Program<'_>, run: &RunWords<'_>, bar: &Bar<'_, R>) -> u8 {
+    H: Handler + Copy + Send,
+>(
+    rt: &R,
+    told: &L,
+    handler: H,
+    program: &Program<'_>,
+    run: &RunWords<'_>,
+    cores: usize,
+    bar: &Bar<'_, R>,
+) -> u8 {
     let Some(seconds) = run.report else {
-        return run_watched(rt, told, handler, program, run, bar);
+        return run_watched(rt, told, handler, program, run, cores, bar);
     };
     thread::scope(
         scope_env(),
@@ -78,12 +89,12 @@ fn run_reported<
             requires { IsSend H.State.row }
         {
             let Ok((running, ended)) = crossbeam_channel::unbounded(rt.alloc()) else {
-                return run_unreported(rt, told, handler, program, run, bar);
+                return run_unreported(rt, told, handler, program, run, cores, bar);
             };
             let Ok(reporting) = scope.spawn(move || report_each(rt, bar, seconds, ended)) else {
-                return run_unreported(rt, told, handler, program, run, bar);
+                return run_unreported(rt, told, handler, program, run, cores, bar);
             };
-            let status = run_watched(rt, told, handler, program, run, bar);
+            let status = run_watched(rt, told, handler, program, run, cores, bar);
             drop(running);
             reporting.join(rt);
             status
@@ -93,20 +104,36 @@ fn run_reported<
 
 /// `run`, where there is no thread that could write lines of progress.
 fn run_unreported<
-    R: Files<File = File> + Clock + Print + Eprint + Input + AllocGlobal,
+    R: Threads + Wait + Sync + Files<File = File> + Clock + Print + Eprint + Input + AllocGlobal,
     L: Log,
-    H: Handler + Copy,
->(rt: &R, told: &L, handler: H, program: &Program<'_>, run: &RunWords<'_>, bar: &Bar<'_, R>) -> u8 {
+    H: Handler + Copy + Send,
+>(
+    rt: &R,
+    told: &L,
+    handler: H,
+    program: &Program<'_>,
+    run: &RunWords<'_>,
+    cores: usize,
+    bar: &Bar<'_, R>,
+) -> u8 {
     warn!(told; "no line of progress is written: a thread can't be started");
-    run_watched(rt, told, handler, program, run, bar)
+    run_watched(rt, told, handler, program, run, cores, bar)
 }
 
 /// `run`, beside a bar.
 fn run_watched<
-    R: Files<File = File> + Clock + Print + Eprint + Input + AllocGlobal,
+    R: Threads + Wait + Sync + Files<File = File> + Clock + Print + Eprint + Input + AllocGlobal,
     L: Log,
-    H: Handler + Copy,
->(rt: &R, told: &L, handler: H, program: &Program<'_>, run: &RunWords<'_>, bar: &Bar<'_, R>) -> u8 {
+    H: Handler + Copy + Send,
+>(
+    rt: &R,
+    told: &L,
+    handler: H,
+    program: &Program<'_>,
+    run: &RunWords<'_>,
+    cores: usize,
+    bar: &Bar<'_, R>,
+) -> u8 {
     let alloc = rt.alloc();
     let host = Hosted {
         handler,
@@ -127,18 +154,21 @@ fn run_watched<
             accept_upgrade: run.accept_upgrade,
         };
         return match open_journal(rt, told, alloc, path, &owner, from, takeover) {
-            Ok(journal) => run_journaled(told, alloc, host, input, output, journal, run),
+            Ok(journal) => run_journaled(rt, told, alloc, host, input, output, journal, cores, run),
             Err(status) => status,
         };
     }
     let Some(path) = run.log else {
+        if cores > 1 {
+            return run_on_cores(rt, told, alloc, host, input, output, cores, run);
+        }
         let store = MemoryStore::new(alloc);
-        return run_on(told, alloc, host, input, output, store, run);
+        return run_on(rt, told, alloc, host, input, output, store, run);
     };
     match make_log(rt, told, path) {
         Some(file) => {
             let store = WriterStore::new(alloc, LogFile::new(told, file));
-            run_on(told, alloc, host, input, output, store, run)
+            run_on(rt, told, alloc, host, input, output, store, run)
         }
         None => 1,
     }

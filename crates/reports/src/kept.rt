@@ -10,13 +10,13 @@ use words::Verbosity;
 
 /// What is kept of some units: of their past, and in lists beside it.
 #[derive(Clone, Copy, Debug)]
-struct Amount {
+pub struct Amount {
     past: Kept,
     lists: Footprint,
 }
 
-/// Nothing at all.
-const NOTHING: Amount = Amount {
+/// What is kept of no unit.
+pub const NOTHING: Amount = Amount {
     past: Kept {
         records: 0,
         shelved: 0,
@@ -33,12 +33,16 @@ const NOTHING: Amount = Amount {
     },
 };
 
-/// Tells the sums over all units of all tenants, where so much is told.
+/// Tells the sums over all units of all tenants of a host, where so much is told.
 pub fn tell_kept<L: Log, H: Handler, S: Store>(told: &L, host: &Host<H, S>, verbosity: Verbosity) {
-    if verbosity != Verbosity::Verbose {
-        return;
+    if verbosity == Verbosity::Verbose {
+        tell_amount(told, kept_by(host));
     }
-    match kept_of_all(host) {
+}
+
+/// Tells what is kept, or that there was no memory to tell it.
+pub fn tell_amount<L: Log>(told: &L, kept: Result<Amount, NoMemory>) {
+    match kept {
         Ok(Amount { past, lists }) => {
             info!(told; "kept of the past: {}, {}, the texts of {}", Plural(past.records, "live record"), Plural(past.shelved, "checkpoint"), Plural(past.letters, "letter"));
             info!(told; "kept beside them: {}, {}, {}, {}, {} without text", Plural(lists.intervals, "interval"), Plural(lists.volatile, "volatile record"), Plural(lists.held, "held output"), Plural(lists.rows, "row"), Plural(lists.spent, "letter"));
@@ -50,8 +54,8 @@ pub fn tell_kept<L: Log, H: Handler, S: Store>(told: &L, host: &Host<H, S>, verb
     }
 }
 
-/// The sums over all units of all tenants.
-fn kept_of_all<H: Handler, S: Store>(host: &Host<H, S>) -> Result<Amount, NoMemory> {
+/// The sums over all units of all tenants of a host. `NoMemory` comes where there is none for their names.
+pub fn kept_by<H: Handler, S: Store>(host: &Host<H, S>) -> Result<Amount, NoMemory> {
     let mut all = NOTHING;
     for name in names_of(host)? {
         for number in 0..MAX_UNITS as u8 {
@@ -79,7 +83,8 @@ fn kept_of<H: Handler, S: Store>(
     Some(Amount { past, lists })
 }
 
-fn sum(one: Amount, other: Amount) -> Amount {
+/// What is kept of both.
+pub fn sum(one: Amount, other: Amount) -> Amount {
     Amount {
         past: sum_of_past(one.past, other.past),
         lists: sum_of_lists(one.lists, other.lists),

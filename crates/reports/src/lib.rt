@@ -1,7 +1,7 @@
 //! What is told behind the last reply, for any handler.
 //!
 //! - `audit_all` (`audits`): the audit lines, thin over `auditor::audit_part`, which carries its own theorem;
-//! - `tell_kept` (`kept`): how much is kept of the past.
+//! - `tell_kept` (`kept`): how much is kept of the past by a host; `kept_by`, `sum` and `tell_amount`: by several.
 //!
 //! For `runs` and `feed_runs`. A caller:
 //!
@@ -15,4 +15,4 @@ mod audits;
 mod kept;
 
 pub use audits::audit_all;
-pub use kept::tell_kept;
+pub use kept::{Amount, NOTHING, kept_by, sum, tell_amount, tell_kept};

@@ -11,22 +11,26 @@ use driver::{Driver, drive, drive_host};
 use handler::Handler;
 use lines::{Counted, ServeFault, serve, serve_host};
 use log::{Log, error};
-use reports::{audit_all, tell_kept};
-use shared_log::Store;
+use model::NoMemory;
+use reports::{Amount, NOTHING, audit_all, kept_by, sum, tell_amount};
+use shards::{Shards, serve_shards};
+use shared_log::{MemoryStore, Store};
 use std::alloc::Global;
 use std::io::{BufRead, Write};
 use std::mem;
+use std::thread::Threads;
 use terminal::Plural;
-use words::RunWords;
+use words::{RunWords, Verbosity};
 
 /// The status of a run that refused a line, where that is asked for.
 const REFUSED: u8 = 3;
 
-/// What steps are done on: a host, which stores no history, or a book where the run asks for what needs one: audits,
-/// and the reasons of refusals.
+/// What steps are done on: a host, which stores no history, several of them for several cores, or a book where the
+/// run asks for what needs one: audits, and the reasons of refusals.
 enum Stepped<H: Handler, S: Store> {
     Host(Host<H, S>),
     Book(Book<H, S>),
+    Shards(Shards<H, MemoryStore>),
 }
 
 /// What answers lines, and carries on behind each where that is asked for.
@@ -38,7 +42,7 @@ pub(crate) struct Engine<H: Handler, S: Store> {
     driver: Option<Driver>,
 }
 
-impl<H: Handler, S: Store> Engine<H, S> {
+impl<H: Handler + Send, S: Store> Engine<H, S> {
     /// The one that the run needs, over a store that acknowledged nothing yet.
     pub(crate) fn new(alloc: Global, handler: H, store: S, asked: &RunWords<'_>) -> Engine<H, S>
         requires { S.log store ≡ [] }
@@ -59,21 +63,24 @@ impl<H: Handler, S: Store> Engine<H, S> {
         match stepped {
             Stepped::Host(host) => mem::forget(host),
             Stepped::Book(book) => mem::forget(book),
+            Stepped::Shards(shards) => mem::forget(shards),
         }
     }
 
-    /// The host, whichever it is.
-    fn host(&self) -> &Host<H, S> {
+    /// What is kept of all tenants. `NoMemory` comes where there is none for their names.
+    fn kept(&self) -> Result<Amount, NoMemory> {
         match &self.stepped {
-            Stepped::Host(host) => host,
-            Stepped::Book(book) => book.host(),
+            Stepped::Host(host) => kept_by(host),
+            Stepped::Book(book) => kept_by(book.host()),
+            Stepped::Shards(shards) => kept_by_all(shards),
         }
     }
 
     /// Answers each line, and tells how many there were. Where `explained` is a number, a book tells why each was
     /// refused, and so many lines came before the first.
-    pub(crate) fn answer_all<L: Log, R: BufRead, W: Write>(
+    pub(crate) fn answer_all<T: Threads + Sync, L: Log, R: BufRead, W: Write>(
         &mut self,
+        rt: &T,
         told: &L,
         alloc: Global,
         hosted: &Hosted<'_, H>,
@@ -100,6 +107,7 @@ impl<H: Handler, S: Store> Engine<H, S> {
                 driver,
                 before,
             ),
+            (Stepped::Shards(shards), _, _) => serve_shards(rt, alloc, reader, writer, shards),
         }
     }
 
@@ -112,7 +120,9 @@ impl<H: Handler, S: Store> Engine<H, S> {
         writer: &mut Judged<W>,
         asked: &RunWords<'_>,
     ) -> u8 {
-        tell_kept(told, self.host(), asked.verbosity);
+        if asked.verbosity == Verbosity::Verbose {
+            tell_amount(told, self.kept());
+        }
         if let Some(driver) = &self.driver {
             tell_driven(told, driver);
         }
@@ -132,4 +142,39 @@ impl<H: Handler, S: Store> Engine<H, S> {
         }
         audited
     }
+}
+
+impl<H: Handler + Copy + Send> Engine<H, MemoryStore> {
+    /// One of so many hosts, to which tenants are dealt: their steps are done side by side. `NoMemory` comes where
+    /// there is none for their list.
+    pub(crate) fn sharded(
+        alloc: Global,
+        handler: H,
+        cores: usize,
+    ) -> Result<Engine<H, MemoryStore>, NoMemory> {
+        let mut shards = Shards::new(alloc, Host::new(alloc, handler, MemoryStore::new(alloc)))?;
+        for _ in 1..cores {
+            let host = Host::new(alloc, handler, MemoryStore::new(alloc));
+            if shards.add(host).is_err() {
+                mem::forget(shards);
+                return Err(NoMemory);
+            }
+        }
+        Ok(Engine {
+            stepped: Stepped::Shards(shards),
+            driver: None,
+        })
+    }
+}
+
+/// What is kept of all tenants of some hosts.
+fn kept_by_all<H: Handler, S: Store>(shards: &Shards<H, S>) -> Result<Amount, NoMemory> {
+    let mut all = NOTHING;
+    for at in 0..shards.len() {
+        match shards.host(at) {
+            Some(host) => all = sum(all, kept_by(host)?),
+            None => break,
+        }
+    }
+    Ok(all)
 }

@@ -5,6 +5,7 @@ use crate::engine::Engine;
 use crate::hosted::Hosted;
 use crate::judged::Judged;
 use crate::no_zeros::NoZeros;
+use crate::run::{WIDE_BLOCK, no_buffers};
 use crate::skipping::Skipping;
 use durable::{Extent, Journaled};
 use files::{JournalFile, LastingFile, Standing};
@@ -12,11 +13,13 @@ use handler::Handler;
 use journal::DurableReplies;
 use lines::{Counted, ServeFault};
 use log::{Log, error, info};
+use model::NoMemory;
 use shared_log::MemoryStore;
 use std::alloc::Global;
 use std::fs::{File, Files};
 use std::io;
 use std::io::{BufReader, BufWriter, Read, Write};
+use std::thread::Threads;
 use terminal::{BLOCK, Plural};
 use words::RunWords;
 
@@ -56,30 +59,37 @@ type Output<W> = Counted<DurableReplies<Skipping<W>>>;
 
 /// Steps the lines of the journal, answers those that were asked for, and then answers each line of the input. Tells
 /// the status to end with, as `run_on` does; 1 too where the journal fails, or where a step finds no memory: its line
-/// stands unanswered in the journal.
+/// stands unanswered in the journal. Of several cores nothing that needs a book may be asked for, and no driver.
 pub fn run_journaled<
+    T: Threads + Sync,
     L: Log,
     F: Files<File = File>,
     R: Read + Drop,
     W: Write + Drop,
-    H: Handler + Copy,
+    H: Handler + Copy + Send,
 >(
+    rt: &T,
     told: &L,
     alloc: Global,
     hosted: Hosted<'_, H>,
     input: R,
     output: W,
     journal: JournalFile<'_, F>,
+    cores: usize,
     asked: &RunWords<'_>,
 ) -> u8 {
     let Ok(writer) = BufWriter::with_capacity(alloc, BLOCK, output) else {
-        error!(told; "there is no memory for the buffers: free some, and run again");
-        return 1;
+        return no_buffers(told);
     };
+    let Ok(made) = engine_on(alloc, hosted.handler, cores, asked) else {
+        return no_buffers(told);
+    };
+    let mut engine = made;
+    let block = if cores > 1 { WIDE_BLOCK } else { BLOCK };
     let skipped = skipped_of(asked);
     let mut writer = Counted::new(DurableReplies::new(Skipping::new(Judged::new(writer), skipped)));
-    let mut engine = Engine::new(alloc, hosted.handler, MemoryStore::new(alloc), asked);
     let gone_on = go_on(
+        rt,
         told,
         alloc,
         &hosted,
@@ -87,6 +97,7 @@ pub fn run_journaled<
         journal,
         &mut writer,
         &mut engine,
+        block,
         asked,
     );
     let status = match gone_on {
@@ -105,6 +116,19 @@ pub fn run_journaled<
     status
 }
 
+/// What answers the lines on so many cores. `NoMemory` comes where there is none for several hosts.
+fn engine_on<H: Handler + Copy + Send>(
+    alloc: Global,
+    handler: H,
+    cores: usize,
+    asked: &RunWords<'_>,
+) -> Result<Engine<H, MemoryStore>, NoMemory> {
+    if cores > 1 {
+        return Engine::sharded(alloc, handler, cores);
+    }
+    Ok(Engine::new(alloc, handler, MemoryStore::new(alloc), asked))
+}
+
 /// How many lines of what a driver writes whoever goes on has already.
 fn skipped_of(asked: &RunWords<'_>) -> u64 {
     if asked.drives {
@@ -115,7 +139,15 @@ fn skipped_of(asked: &RunWords<'_>) -> u64 {
 }
 
 /// Steps the lines of the journal, and then those of the input.
-fn go_on<L: Log, F: Files<File = File>, R: Read + Drop, W: Write, H: Handler>(
+fn go_on<
+    T: Threads + Sync,
+    L: Log,
+    F: Files<File = File>,
+    R: Read + Drop,
+    W: Write,
+    H: Handler + Send,
+>(
+    rt: &T,
     told: &L,
     alloc: Global,
     hosted: &Hosted<'_, H>,
@@ -123,22 +155,34 @@ fn go_on<L: Log, F: Files<File = File>, R: Read + Drop, W: Write, H: Handler>(
     journal: JournalFile<'_, F>,
     writer: &mut Output<W>,
     engine: &mut Engine<H, MemoryStore>,
+    block: usize,
     asked: &RunWords<'_>,
 ) -> Result<(), Ending> {
     let JournalFile { file, extent } = journal;
     let lines = extent.lines;
-    if let Err(fault) = step_again(told, alloc, hosted, file.file(), &extent, writer, engine) {
+    let again = step_again(
+        rt,
+        told,
+        alloc,
+        hosted,
+        file.file(),
+        &extent,
+        writer,
+        engine,
+        block,
+    );
+    if let Err(fault) = again {
         return Err(stop_at(Place::Again, fault, lines));
     }
     let fewer = writer.inner.inner.left;
     if fewer > 0 {
         return Err(Ending::Short { lines, fewer });
     }
-    let Some(mut reader) = journaling(alloc, input, file) else {
+    let Some(mut reader) = journaling(alloc, input, file, block) else {
         return Err(stop_at(Place::Input, ServeFault::NoMemory, lines));
     };
     let explained = asked.explain.then_some(lines);
-    match engine.answer_all(told, alloc, hosted, &mut reader, writer, explained) {
+    match engine.answer_all(rt, told, alloc, hosted, &mut reader, writer, explained) {
         Ok(count) => {
             info!(told; "answered {}, behind {} of the journal", Plural(count, "line"), Plural(lines, "line"));
             Ok(())
@@ -171,7 +215,8 @@ fn stop_at_input<F: Files<File = File>, R>(
 
 /// Steps each line of the journal as `serve` does: the replies to those before the one that is asked for
 /// go nowhere, and the others to the writer.
-fn step_again<L: Log, W: Write, H: Handler>(
+fn step_again<T: Threads + Sync, L: Log, W: Write, H: Handler + Send>(
+    rt: &T,
     told: &L,
     alloc: Global,
     hosted: &Hosted<'_, H>,
@@ -179,21 +224,22 @@ fn step_again<L: Log, W: Write, H: Handler>(
     extent: &Extent,
     writer: &mut Output<W>,
     engine: &mut Engine<H, MemoryStore>,
+    block: usize,
 ) -> Result<(), ServeFault> {
-    let Ok(mut reader) = BufReader::with_capacity(alloc, BLOCK, file) else {
+    let Ok(mut reader) = BufReader::with_capacity(alloc, block, file) else {
         return Err(ServeFault::NoMemory);
     };
     let mut nowhere = Counted::new(DurableReplies::new(io::sink()));
     let before = reader.by_ref().take(extent.before);
     let mut before = Counted::new(before);
-    let seen = engine.answer_all(told, alloc, hosted, &mut before, &mut nowhere, None);
+    let seen = engine.answer_all(rt, told, alloc, hosted, &mut before, &mut nowhere, None);
     if seen.is_err() {
         writer.inner.is_refused = nowhere.inner.is_refused;
     }
     seen?;
     let behind = reader.take(extent.whole.saturating_sub(extent.before));
     let mut behind = Counted::new(behind);
-    engine.answer_all(told, alloc, hosted, &mut behind, writer, None)?;
+    engine.answer_all(rt, told, alloc, hosted, &mut behind, writer, None)?;
     Ok(())
 }
 
@@ -202,11 +248,12 @@ fn journaling<'a, F: Files<File = File>, R: Read + Drop>(
     alloc: Global,
     input: R,
     file: LastingFile<'a, F>,
+    block: usize,
 ) -> Option<Input<'a, F, R>> {
-    let Ok(journaled) = Journaled::new(alloc, BLOCK, NoZeros::new(input), file) else {
+    let Ok(journaled) = Journaled::new(alloc, block, NoZeros::new(input), file) else {
         return None;
     };
-    match BufReader::with_capacity(alloc, BLOCK, journaled) {
+    match BufReader::with_capacity(alloc, block, journaled) {
         Ok(reader) => Some(Counted::new(reader)),
         Err(_) => None,
     }

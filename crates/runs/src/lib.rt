@@ -1,10 +1,10 @@
 //! `run` and `drive`, for any handler: step lines in, reply lines out, and of `drive` what was released.
 //!
-//! - `run_on` (`run`): reads and writes by blocks;
+//! - `run_on` (`run`): reads and writes by blocks; `run_on_cores`: so on several cores;
 //! - `run_journaled` (`journaled_run`): the same behind a journal, thin over `durable` and `journal`, which carry
 //!   their own theorems;
-//! - `Engine`: a host, or a book where the past is asked for, thin over `serve_host` and `serve` of `lines`, and over
-//!   `drive_host` and `drive` of `driver`, which carry the theorems;
+//! - `Engine`: a host, several of them, or a book where the past is asked for, thin over `serve_host` and `serve` of
+//!   `lines`, `serve_shards` of `shards`, and `drive_host` and `drive` of `driver`, which carry the theorems;
 //! - `explained`: each refusal with its reason, thin over `serve` or `drive` for each line, and over `reasons`;
 //! - `waits`: the letters of a driver that wait, and what it did;
 //! - `Hosted`: a handler, and the names of the kinds that it knows;
@@ -15,7 +15,7 @@
 //!
 //! ```
 //! let store = MemoryStore::new(alloc);
-//! run_on(told, alloc, Hosted { handler, kinds: program.kinds }, input, output, store, &run)
+//! run_on(rt, told, alloc, Hosted { handler, kinds: program.kinds }, input, output, store, &run)
 //! ```
 #![tactic(auto)]
 
@@ -31,4 +31,4 @@ mod waits;
 
 pub use hosted::Hosted;
 pub use journaled_run::run_journaled;
-pub use run::run_on;
+pub use run::{run_on, run_on_cores};

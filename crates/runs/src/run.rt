@@ -11,14 +11,26 @@ use log::{Log, error, info};
 use shared_log::Store;
 use std::alloc::Global;
 use std::io::{BufReader, BufWriter, Read, Write};
+use std::thread::Threads;
 use terminal::{BLOCK, Plural};
 use words::RunWords;
+
+/// How much of the input is read at once where several cores step it: their threads begin once for each block.
+pub(crate) const WIDE_BLOCK: usize = 1_048_576;
 
 /// Answers each line of the input, over a store that acknowledged nothing yet, and tells the status to end with: 0
 /// where all lines are answered, 1 after a fault of input, output or memory. Where it is asked for, each refusal is
 /// told with its reason, and each open tenant is audited after the last line; 1 too where an audit doesn't say yes,
 /// and else 3 where a line was refused, if that is asked for.
-pub fn run_on<L: Log, R: Read + Drop, W: Write + Drop, H: Handler + Copy, S: Store>(
+pub fn run_on<
+    T: Threads + Sync,
+    L: Log,
+    R: Read + Drop,
+    W: Write + Drop,
+    H: Handler + Copy + Send,
+    S: Store,
+>(
+    rt: &T,
     told: &L,
     alloc: Global,
     hosted: Hosted<'_, H>,
@@ -29,22 +41,66 @@ pub fn run_on<L: Log, R: Read + Drop, W: Write + Drop, H: Handler + Copy, S: Sto
 ) -> u8
     requires { S.log store ≡ [] }
 {
+    let engine = Engine::new(alloc, hosted.handler, store, asked);
+    run_by(
+        rt, told, alloc, &hosted, input, output, engine, BLOCK, asked,
+    )
+}
+
+/// The same on so many cores, over stores in memory: tenants are dealt to as many hosts. Nothing that needs a book may
+/// be asked for: no audit, no reasons, and no driver.
+pub fn run_on_cores<
+    T: Threads + Sync,
+    L: Log,
+    R: Read + Drop,
+    W: Write + Drop,
+    H: Handler + Copy + Send,
+>(
+    rt: &T,
+    told: &L,
+    alloc: Global,
+    hosted: Hosted<'_, H>,
+    input: R,
+    output: W,
+    cores: usize,
+    asked: &RunWords<'_>,
+) -> u8 {
+    let Ok(engine) = Engine::sharded(alloc, hosted.handler, cores) else {
+        return no_buffers(told);
+    };
+    run_by(
+        rt, told, alloc, &hosted, input, output, engine, WIDE_BLOCK, asked,
+    )
+}
+
+/// Answers each line of the input by an engine, reading so many bytes at once. Tells the status to end with.
+fn run_by<T: Threads + Sync, L: Log, R: Read + Drop, W: Write + Drop, H: Handler + Send, S: Store>(
+    rt: &T,
+    told: &L,
+    alloc: Global,
+    hosted: &Hosted<'_, H>,
+    input: R,
+    output: W,
+    engine: Engine<H, S>,
+    block: usize,
+    asked: &RunWords<'_>,
+) -> u8 {
+    let mut engine = engine;
     let (Ok(reader), Ok(writer)) = (
-        BufReader::with_capacity(alloc, BLOCK, input),
+        BufReader::with_capacity(alloc, block, input),
         BufWriter::with_capacity(alloc, BLOCK, output),
     ) else {
-        error!(told; "there is no memory for the buffers: free some, and run again");
-        return 1;
+        engine.forget();
+        return no_buffers(told);
     };
     let mut reader = Counted::new(reader);
     let mut writer = Counted::new(Judged::new(writer));
-    let mut engine = Engine::new(alloc, hosted.handler, store, asked);
     let explained = asked.explain.then_some(0);
-    let answered = engine.answer_all(told, alloc, &hosted, &mut reader, &mut writer, explained);
+    let answered = engine.answer_all(rt, told, alloc, hosted, &mut reader, &mut writer, explained);
     let status = match answered {
         Ok(count) => {
             info!(told; "answered {}", Plural(count, "line"));
-            engine.end_well(told, alloc, &hosted, &mut writer.inner, asked)
+            engine.end_well(told, alloc, hosted, &mut writer.inner, asked)
         }
         Err(fault) => {
             // What was answered goes out, as far as it can.
@@ -55,6 +111,12 @@ pub fn run_on<L: Log, R: Read + Drop, W: Write + Drop, H: Handler + Copy, S: Sto
     };
     engine.forget();
     status
+}
+
+/// Says that there is no memory to begin with, and tells the status to end with.
+pub(crate) fn no_buffers<L: Log>(told: &L) -> u8 {
+    error!(told; "there is no memory for the buffers: free some, and run again");
+    1
 }
 
 /// Says what failed, and what to do.

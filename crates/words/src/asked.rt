@@ -48,6 +48,8 @@ pub struct RunWords<'a> {
     pub accept_upgrade: bool,
     /// After how many seconds each it is told how far the run is.
     pub report: Option<u64>,
+    /// On how many cores tenants are stepped side by side; none: as many as there are, where that may be.
+    pub cores: Option<u64>,
     /// How much is told.
     pub verbosity: Verbosity,
 }

@@ -78,6 +78,12 @@ const NUMBER: &str = "number";
 /// The option that has after how many seconds each progress is told.
 const REPORT: &str = "report";
 
+/// The option that has on how many cores tenants are stepped.
+const CORES: &str = "cores";
+
+/// On how many cores tenants are stepped at most.
+const MAX_CORES: u64 = 256;
+
 /// What `--from` asks of `run`.
 const RUN_FROM: &str = "Writes the replies to the lines of the journal from N on (from 0)";
 
@@ -251,6 +257,15 @@ fn report_option<'a>(alloc: Global) -> Arg<'a> {
         )
 }
 
+/// The option of `run` that has on how many cores tenants are stepped.
+fn cores_option<'a>(alloc: Global) -> Arg<'a> {
+    whole_number(alloc, CORES)
+        .value_parser(value_parser!(u64).range(1..=MAX_CORES))
+        .help(
+            "Steps tenants on N cores side by side; else on all, but on one where input or standard error is a terminal, or beside --log, --audit or --explain",
+        )
+}
+
 /// The flag that asks for another status where a line was refused.
 fn strict_flag<'a>(alloc: Global) -> Arg<'a> {
     Arg::new(alloc, STRICT)
@@ -283,6 +298,7 @@ fn run_command<'a>(alloc: Global, pages: &'a Pages) -> Result<Command<'a>, Error
     let run = with(Ok(run), Ok(log_option(alloc)));
     let run = with(run, run_journal_option(alloc));
     let run = with(run, from_option(alloc, RUN_FROM));
+    let run = with(run, Ok(cores_option(alloc)));
     with_running(alloc, pages, run)
 }
 
@@ -512,11 +528,12 @@ fn files_of<'a>(alloc: Global, feeds: &ArgMatches<'a>) -> Result<Vec<&'a str>, E
 fn run_words<'a>(pages: &Pages, run: &ArgMatches<'a>) -> RunWords<'a> {
     RunWords {
         log: run.get_str(LOG),
+        cores: run.get_one::<u64>(CORES),
         ..running_words(pages, run, false)
     }
 }
 
-/// What `run` or `drive` is to do, but for the log.
+/// What `run` or `drive` is to do, but for the log and the cores.
 fn running_words<'a>(pages: &Pages, run: &ArgMatches<'a>, drives: bool) -> RunWords<'a> {
     RunWords {
         drives,
@@ -530,6 +547,7 @@ fn running_words<'a>(pages: &Pages, run: &ArgMatches<'a>, drives: bool) -> RunWo
         adopt: run.get_flag(ADOPT),
         accept_upgrade: run.get_flag(ACCEPT_UPGRADE),
         report: run.get_one::<u64>(REPORT),
+        cores: None,
         verbosity: verbosity_of(run),
     }
 }
