@@ -28,7 +28,8 @@ def build_wheel(wheel_directory, config_settings=None, metadata_directory=None):
     meta += [("Summary", said("description")), ("Requires-Python", said("requires-python"))]
     files = {
         f"{name}.dist-info/METADATA": "".join(f"{key}: {value}\n" for key, value in meta).encode(),
-        f"{name}.dist-info/WHEEL": b"Wheel-Version: 1.0\nGenerator: make_wheel\nRoot-Is-Purelib: true\nTag: py3-none-any\n",
+        f"{name}.dist-info/WHEEL": b"Wheel-Version: 1.0\nGenerator: make_wheel\nRoot-Is-Purelib: true\n"
+        b"Tag: py3-none-any\n",
     }
     for module in MODULES:
         with open(os.path.join(HERE, module), "rb") as file:

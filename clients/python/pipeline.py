@@ -33,5 +33,6 @@ if __name__ == "__main__":
     if len(sys.argv) not in (2, 3) or not all(word.isdecimal() for word in sys.argv[2:]):
         sys.exit(__doc__)
     print(
-        f"each of {main(sys.argv[1], int(sys.argv[-1]) if sys.argv[2:] else 0)} texts came out of each stage once, in order"
+        f"each of {main(sys.argv[1], int(sys.argv[-1]) if sys.argv[2:] else 0)} texts came out of each stage once, "
+        "in order"
     )

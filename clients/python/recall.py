@@ -12,11 +12,11 @@
 may raise one of these:
 
 - `Refused`: the step was refused, and changed nothing. Its `name` says why (docs/FORMATS.md lists the names).
-- `Ended`: the program has ended. It carries its status, what it wrote to standard error, and the replies that the call had
-  read; a step of the call that has no reply may have been done or not.
-- `Broken`: a call before this one was interrupted (by Ctrl-C, by a signal's handler, by a time limit) after it had begun to
-  write and before it had read its replies. What the host would read next is the reply to that call, so it does no call any
-  more: close it, and start another. What the interrupted call asked for may have been done or not.
+- `Ended`: the program has ended. It carries its status, what it wrote to standard error, and the replies that the call
+  had read; a step of the call that has no reply may have been done or not.
+- `Broken`: a call before this one was interrupted (by Ctrl-C, by a signal's handler, by a time limit) after it had
+  begun to write and before it had read its replies. What the host would read next is the reply to that call, so it does
+  no call any more: close it, and start another. What the interrupted call asked for may have been done or not.
 - `TypeError`, `ValueError` or `RecursionError`: a step that isn't JSON. Nothing was written, and the host is as it was.
 
 The outputs of a `release` that was interrupted have left, and aren't given again. Who can't lose any runs a journal

@@ -275,8 +275,8 @@ class DurableFlow:
 class DurableHost(Host):
     """A `recall.Host` over this journal, with its calls: each step by hand, of `program` with `run` and `words`.
 
-    Each reply is counted in the SQLite file `outputs`. Those of the calls within `with host.transaction()` are counted at
-    its end, together with what was done by `host.db`; of any other call at its return. Where the program ends, it is
+    Each reply is counted in the SQLite file `outputs`. Those of the calls within `with host.transaction()` are counted
+    at its end, together with what was done by `host.db`; of any other call at its return. Where the program ends, it is
     started again, and what the journal hasn't is given again: the call doesn't notice. Where this process ends, or a
     transaction is left by an exception, the replies that weren't counted are given by `missed`, before any other
     call."""

@@ -57,7 +57,8 @@ while [ $# -gt 0 ]; do
     esac
     shift
 done
-[ -n "$journal" ] && [ -n "$with" ] || fail "name the journal by --journal FILE, and the other program by --with PROGRAM"
+[ -n "$journal" ] && [ -n "$with" ] ||
+    fail "name the journal by --journal FILE, and the other program by --with PROGRAM"
 case $journal in
 -*) journal=./$journal ;;
 esac

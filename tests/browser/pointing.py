@@ -93,7 +93,8 @@ def try_lit(tried, one, event, what):
         map(
             tuple,
             tried.value(
-                "letters.filter((each) => each.element.classList.contains('past')).map((each) => [each.letter, each.to])"
+                "letters.filter((each) => each.element.classList.contains('past')).map((each) => [each.letter, "
+                "each.to])"
             ),
         )
     )
@@ -278,7 +279,8 @@ def try_hostile(tried):
         shown = read_back(text)
         tried.check(f"{what}: a script ran", tried.value("typeof hacked") == "undefined")
         notes = tried.value(
-            "[...drawn, ...letters, ...outputs].filter((each) => each.id !== 'i0-0-0' && each.id !== 'i1-0-0').map(noteOf)"
+            "[...drawn, ...letters, ...outputs].filter((each) => each.id !== 'i0-0-0' && each.id !== "
+            "'i1-0-0').map(noteOf)"
         )
         tried.check(
             f"{what}: {notes}",
@@ -341,7 +343,8 @@ def try_keys(tried):
     tried.check(
         "labels",
         tried.value(
-            "[...document.querySelectorAll('button, input')].every((each) => each.getAttribute('aria-label') || each.textContent || each.labels.length)"
+            "[...document.querySelectorAll('button, input')].every((each) => each.getAttribute('aria-label') || "
+            "each.textContent || each.labels.length)"
         ),
     )
     tried.is_quiet()

@@ -110,7 +110,8 @@ LINES = [
 # Each form with its keys in another order, blanks and escapes: lines and replies.
 UNUSUAL = [
     (
-        b' {"optimism":16,"quota":{"letters":9,"volatile":8,"held":7},"units" : ["echo","tee"],"tenant":"a-9","do":"open"} ',
+        b' {"optimism":16,"quota":{"letters":9,"volatile":8,"held":7},"units" : '
+        b'["echo","tee"],"tenant":"a-9","do":"open"} ',
         b'{"ok":"open","units":2}',
     ),
     (b'{"kind":"r\\u0065lay","tenant":"a-9","do":"join"}', b'{"ok":"join","unit":2}'),
@@ -131,7 +132,8 @@ UNUSUAL = [
     (b'{"unit":0,"tenant":"a-9","do":"release"}', '{"ok":"released","outputs":["x\\né\\""]}'.encode()),
     (
         b'{"unit":0,"tenant":"a\\u002d9","do":"status"}',
-        b'{"at":[0,1],"held":0,"known":1,"ok":"status","outside":1,"released":1,"rows":1,"stable":1,"up":true,"volatile":0}',
+        b'{"at":[0,1],"held":0,"known":1,"ok":"status","outside":1,"released":1,"rows":1,"stable":1,"up":true,'
+        b'"volatile":0}',
     ),
 ]
 

@@ -22,7 +22,8 @@ UNSEEN = {
     "a standard stream is closed, and nothing can stand in its place: {error}": "the null device is there",
     "can't lock the journal {path:?}: {error}": "the system's locks don't fail",
     "the journal {path:?} was replaced while it was opened": "it takes a moment that can't be met",
-    "waiting for step lines from the terminal, up to Ctrl-D: `{name} {command} --help` lists them": "tests/words has a terminal",
+    "waiting for step lines from the terminal, up to Ctrl-D: `{name} {command} --help` lists them":
+        "tests/words has a terminal",
     "there are too many feeds: name at most {MAX_FEEDS} files": "the words take no more",
 }
 

@@ -131,7 +131,8 @@ def main():
                 )
                 if ran.returncode or collected + ran.stdout != wanted:
                     sys.exit(
-                        f"device: input {seed}: the end: status {ran.returncode}, {ran.stderr!r}, {(collected + ran.stdout).count(10)} replies"
+                        f"device: input {seed}: the end: status {ran.returncode}, {ran.stderr!r}, "
+                        f"{(collected + ran.stdout).count(10)} replies"
                     )
                 for name in os.listdir(disk.at):
                     if name.startswith("journal"):

@@ -185,7 +185,10 @@ def built_in_rust(host):
     sysroot, version = (made(["rustc", *words]).strip() for words in (["--print", "sysroot"], ["--version"]))
     target = "riscv32im-unknown-none-elf"
     if not os.path.isdir(os.path.join(sysroot, "lib", "rustlib", target)):
-        return f"skipped: the target is missing: rustup target add {target} (examples/programs/build makes it of Debian's package rust-web-src, in a minute)"
+        return (
+            f"skipped: the target is missing: rustup target add {target} (examples/programs/build makes it of Debian's "
+            "package rust-web-src, in a minute)"
+        )
     with tempfile.TemporaryDirectory() as room:
         made([os.path.join(SDK, "rust", "build.sh"), os.path.join(EXAMPLES, "rust"), room])
         for name in NAMES:

@@ -14,7 +14,8 @@
 //!
 //! ```
 //! /// Lets the first output of a hold out, if it is firm, and tells whether it did. Nothing is lost where it can't
-//! leave. pub fn release_first(hold: &mut Hold, outlet: &mut Outlet, view: &StableView) -> bool
+//! /// leave.
+//! pub fn release_first(hold: &mut Hold, outlet: &mut Outlet, view: &StableView) -> bool
 //!     requires unit { hold.old.unit < length outlet.old }
 //!     requires front { hold.old.unit < length view.now.frontiers.now }
 //!     ensures { IsTrue result → length outlet.new ≡ length outlet.old }

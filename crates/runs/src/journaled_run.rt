@@ -178,7 +178,7 @@ fn go_on<
     if fewer > 0 {
         return Err(Ending::Short { lines, fewer });
     }
-    let Some(mut reader) = journaling(alloc, input, file, block) else {
+    let Some(mut reader) = journaling(alloc, input, file) else {
         return Err(stop_at(Place::Input, ServeFault::NoMemory, lines));
     };
     let explained = asked.explain.then_some(lines);
@@ -248,12 +248,11 @@ fn journaling<'a, F: Files<File = File>, R: Read + Drop>(
     alloc: Global,
     input: R,
     file: LastingFile<'a, F>,
-    block: usize,
 ) -> Option<Input<'a, F, R>> {
-    let Ok(journaled) = Journaled::new(alloc, block, NoZeros::new(input), file) else {
+    let Ok(journaled) = Journaled::new(alloc, BLOCK, NoZeros::new(input), file) else {
         return None;
     };
-    match BufReader::with_capacity(alloc, block, journaled) {
+    match BufReader::with_capacity(alloc, BLOCK, journaled) {
         Ok(reader) => Some(Counted::new(reader)),
         Err(_) => None,
     }

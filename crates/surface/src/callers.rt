@@ -103,7 +103,8 @@ pub fn may_be_taken(vector: &DepVector, table: &StartTable, known: usize) -> boo
     !is_blind(vector, table, known) && !is_orphan(vector, table, known)
 }
 
-/// Lets the first output of a hold out, if it is firm, and tells whether it did. Nothing is lost where it can't leave.
+/// Lets the first output of a hold out, if it is firm, and tells whether it did. Nothing is lost where it can't
+/// leave.
 pub fn release_first(hold: &mut Hold, outlet: &mut Outlet, view: &StableView) -> bool
     requires unit { hold.old.unit < length outlet.old }
     requires front { hold.old.unit < length view.now.frontiers.now }

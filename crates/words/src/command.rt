@@ -82,7 +82,7 @@ const REPORT: &str = "report";
 const CORES: &str = "cores";
 
 /// On how many cores tenants are stepped at most.
-const MAX_CORES: u64 = 256;
+const MAX_CORES: i64 = 256;
 
 /// What `--from` asks of `run`.
 const RUN_FROM: &str = "Writes the replies to the lines of the journal from N on (from 0)";
