@@ -191,6 +191,7 @@ def streams(runs):
     runs.run(LINES, b"run", b"\xff")
     runs.run(LINES, "feeds", "given", threads=1)
     runs.run(LINES, "run", "--report", "1", threads=1)
+    runs.run(LINES, "run", "--audit", "--cores", "2")
 
 
 def driven(runs):
@@ -223,6 +224,7 @@ def images(runs):
 def memory(runs):
     """Each request for memory refused in turn."""
     runs.refused(LINES, "run")
+    runs.refused(LINES, "run", "--cores", "1")
     runs.refused(LINES, "run", "--audit", "--verbose")
     runs.refused(LINES, "draw")
     runs.refused(LINES, "draw", "--html")
