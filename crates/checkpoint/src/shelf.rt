@@ -65,7 +65,8 @@ impl<S: Drop> Shelf<S> {
         is_base_at(&self.base, index) || is_some_at(self.others.as_slice(), index)
     }
 
-    /// Whether no snapshot is above the index.
+    /// Whether no snapshot is above the index. For writers of another host: the tenant puts on what it knows to be
+    /// the newest.
     pub fn is_top(&self, index: u32) -> bool
         ensures exact { result ≡ tops self.now index }
         ensures top { IsTrue result → IsTop self.now index }

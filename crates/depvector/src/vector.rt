@@ -164,6 +164,7 @@ impl DepVector {
     pub fn into_shared(self, alloc: Global) -> Result<SharedVector, NoMemory>
         ensures { IfOk result (λ v. v ≡ self) }
     {
+        // Brings in that a vector has 256 marks at most.
         let _units = self.len();
         if self.len() <= MAX_INLINE_MARKS {
             let marks = Marks::of(alloc, self.as_slice())?;

@@ -9,7 +9,8 @@ use depvector::DepVector;
 use incarnation::StartTable;
 
 /// The first place of a path whose vector the first `known` rows make an orphan. Takes no memory, and
-/// a constant time for each entry of each vector.
+/// a constant time for each entry of each vector. For writers of another host: a tenant's path is a
+/// `rollback::RecoveryUnit`, whose `first_orphan` looks at fewer of its vectors.
 pub fn first_orphan(path: &[DepVector], table: &StartTable, known: usize) -> Option<u32>
     requires { length path.now < 2 ^ 32 }
     ensures { result ≡ position (is_orphan_by (take known table.now)) path.now }

@@ -9,7 +9,7 @@ use incarnation::StartTable;
 use model::{Mark, Unit};
 
 /// Whether some entry's incarnation has no row among the first `known` ones. Takes no memory, and a
-/// constant time for each entry.
+/// constant time for each entry. For writers of another host: the tenant asks [`any_blind`] of a letter's marks.
 pub fn is_blind(vector: &DepVector, table: &StartTable, known: usize) -> bool
     ensures { result ≡ is_blind_by (take known table.now) vector.now }
 {
@@ -67,7 +67,8 @@ fn is_stable(table: &StartTable, stable_lengths: &[u64], unit: usize, mark: Mark
 }
 
 /// How many units have an entry that is lost, or that does not stand within the unit's stable length.
-/// There is a stable length for each entry. Takes no memory, and a constant time for each entry.
+/// There is a stable length for each entry. Takes no memory, and a constant time for each entry. For writers of
+/// another host: the tenant asks [`count_unstable`] of a letter's marks.
 pub fn unstable_units(vector: &DepVector, table: &StartTable, stable_lengths: &[u64]) -> u32
     requires { length vector.now ≤ length stable_lengths.now }
     ensures { result ≡ unstable_count table.now stable_lengths.now vector.now }

@@ -54,7 +54,8 @@ impl Hold {
         self.outputs.len()
     }
 
-    /// Holds the outputs of one interval, behind those that are held.
+    /// Holds the outputs of one interval, behind those that are held. For writers of another host: the tenant uses
+    /// `reserve` and `add_reserved`.
     ///
     /// # Errors
     ///

@@ -178,7 +178,7 @@ impl<H: Handler> RecoveryUnit<H> {
         self.volatile.at(place)
     }
 
-    /// Whether the interval of this index has a snapshot.
+    /// Whether the interval of this index has a snapshot. For writers of another host: the tenant doesn't ask.
     pub fn has_snapshot(&self, index: u32) -> bool
         ensures { result ≡ has_index self.now.shelf index }
     {
@@ -367,7 +367,8 @@ impl<H: Handler> RecoveryUnit<H> {
     /// Goes back to the target, the index of the last interval that is kept, by replay from the nearest
     /// snapshot, in a tenant that has `width` units now: first of these records, the stable ones between
     /// snapshot and target, and then of the unit's own up to the target, which are still volatile. The
-    /// unit is up then.
+    /// unit is up then. For writers of another host: the tenant makes the state by `rebuilt` and enters it by
+    /// `return_to`, so that what finds no memory comes before anything changes.
     ///
     /// # Errors
     ///

@@ -69,7 +69,8 @@ impl Sessions {
         }
     }
 
-    /// Whether a receipt of this number is the next one from the source. Takes no memory.
+    /// Whether a receipt of this number is the next one from the source. Takes no memory. For writers of another host:
+    /// the tenant compares the number with `taken`, among its other tests.
     pub fn test(&self, source: Source, number: u64) -> Arrival
         ensures { result ≡ arrival_of (taken_from self.now source) number }
     {

@@ -136,6 +136,7 @@ impl<H: Handler> Tenant<H> {
         ensures few { IfOk result (λ r. length r.vector ≤ 256) }
     {
         let mark = mark_upon(&self.table, unit, member.unit_state());
+        // Brings in that a vector has 256 marks at most.
         let _few = vector.as_slice();
         record_upon(
             name,

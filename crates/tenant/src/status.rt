@@ -48,7 +48,8 @@ impl Standing {
 }
 
 impl<H: Handler> Tenant<H> {
-    /// What a unit is at, as the step `status` tells it. Takes no memory.
+    /// What a unit is at, as the step `status` tells it. Takes no memory. For writers of another host: a book gives
+    /// the step.
     pub fn status(&self, unit: Unit) -> Reply
         ensures { (name : List ℕ) (w : World) (records : List (Option Record))
             → Stands H.meaning name self.now w records → result ≡ (status_of H.meaning w unit).reply }
