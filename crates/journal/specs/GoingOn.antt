@@ -43,9 +43,8 @@ Repeats M =
     (lines : List (List ℕ)) (one other : List Reply) (new new' : Ledger)
     → IsRun M lines one new → IsRun M lines other new' → one ≡ other
 
--- Lines are cut in two. A new book that steps the first and then the second, and a new book that steps the whole: the
--- replies of
--- the one to the second are those of the other to the whole without those to the first.
+-- Lines are cut in two. A new book that steps the first and then the second, and a new book that steps the whole:
+-- the replies of the one to the second are those of the other to the whole without those to the first.
 abbrev pub GoesOn : {S : Type 0} → Meaning S → Type 0
 GoesOn M =
     (first second : List (List ℕ)) (start mid new new' : Ledger) (seen missed all : List Reply)

@@ -14,11 +14,9 @@ use Rattle.tenant.specs.Kept.{TenantState, Member}
 abbrev pub gives_up_letter : World → ℕ → MemberOf → Shelf → ℕ × Message → Bool
 gives_up_letter w u m s l = (l.1.receiver == u) && received_for_good w m s l.0
 
--- These are the lengths for a unit of the world that has these checkpoints: of its path from the base on, of what of it
--- is
--- not stable, of the outputs that it holds, of its rows, of the letters to it whose texts are given up, and of the
--- outputs
--- that it released, of whose texts so many may be given up.
+-- These are the lengths for a unit of the world that has these checkpoints: of its path from the base on, of what of
+-- it is not stable, of the outputs that it holds, of its rows, of the letters to it whose texts are given up, and of
+-- the outputs that it released, of whose texts so many may be given up.
 pub record IsFootprint {S : Type 0} (M : Meaning S) (w : World) (u : ℕ) (m : MemberOf) (s : Shelf)
     (f : Footprint) : Type 0 where
   pub intervals : f.intervals ≡ length m.path - s.base
