@@ -38,6 +38,11 @@ pub asked_up : {S : Type 0} (r : Recovering S) (source : Source) (text : List �
 asked_up r source text input e =
     mapped_from (λ p. record { seat = r.seat; state = p.state; source = source; text = text }) r.progress input e
 
+-- so its progress is there
+pub asked_is_up : {S : Type 0} (r : Recovering S) (source : Source) (text : List ℕ) (input : Input S)
+    → asking r source text ≡ Some input → is_some r.progress ≡ true
+asked_is_up r source text input e = ap is_some (asked_up r source text input e).1
+
 -- what is asked for passed the tests before the turn
 pub asking_at : {S : Type 0} (t : TenantState S)
     (u : ℕ) (m n : Member S) (refusal : Member S → Option Refusal) (source : Source) (text : List ℕ)

@@ -238,7 +238,8 @@ module _ {S : Type 0} (M : Meaning S) (name : List ℕ)
     -- ---- it goes back
 
     module _ (target : ℕ) (it : IsTarget r target)
-        (tailed : OrphansAreTail t.table r.intervals → target + 1 ≡ kept_length t.table r) where
+        (tailed : OrphansAreTail t.table r.intervals → r.base < kept_length t.table r
+        → target + 1 ≡ kept_length t.table r) where
       ready : IsReady r k x.unit
       ready = units_are_ready M name k w whole st u x.unit x.at r x.is.kept x.is.seen
 
@@ -256,8 +257,16 @@ module _ {S : Type 0} (M : Meaning S) (name : List ℕ)
           go None h = sym (h ∙ long)
           go (Some first) h = sym h
 
+      -- its base is kept
+      based : r.base < kept_length t.table r
+      based =
+          let low = ready.target.base in
+          let one = ready.last in
+          let all = kept_is in
+          subst (λ rows. r.base < kept_length rows r) is.table (omega (arith, low, one, all))
+
       pub last : target + 1 ≡ kept_places k x.unit
-      last = tailed (subst (λ (rows : List Row). OrphansAreTail rows r.intervals) is.table ready.tail)
+      last = tailed (subst (λ (rows : List Row). OrphansAreTail rows r.intervals) is.table ready.tail) based
           ∙ ap (λ rows. kept_length rows r) (sym is.table) ∙ kept_is
 
       -- the path ends there

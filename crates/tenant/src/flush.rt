@@ -139,7 +139,7 @@ fn mark_stable<H: Handler>(
 }
 
 /// The unit at this place.
-pub(crate) fn member_at<H: Handler>(members: &[Member<H>], at: usize) -> Option<&Member<H>>
+fn member_at<H: Handler>(members: &[Member<H>], at: usize) -> Option<&Member<H>>
     ensures { MatchOption result (slice_get members.now at ≡ None) (λ m. slice_get members.now at ≡ Some m.now) }
 {
     members.get(at)

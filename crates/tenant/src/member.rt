@@ -270,22 +270,17 @@ impl<H: Handler> Member<H> {
         self.unit_state.last_index()
     }
 
-    /// The index of the last interval before its first orphan, by all rows. None is left that is kept where the first
-    /// orphan is the base, which is firm and so no orphan.
-    pub(crate) fn rollback_target(&self, table: &StartTable) -> Option<u32>
-        ensures target { IfSome result (λ t. IsTarget self.now.unit_state t) }
-        ensures kept { IfSome result (λ t. OrphansAreTail table.now self.now.unit_state.intervals
-            → t + 1 ≡ kept_length table.now self.now.unit_state) }
+    /// The index of the last interval before its first orphan, by all rows, and never one before the base. The base
+    /// itself is firm, and so no orphan, where the tenant stands for a world.
+    pub(crate) fn rollback_target(&self, table: &StartTable) -> u32
+        ensures target { IsTarget self.now.unit_state result }
+        ensures kept { OrphansAreTail table.now self.now.unit_state.intervals
+            → self.now.unit_state.base < kept_length table.now self.now.unit_state
+            → result + 1 ≡ kept_length table.now self.now.unit_state }
     {
         match self.unit_state.first_orphan(table) {
-            None => Some(self.unit_state.last_index()),
-            Some(first) => {
-                if self.unit_state.base() < first {
-                    Some(first - 1)
-                } else {
-                    None
-                }
-            }
+            None => self.unit_state.last_index(),
+            Some(first) => first.saturating_sub(1).max(self.unit_state.base()),
         }
     }
 

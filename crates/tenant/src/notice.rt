@@ -86,10 +86,7 @@ impl<H: Handler> Tenant<H> {
             Ok(_) => {}
             Err(refusal) => return Ok(Answer::refused(refusal)),
         }
-        let target = match self.rollback_target(unit) {
-            Some(target) => target,
-            None => return Err(NoMemory),
-        };
+        let target = self.rollback_target(unit);
         if self.is_last(unit, target) {
             self.learn_rows(unit);
             return Ok(Answer::from_pair(

@@ -1,7 +1,8 @@
 //! A receipt, once its turn is worked: what it adds and answers.
 
 ghost use Rattle.std.specs.Prelude.{◌≡◌, ◌+◌, ◌<◌, ◌≤◌, ◌^◌, ◌++◌, IfOk, IfErr, None, OnErr, Some, length, slice_get};
-ghost use Rattle.std.specs.Prelude.{slice_set};
+ghost use Rattle.std.specs.Prelude.{slice_set, true};
+ghost use Rattle.std.specs.Option.{is_some};
 ghost use Rattle.model.specs.Lists.{numbers_from};
 ghost use Rattle.model.specs.Nodes.{sends_within};
 ghost use Rattle.model.specs.declared.refusals.Refusal.TheVariants.{Down};
@@ -96,7 +97,7 @@ impl<H: Handler> Tenant<H> {
         self.members.len()
     }
 
-    /// The vector of the interval that a receipt makes. A tenant has 16 units at most.
+    /// The vector of the interval that a receipt of a unit that is there makes.
     fn vector_upon(
         &self,
         alloc: Global,
@@ -104,7 +105,8 @@ impl<H: Handler> Tenant<H> {
         member: &Member<H>,
         arrival: &Incoming<'_>,
     ) -> Result<SharedVector, NoMemory>
-        requires { places member.now.unit_state < 2 ^ 32 }
+        requires room { places member.now.unit_state < 2 ^ 32 }
+        requires there { unit < length self.now.members }
         ensures { IfOk result (λ v. v ≡ next_vector_of self.now unit member.now (arrived arrival.now)) }
     {
         let width = self.width();
@@ -205,6 +207,7 @@ impl<H: Handler> Tenant<H> {
         turn: &Turn<H::State>,
     ) -> Result<Plan, NoMemory>
         requires room { places member.now.unit_state < 2 ^ 32 }
+        requires there { unit < length self.now.members }
         requires held { length member.now.outputs + length turn.now.outputs < 2 ^ 32 }
         requires letters { length self.now.letters + length (sends_within (length self.now.members) turn.now) < 2 ^ 32 }
         ensures { IfOk result (IsPlan name.now self.now unit member.now (arrived arrival.now) turn.now sessions.now) }
@@ -232,7 +235,9 @@ impl<H: Handler> Tenant<H> {
         arrival: &Incoming<'_>,
         turn: &Turn<H::State>,
     ) -> Result<Result<Plan, Refusal>, NoMemory>
-        requires { places member.now.unit_state < 2 ^ 32 }
+        requires room { places member.now.unit_state < 2 ^ 32 }
+        requires up { is_some member.now.unit_state.progress ≡ true }
+        requires there { unit < length self.now.members }
         ensures { IfOk result (IsPlanned name.now self.now unit member.now (arrived arrival.now) turn.now) }
     {
         let held = member.held_count();
@@ -244,7 +249,7 @@ impl<H: Handler> Tenant<H> {
         // The tests before the turn refuse a unit that is down.
         let progress = match member.unit_state().progress() {
             Some(progress) => progress,
-            None => return Err(NoMemory),
+            None => unreachable!(),
         };
         let plan = self.plan(alloc, name, unit, member, &progress.sessions, arrival, turn)?;
         Ok(Ok(plan))

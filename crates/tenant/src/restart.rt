@@ -69,10 +69,7 @@ impl<H: Handler> Tenant<H> {
             Some(refusal) => return Ok(Answer::refused(refusal)),
             None => {}
         }
-        let target = match self.rollback_target(unit) {
-            Some(target) => target,
-            None => return Err(NoMemory),
-        };
+        let target = self.rollback_target(unit);
         let row = self.start_behind(unit, target);
         let reply = Reply::Restarted { row };
         self.return_to(alloc, handler, tenant, unit, target, reply, log)

@@ -13,11 +13,9 @@ ghost use Rattle.tenant.specs.Kept.{returned_member};
 ghost use Rattle.tenant.specs.Returns.{Returns};
 
 use crate::answer::Answer;
-use crate::flush::member_at;
 use crate::member::Member;
 use crate::tenant::Tenant;
 use handler::Handler;
-use incarnation::StartTable;
 use model::{MAX_INCARNATION, NoMemory, Record, Reply, Row, Start, TenantName, Unit};
 use rollback::Progress;
 use shared_log::{SharedLog, Store, StoreFault};
@@ -119,23 +117,6 @@ fn fetch_some<S: Store>(
         }
     }
     Ok(fetched)
-}
-
-/// The index of the last interval that the unit at this place keeps, if one is left.
-fn rollback_target_at<H: Handler>(
-    members: &[Member<H>],
-    table: &StartTable,
-    at: usize,
-) -> Option<u32>
-    ensures target { IfSome result (λ t. (m : MemberOf H.State) → slice_get members.now at ≡ Some m
-        → IsTarget m.unit_state t) }
-    ensures kept { IfSome result (λ t. (m : MemberOf H.State) → slice_get members.now at ≡ Some m
-        → OrphansAreTail table.now m.unit_state.intervals → t + 1 ≡ kept_length table.now m.unit_state) }
-{
-    match member_at(members, at) {
-        Some(member) => member.rollback_target(table),
-        None => None,
-    }
 }
 
 /// The unit at this place goes back to the target.
@@ -288,16 +269,18 @@ impl<H: Handler> Tenant<H> {
         }
     }
 
-    /// The index of the last interval that the unit keeps, if one is left.
-    pub(crate) fn rollback_target(&self, unit: Unit) -> Option<u32>
-        ensures target { IfSome result (λ t. (m : MemberOf H.State) → slice_get self.now.members unit ≡ Some m
-            → IsTarget m.unit_state t) }
-        ensures kept { IfSome result (λ t. (m : MemberOf H.State) → slice_get self.now.members unit ≡ Some m
+    /// The index of the last interval that the unit, which is there, keeps.
+    pub(crate) fn rollback_target(&self, unit: Unit) -> u32
+        requires { unit < length self.now.members }
+        ensures target { (m : MemberOf H.State) → slice_get self.now.members unit ≡ Some m
+            → IsTarget m.unit_state result }
+        ensures kept { (m : MemberOf H.State) → slice_get self.now.members unit ≡ Some m
             → OrphansAreTail self.now.table m.unit_state.intervals
-            → t + 1 ≡ kept_length self.now.table m.unit_state) }
+            → m.unit_state.base < kept_length self.now.table m.unit_state
+            → result + 1 ≡ kept_length self.now.table m.unit_state }
     {
-        let members = self.members.as_slice();
-        rollback_target_at(members, &self.table, usize::from(unit.number()))
+        let member = self.member_there(unit);
+        member.rollback_target(&self.table)
     }
 
     /// Whether the unit has all the incarnations that there can be.

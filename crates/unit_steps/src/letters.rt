@@ -3,7 +3,7 @@
 ghost use Rattle.std.specs.Prelude.{◌≡◌, ◌<◌, ◌≤◌, ◌^◌, ◌++◌, [], ◌∷◌, IfOk, length, nat_lt, Some};
 ghost use Rattle.std.specs.Prelude.{ℕ, ◌+◌};
 ghost use Rattle.std.specs.List.{filter};
-ghost use Rattle.session.specs.Counts.{advanced, sent_to};
+ghost use Rattle.session.specs.Counts.{advanced, sent_one, sent_to};
 ghost use Rattle.compact.specs.Steps.{letters_by as letters_of};
 
 use crate::new_letters::NewLetters;
@@ -117,8 +117,18 @@ fn letter_of(
     })
 }
 
+/// Counts one more letter to the unit, where it has an entry.
+fn count_sent(counts: &mut Sessions, unit: Unit)
+    requires { sent_to counts.old unit + 1 < 2 ^ 64 }
+    ensures { counts.new ≡ sent_one counts.old unit }
+{
+    if usize::from(unit.number()) < counts.len() {
+        counts.sent(unit);
+    }
+}
+
 /// The letters of those sends that are to units within the width, where the sender has these counts.
-#[tactic(auto, using(rollback::proofs::Sends::room_left))]
+#[tactic(auto, using(crate::proofs::Numbers::room_left))]
 fn letters_from(
     alloc: Global,
     unit: Unit,
@@ -127,8 +137,7 @@ fn letters_from(
     sends: &[(Unit, Text)],
     width: usize,
 ) -> Result<Vec<SentLetter>, NoMemory>
-    requires within { width ≤ length counts.old.units }
-    requires room { (u : ℕ) → sent_to counts.old u + length sends.now < 2 ^ 64 }
+    requires { (u : ℕ) → sent_to counts.old u + length sends.now < 2 ^ 64 }
     ensures { IfOk result (λ made.
         made.items ≡ letters_of unit vector.now counts.old (filter (λ s. nat_lt s.0 width) sends.now)) }
 {
@@ -138,14 +147,13 @@ fn letters_from(
             let number = counts.number_to(send.0);
             let text = send.1.copy()?;
             made.push(letter_of(alloc, unit, vector, send.0, text, number)?)?;
-            counts.sent(send.0);
+            count_sent(counts, send.0);
         }
     }
     Ok(made)
 }
 
 /// The letters of one send, for which no counts need be copied: a receipt leaves what was sent before.
-#[tactic(auto, using(compact::proofs::Received::sent_advanced))]
 fn letters_of_one(
     alloc: Global,
     unit: Unit,
@@ -159,9 +167,6 @@ fn letters_of_one(
         made.items ≡ letters_of unit vector.now (advanced sessions.now source.now) (filter (λ s.
         nat_lt s.0 width) (send.now ∷ []))) }
 {
-    if !sessions.has_room(*source, 1) {
-        return Err(NoMemory);
-    }
     if usize::from(send.0.number()) >= width {
         return Ok(NewLetters::none());
     }
@@ -211,9 +216,6 @@ pub fn letters_by(
         return letters_of_one(alloc, unit, vector, sessions, &source, &sends[0], width);
     }
     let mut counts = counts_after(sessions, &source, sends.len())?;
-    if counts.len() < width {
-        return Err(NoMemory);
-    }
     let letters = letters_from(alloc, unit, vector, &mut counts, sends, width)?;
     Ok(NewLetters::many(letters))
 }

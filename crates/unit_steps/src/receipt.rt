@@ -1,10 +1,11 @@
 //! The interval that a receipt makes.
 
-ghost use Rattle.std.specs.Prelude.{◌≡◌, ◌<◌, ◌≤◌, ◌^◌, IfOk, length};
+ghost use Rattle.std.specs.Prelude.{◌≡◌, ◌<◌, ◌≤◌, ◌^◌, IfOk};
+ghost use Rattle.depvector.specs.Vectors.{joined};
 ghost use Rattle.rollback.specs.Units.{places};
 ghost use Rattle.unit_steps.specs.Receipts.{last_vector_of, mark_upon as mark_upon_of, vector_upon as vector_upon_of};
 
-use depvector::SharedVector;
+use depvector::{DepVector, SharedVector};
 use handler::Handler;
 use incarnation::StartTable;
 use model::{Letter, Mark, NoMemory, Record, Source, TenantName, Text, Unit};
@@ -29,12 +30,20 @@ fn last_vector<H: Handler>(unit_state: &RecoveryUnit<H>) -> &SharedVector
     &unit_state.interval(last).vector
 }
 
+/// Joins these marks, as far as the vector has entries.
+fn join_known(vector: &mut DepVector, sent: &[Mark])
+    ensures { vector.new ≡ joined vector.old sent.now }
+{
+    let count = sent.len().min(vector.len());
+    vector.join_marks(&sent[..count]);
+}
+
 /// The vector of the interval that a receipt makes: the last one, with an entry for each unit, joined with that of the
-/// letter, and its own mark set.
+/// letter as far as it has entries, and its own mark set.
 ///
 /// # Errors
 ///
-/// `NoMemory` where the vector finds no memory, or where it has no entry for the unit, or the letter's has more.
+/// `NoMemory` where the vector finds no memory.
 pub fn vector_upon<H: Handler>(
     alloc: Global,
     table: &StartTable,
@@ -43,20 +52,14 @@ pub fn vector_upon<H: Handler>(
     unit_state: &RecoveryUnit<H>,
     letter: &SharedVector,
 ) -> Result<SharedVector, NoMemory>
-    requires { width ≤ 256 }
+    requires few { width ≤ 256 }
+    requires own { unit < width }
     ensures { IfOk result (λ v. places unit_state.now < 2 ^ 32
         → v ≡ vector_upon_of table.now width unit unit_state.now letter.now) }
 {
     let mut vector = last_vector(unit_state).to_own(alloc)?;
     vector.widen(width)?;
-    let sent = letter.as_slice();
-    if sent.len() > vector.len() {
-        return Err(NoMemory);
-    }
-    vector.join_marks(sent);
-    if usize::from(unit.number()) >= vector.len() {
-        return Err(NoMemory);
-    }
+    join_known(&mut vector, letter.as_slice());
     vector.set_own(unit, mark_upon(table, unit, unit_state));
     vector.into_shared(alloc)
 }

@@ -1,4 +1,4 @@
-use Rattle.std.proofs.Common.{◌≡◌, ◌+◌, ◌++◌, ◌<◌, ◌≤◌, ◌^◌, ℕ, length, nat_lt, drop}
+use Rattle.std.proofs.Common.{◌≡◌, ◌+◌, ◌++◌, ◌<◌, ◌^◌, ℕ, length, nat_lt, drop}
 use Rattle.std.specs.List.{filter}
 use Rattle.session.specs.Counts.{sent_to}
 use Rattle.compact.specs.Steps.{letters_by}
@@ -9,6 +9,5 @@ abbrev pub invariant-loop-send : goal.invariant-loop-send
 invariant-loop-send l = record {
   same : l.made.items ++ letters_by l.unit l.vector l.counts (filter (λ s. nat_lt s.0 l.width) (drop l.send-index
       l.sends)) ≡ letters_by l.unit l.vector l.initial.counts (filter (λ s. nat_lt s.0 l.width) l.sends);
-  within : l.width ≤ length l.counts.units;
   room : (u : ℕ) → sent_to l.counts u + length (drop l.send-index l.sends) < 2 ^ 64;
 }

@@ -21,10 +21,10 @@ returns-clause-did g c =
     let t = c.args.self.now in
     let u = c.args.unit in
     let m = get_below t.members u c.in-None.ensures.there in
-    let target = c.in-Some-rollback_target.target in
+    let target = c.rollback_target-target.result in
     if_ok _ _ c.return_to.result
     (λ a returns w s. restart_returns g.H.Handler.meaning c.args.tenant.now t w c.args.log.now (opened s)
-    u m.0 m.1 target (c.in-Some-rollback_target.ensures.target m.0 m.1) (c.in-Some-rollback_target.ensures.kept m.0 m.1)
+    u m.0 m.1 target (c.rollback_target-target.ensures.target m.0 m.1) (c.rollback_target-target.ensures.kept m.0 m.1)
     (ap (restart_refusal t.table u) (sym m.1) ∙ sym c.restart_refusal.ensures.refusal ∙ c.in-None.is)
     c.start_behind-row.result c.start_behind-row.ensures c.return_to.new.self c.return_to.new.log a (returns m.0 m.1))
     c.return_to.ensures.returns
@@ -42,6 +42,6 @@ returns-clause-shelves g c =
     let m = get_below t.members u c.in-None.ensures.there in
     let start = c.start_behind-row.result in
     if_ok _ _ c.return_to.result (λ a returns. returned_shelves g.H.Handler.meaning c.args.tenant.now
-    t c.return_to.new.self u m.0 m.1 c.in-Some-rollback_target.target _ a c.args.log.now c.return_to.new.log start
+    t c.return_to.new.self u m.0 m.1 c.rollback_target-target.result _ a c.args.log.now c.return_to.new.log start
     (ap (λ (z : Start). z.index) c.start_behind-row.ensures) (inl refl) (returns m.0 m.1))
     c.return_to.ensures.returns

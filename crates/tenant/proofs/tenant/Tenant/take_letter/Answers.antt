@@ -7,7 +7,7 @@ use Rattle.compact.specs.Steps.{delivered}
 use Rattle.handler.specs.Inputs.{turn_upon_input}
 use Rattle.tenant.specs.declared.answer.Answer.{Answer}
 use Rattle.tenant.specs.Kept.{IsAskingBy}
-use Rattle.tenant.proofs.Asking.{refused_stays}
+use Rattle.tenant.proofs.Asking.{asked_is_up, refused_stays}
 use Rattle.tenant.proofs.Delivering.{content_parts, letter_none, letter_no_unit, letter_planned, letter_refused_then}
 use Rattle.tenant.proofs.Planning.{planned_few, planned_next, planned_plain, planned_whole}
 use Rattle.tenant.proofs.Keeping.{received_same}
@@ -48,8 +48,8 @@ returns-in-None-content-clause-done g c = λ live w log s.
     c.in-None-content.is (c.requires sent c.in-Some-member.member.now there c.in-Some-member.ensures) in
     absurd none
 
-pub admit-requires-after_bounds : goal.admit-requires-after_bounds
-admit-requires-after_bounds g c κs within =
+pub admit-requires-clause-room : goal.admit-requires-clause-room
+admit-requires-clause-room g c κs within =
     let sent : Letter = record {
       source = c.sent.inside.source;
       receiver = c.sent.inside.receiver;
@@ -65,6 +65,28 @@ admit-requires-after_bounds g c κs within =
     let is = subst (λ (o : Option Content). IsAskingBy c.args.self.now c.in-Some-member.member.now sent
     o c.args.worked.input) whole (c.requires sent c.in-Some-member.member.now there c.in-Some-member.ensures) in
     is.room
+
+pub admit-requires-clause-up : goal.admit-requires-clause-up
+admit-requires-clause-up g c κs within =
+    let sent : Letter = record {
+      source = c.sent.inside.source;
+      receiver = c.sent.inside.receiver;
+      number = c.sent.inside.number;
+      content = c.sent.inside.content;
+    } in
+    let there : slice_get c.args.self.now.letters c.args.letter ≡ Some sent =
+    (c.in-Some.ensures ∙ ap (λ (l : Letter). Some l) (sym c.sent.view_is)) in
+    let content : Content = record { text = c.text.result.now; vector = c.vector.result.now } in
+    let whole : sent.content ≡ Some content =
+    content_parts sent.content c.in-Some-content.content
+    c.text.result.now c.vector.result.now c.in-Some-content.is c.text.ensures c.vector.ensures in
+    let is = subst (λ (o : Option Content). IsAskingBy c.args.self.now c.in-Some-member.member.now sent
+    o c.args.worked.input) whole (c.requires sent c.in-Some-member.member.now there c.in-Some-member.ensures) in
+    asked_is_up c.in-Some-member.member.now.unit_state (FromUnit sent.source) content.text c.args.worked.input is.asked
+
+pub admit-requires-clause-there : goal.admit-requires-clause-there
+admit-requires-clause-there g c κs within =
+    slice_get_within c.args.self.now.members c.sent.inside.receiver _ c.in-Some-member.ensures
 
 pub apply-requires-clause-within : goal.apply-requires-clause-within
 apply-requires-clause-within g c κs within =

@@ -4,7 +4,7 @@ use Rattle.std.proofs.lemmas.Option.{slice_get_within}
 use Rattle.model.specs.declared.names.Source.TheVariants.{Outside}
 use Rattle.handler.specs.Inputs.{turn_upon_input}
 use Rattle.tenant.specs.declared.answer.Answer.{Answer}
-use Rattle.tenant.proofs.Asking.{refused_stays}
+use Rattle.tenant.proofs.Asking.{asked_is_up, refused_stays}
 use Rattle.tenant.proofs.Planning.{planned_few, planned_next, planned_plain, planned_whole}
 use Rattle.tenant.proofs.Posting.{post_none, post_planned, post_refused_then}
 use Rattle.tenant.proofs.Keeping.{received_same}
@@ -22,6 +22,14 @@ returns-in-Err-clause-done g c = λ live w log s.
     rw (c.refused-in-Err.ensures.reply) (post_refused_then g.H.Handler.meaning c.args.name.now
     live c.args.self.now w log s c.args.unit c.args.number c.args.text c.in-Some.member.now c.in-Some.ensures
     c.args.worked.input (c.requires c.in-Some.member.now c.in-Some.ensures) c.in-Err.refusal planned)
+
+pub admit-requires-clause-up : goal.admit-requires-clause-up
+admit-requires-clause-up g c κs within =
+    let is = c.requires c.in-Some.member.now c.in-Some.ensures in
+    asked_is_up c.in-Some.member.now.unit_state Outside c.args.text c.args.worked.input is.asked
+
+pub admit-requires-clause-there : goal.admit-requires-clause-there
+admit-requires-clause-there g c κs within = slice_get_within c.args.self.now.members c.args.unit _ c.in-Some.ensures
 
 pub apply-requires-clause-within : goal.apply-requires-clause-within
 apply-requires-clause-within g c κs within = slice_get_within c.args.self.now.members c.args.unit _ c.in-Some.ensures
