@@ -13,6 +13,7 @@ returns c =
     rw (within) (c.one.ensures ∙ ap (λ l. l ∷ []) (c.in_ok-letter.ensures ∙ (λ i. record {
       source = c.args.unit;
       receiver = c.args.send.now.0;
-      number = (c.number_to-number.ensures ∙ sym (sent_stays c.args.sessions.now c.args.source.now c.args.send.now.0)) i;
+      number =
+          (c.number_to-number.ensures ∙ sym (sent_stays c.args.sessions.now c.args.source.now c.args.send.now.0)) i;
       content = Some (record { text = c.in_ok-text.ensures i; vector = c.args.vector.now });
     })))

@@ -37,7 +37,8 @@ returns-then-is_last-clause-did g c = λ w s.
     let target = c.rollback_target-target.result in
     rw (c.learn_rows.ensures.learned m found, c.from_pair.ensures.reply, c.from_pair.ensures.plain.1)
     (notice_learns g.H.Handler.meaning c.args.tenant.now c.args.self.now w c.args.log.now (opened s) c.args.unit
-    m found target (c.rollback_target-target.ensures.target m found) (c.rollback_target-target.ensures.kept m found) c.in-Ok.ensures.up
+    m found target (c.rollback_target-target.ensures.target m found)
+    (c.rollback_target-target.ensures.kept m found) c.in-Ok.ensures.up
     (le_true (places m.unit_state) (target + 1) (sym (c.is_last.ensures m found) ∙ c.if-is_last.true)))
 
 pub returns-then-incarnations_exhausted-clause-did : goal.returns-then-incarnations_exhausted-clause-did
@@ -47,7 +48,8 @@ returns-then-incarnations_exhausted-clause-did g c = λ w s.
     let target = c.rollback_target-target.result in
     rw (c.refused-then-incarnations_exhausted.ensures.reply, c.refused-then-incarnations_exhausted.ensures.plain.1)
     (notice_worn g.H.Handler.meaning c.args.tenant.now c.args.self.now w c.args.log.now (opened s) c.args.unit
-    m found target (c.rollback_target-target.ensures.target m found) (c.rollback_target-target.ensures.kept m found) c.in-Ok.ensures.up
+    m found target (c.rollback_target-target.ensures.target m found)
+    (c.rollback_target-target.ensures.kept m found) c.in-Ok.ensures.up
     (above (places m.unit_state) (target + 1) (sym (c.is_last.ensures m found) ∙ c.if-is_last.false))
     (sym c.incarnations_exhausted.ensures ∙ c.if-incarnations_exhausted.true))
 
@@ -62,7 +64,8 @@ returns-clause-did g c =
     let target = c.rollback_target-target.result in
     if_ok _ _ c.return_to.result (λ a returns w s.
     notice_returns g.H.Handler.meaning c.args.tenant.now c.args.self.now w c.args.log.now (opened s) c.args.unit
-    m found target (c.rollback_target-target.ensures.target m found) (c.rollback_target-target.ensures.kept m found) c.in-Ok.ensures.up
+    m found target (c.rollback_target-target.ensures.target m found)
+    (c.rollback_target-target.ensures.kept m found) c.in-Ok.ensures.up
     (above (places m.unit_state) (target + 1) (sym (c.is_last.ensures m found) ∙ c.if-is_last.false))
     (sym c.incarnations_exhausted.ensures ∙ c.if-incarnations_exhausted.false)
     c.start_behind.result c.start_behind.ensures c.return_to.new.self c.return_to.new.log a (returns m found))
@@ -91,5 +94,6 @@ returns-clause-shelves g c =
     let found = c.in-Ok.ensures.found in
     let start = c.start_behind.result in
     if_ok _ _ c.return_to.result (λ a returns. returned_shelves g.H.Handler.meaning c.args.tenant.now c.args.self.now
-    c.return_to.new.self c.args.unit m found c.rollback_target-target.result _ a c.args.log.now c.return_to.new.log start
+    c.return_to.new.self c.args.unit m found c.rollback_target-target.result _ a c.args.log.now c.return_to.new.log
+    start
     (ap (λ (z : Start). z.index) c.start_behind.ensures) (inr refl) (returns m found)) c.return_to.ensures.returns
