@@ -164,6 +164,7 @@ module _ {S : Type 0} (M : Meaning S) where
     did = only_world;
     others = others;
     others_stand = λ k w other apart stands. stands;
+    others_live = λ other u apart. refl;
   }
     where
       only_world : (w : Option World) → StandsAt M (addressed step).0 (at (addressed step).0) w log.records

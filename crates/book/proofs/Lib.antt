@@ -9,6 +9,7 @@
 -- Devices: the entries that say that the device failed are counted among its failures (`counts_on`).
 -- Wanting: no step is answered as one for which there was no memory (`never_wanting`).
 -- Parted: a tenant's own entries of a history are a history of it alone (`legal_part`).
+-- Live: the log has just the live records that a history leaves (`live_after`).
 -- Standing: a host goes on from each book that it stands for (`given_up_keeps`).
 pub mod Answers
 pub mod Replays
@@ -20,3 +21,4 @@ pub mod Devices
 pub mod Wanting
 pub mod Parted
 pub mod Standing
+pub mod Live

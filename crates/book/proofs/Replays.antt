@@ -18,11 +18,12 @@ use Rattle.model.specs.declared.replies.Entry.{Entry}
 use Rattle.model.specs.declared.replies.Said.{Said}
 use Rattle.model.specs.declared.steps.Step.{Step}
 use Rattle.shared_log.specs.Logged.{Grows}
+use Rattle.tenant.specs.Live.{HasJust}
 use Rattle.tenant.specs.Stands.{TenantState, StandsAt}
 use Rattle.book.specs.Entries.{IsAdded, Ledger}
 use Rattle.book.proofs.Wanting.{never_wanting}
 use Rattle.model.specs.Keeping.{Keeping, keeping, keeping_on}
-use Rattle.book.specs.Keeping.{KeepsAt, KeepsIn, keeping_after}
+use Rattle.book.specs.Keeping.{HasJustAt, KeepsAt, KeepsIn, keeping_after}
 use Rattle.book.proofs.Devices.{counts_on}
 use Rattle.book.proofs.Keeping.{keeping-push, keeping_world}
 use Rattle.book.specs.History.{DidAt, Holding, IsAnswered, IsHonestAfter, IsIsolated, IsReplay, IsSaidHonestly}
@@ -210,6 +211,25 @@ module _ {S : Type 0} (M : Meaning S) where
         subst (KeepsAt (after.at t)) (sym (ap (keeping M) (own-apart t h e is)))
         (subst (λ k. KeepsAt k (keeping_after M t h)) (sym (answered.others t is)) (replay.keeps t))
 
+    just_here : HasJustAt M (name_of e) (keeping_on M (keeping_after M (name_of e) h) (event_of e)) after.log.records
+    just_here =
+        let k : Keeping = keeping_after M (name_of e) h in
+        subst (λ w. KeepsIn (before.at (name_of e)) w k.shelves → HasJust M (name_of e) w k.shelves before.log.records
+        → HasJustAt M (name_of e) (keeping_on M (record { world = w; shelves = k.shelves }) (event_of e))
+        after.log.records) (sym (keeping_world M (name_of e) h)) (done.just k.shelves) (replay.keeps (name_of e))
+        (replay.just (name_of e))
+
+    just_after : (t : List ℕ) (b : Bool) → bytes_eq t (name_of e) ≡ b
+        → HasJustAt M t (keeping_after M t (h ++ e ∷ [])) after.log.records
+    just_after t true is =
+        subst (λ k. HasJustAt M t k after.log.records)
+        (sym (ap (keeping M) (own-named t h e is) ∙ keeping-push M (own t (pairs h)) (event_of e)))
+        (subst (λ u. HasJustAt M u (keeping_on M (keeping_after M u h) (event_of e)) after.log.records)
+        (sym (same_name t (name_of e) is)) just_here)
+    just_after t false is =
+        subst (λ k. HasJustAt M t k after.log.records) (sym (ap (keeping M) (own-apart t h e is)))
+        (λ u. ap length (answered.others_live t u is) ∙ replay.just t u)
+
     legal_after : (t : List ℕ) (b : Bool)
         → bytes_eq t (name_of e) ≡ b → replies_to t (h ++ e ∷ []) ≡ (alone M (own t (pairs (h ++ e ∷ [])))).replies
     legal_after t true is =
@@ -247,6 +267,7 @@ module _ {S : Type 0} (M : Meaning S) where
     entered = record {
       stands = λ t. stands_after t (bytes_eq t (name_of e)) refl;
       keeps = λ t. keeps_after t (bytes_eq t (name_of e)) refl;
+      just = λ t. just_after t (bytes_eq t (name_of e)) refl;
       order = done.order ∙ ap (λ (l : List (List ℕ)). l ++ opened_by (name_of e) (addressed e.step).1 e.reply)
           replay.order ∙ sym (opened-push h e);
       legal = λ t. legal_after t (bytes_eq t (name_of e)) refl;

@@ -14,7 +14,7 @@ use Rattle.shared_log.specs.Logged.{Logged}
 use Rattle.tenant.specs.Stands.{KeepsTexts, TenantState, Stands, StandsAt}
 use Rattle.book.specs.Entries.{CountsDevice, IsAdded, Ledger, memory_reply}
 use Rattle.book.specs.History.{HoldsAsBefore, Holding, IsAnswered, IsRecordedIn, IsReplay, IsSaidHonestly, world_of}
-use Rattle.book.specs.Keeping.{KeepsAt, KeepsIn, keeping_after}
+use Rattle.book.specs.Keeping.{HasJustAt, KeepsAt, KeepsIn, keeping_after}
 use Rattle.model.specs.Keeping.{Keeping, Shelf}
 use Rattle.tenant.specs.Keeping.{KeepsPast}
 use Rattle.book.specs.Standing.{Carries, CommitsHonestly, EntersHonestly, Hosted, IsHostOf, KeepTexts, ReplaysAsWell}
@@ -46,6 +46,7 @@ module _ {S : Type 0} (M : Meaning S) where
           subst (λ k. StandsAt M t k (world_of M t history) after.log.records) (sym (same.tenants t))
           (subst (λ r. StandsAt M t (before.at t) (world_of M t history) r) (sym same.records) (replay.stands t));
       keeps = λ t. subst (λ k. KeepsAt k (keeping_after M t history)) (sym (same.tenants t)) (replay.keeps t);
+      just = λ t. subst (HasJustAt M t (keeping_after M t history)) (sym same.records) (replay.just t);
       order = same.order ∙ replay.order;
       legal = replay.legal;
       recorded = subst (IsRecordedIn M history) (sym same.records) replay.recorded;
@@ -196,6 +197,7 @@ module _ {S : Type 0} (M : Meaning S) (old new : Hosted (TenantState S)) (log : 
     stands = λ t. subst (λ (l : Logged). StandsAt M t ((held_by new).at t) (world_of M t history) l.records)
         (sym log) (stands t (world_of M t history) (replay.stands t));
     keeps = λ t. keeps t (keeping_after M t history) (replay.keeps t);
+    just = λ t. subst (λ (l : Logged). HasJustAt M t (keeping_after M t history) l.records) (sym log) (replay.just t);
     order = order ∙ replay.order;
     legal = replay.legal;
     recorded = subst (λ (l : Logged). IsRecordedIn M history l.records) (sym log) replay.recorded;

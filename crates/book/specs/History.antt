@@ -21,9 +21,10 @@ use Rattle.model.specs.declared.steps.Step.{Step}
 use Rattle.model.specs.declared.steps.TenantStep.{TenantStep}
 use Rattle.model.specs.declared.steps.TenantStep.TheVariants.{Open}
 use Rattle.shared_log.specs.Logged.{Grows, IsLeftOf, Logged}
+use Rattle.tenant.specs.Live.{OthersLive}
 use Rattle.tenant.specs.Stands.{TenantState, StandsAt, receiver_in, released_in}
 use Rattle.book.specs.Entries.{CountsDevice, Ledger, IsEntered}
-use Rattle.book.specs.Keeping.{KeepsAt, KeepsOnAt, keeping_after}
+use Rattle.book.specs.Keeping.{HasJustAt, KeepsAt, KeepsJustAt, KeepsOnAt, keeping_after}
 
 -- ---- tenants
 
@@ -131,6 +132,8 @@ pub record DidAt {S : Type 0} (M : Meaning S) (tenant : List ℕ) (w : Option Wo
     (answer : Reply) (before after : Holding (TenantState S)) : Type 0 where
   pub steps : StepsAt M tenant w (after.at tenant) step said answer after.log.records
   pub keeps : KeepsOnAt M w (before.at tenant) (record { step = step; said = said }) (after.at tenant)
+  pub just : KeepsJustAt M tenant w (before.at tenant) (record { step = step; said = said }) before.log.records
+      after.log.records
   pub logs : LogsAt M tenant w step said before.log after.log
   pub order : after.names ≡ before.names ++ opened_by tenant step answer
 
@@ -149,6 +152,7 @@ pub record IsAnswered {S : Type 0} (M : Meaning S) (step : Step) (said : Said) (
       → DidAt M (addressed step).0 w (addressed step).1 said answer before after
   pub others : (other : List ℕ) → bytes_eq other (addressed step).0 ≡ false → after.at other ≡ before.at other
   pub others_stand : KeepsOthers M (addressed step).0 before.log.records after.log.records
+  pub others_live : OthersLive (addressed step).0 before.log.records after.log.records
 
 -- the tenants and the log's records are as they were, and so is the count of the device's failures
 pub record HoldsAsBefore {K : Type 0} (before after : Holding K) : Type 0 where
@@ -161,10 +165,11 @@ pub record HoldsAsBefore {K : Type 0} (before after : Holding K) : Type 0 where
 -- ---- the whole book
 
 -- the tenants and the log's records are what the history makes of them, and of their past the tenants keep what the
--- rules leave
+-- rules leave; the log has as many live records as they leave, and each other place is empty
 pub record IsReplay {S : Type 0} (M : Meaning S) (book : Holding (TenantState S)) (history : List Entry) : Type 0 where
   pub stands : (tenant : List ℕ) → StandsAt M tenant (book.at tenant) (world_of M tenant history) book.log.records
   pub keeps : (tenant : List ℕ) → KeepsAt (book.at tenant) (keeping_after M tenant history)
+  pub just : (tenant : List ℕ) → HasJustAt M tenant (keeping_after M tenant history) book.log.records
   pub order : book.names ≡ opened history
   pub legal : IsLegal M history
   pub recorded : IsRecordedIn M history book.log.records

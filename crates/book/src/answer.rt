@@ -6,6 +6,7 @@ ghost use Rattle.indexmap.specs.IndexMap.{IsUnchanged, get, keys};
 ghost use Rattle.model.specs.Addresses.{addressed};
 ghost use Rattle.model.specs.World.{World};
 ghost use Rattle.model.specs.declared.records.Record.{Record};
+ghost use Rattle.tenant.specs.Live.{OthersLive};
 ghost use Rattle.tenant.specs.Needs.{WasFresh};
 ghost use Rattle.tenant.specs.Outcomes.{IsPlain};
 ghost use Rattle.tenant.specs.Stands.{IsOpened, KeepsTexts, StandsAt};
@@ -13,7 +14,7 @@ ghost use Rattle.shared_log.specs.Logged.{Logged};
 ghost use Rattle.book.specs.Commits.{needs_at};
 ghost use Rattle.book.specs.Entries.{memory_reply as reply_of_memory};
 ghost use Rattle.model.specs.Keeping.{Keeping};
-ghost use Rattle.book.specs.Keeping.{KeepsAt, KeepsOnAt};
+ghost use Rattle.book.specs.Keeping.{KeepsAt, KeepsJustAt, KeepsOnAt};
 ghost use Rattle.book.specs.Standing.{KeepTexts};
 ghost use Rattle.book.specs.History.{DidAt, IsAnswered, HoldsAsBefore, KeepsOthers, LogsAt, StepsAt, holding};
 ghost use Rattle.book.specs.History.{opened_by};
@@ -141,12 +142,17 @@ fn answer_open<H: Handler, S: Store>(
     ensures keeps { IfOk result (λ a. (w : Option World)
         → StandsAt H.meaning name.now (Some tenant.old) w log.old.records
         → KeepsOnAt H.meaning w (Some tenant.old) (record { step = step; said = a.said }) (Some tenant.new)) }
+    ensures just { IfOk result (λ a. (w : Option World)
+        → StandsAt H.meaning name.now (Some tenant.old) w log.old.records
+        → KeepsJustAt H.meaning name.now w (Some tenant.old) (record { step = step; said = a.said })
+        log.old.records log.new.records) }
     ensures logs { IfOk result (λ a. (w : Option World)
         → StandsAt H.meaning name.now (Some tenant.old) w log.old.records
         → LogsAt H.meaning name.now w step a.said log.old log.new) }
     ensures unopened { IfOk result (λ a. (w : Option World)
         → StandsAt H.meaning name.now (Some tenant.old) w log.old.records → opened_by name.now step a.reply ≡ []) }
     ensures others_stand { KeepsOthers H.meaning name.now log.old.records log.new.records }
+    ensures others_live { OthersLive name.now log.old.records log.new.records }
     ensures up { log.old.failures ≤ log.new.failures }
     ensures kill { (unit : ℕ) → step ≡ TenantStep.Kill unit → IsOk result }
     ensures err { OnErr result (tenant.new ≡ tenant.old) }
@@ -158,7 +164,7 @@ fn answer_open<H: Handler, S: Store>(
 }
 
 /// Does a step of a tenant that is not open.
-#[tactic(auto, using(shared_log::proofs::LeftLaws::same_grows))]
+#[tactic(auto, using(shared_log::proofs::LeftLaws::same_grows, crate::proofs::Live::unopened_just))]
 fn answer_unopened<H: Handler>(
     alloc: Global,
     handler: &H,
@@ -272,12 +278,17 @@ fn answer_open_with<H: Handler, S: Store>(
     ensures keeps { IfOk result (λ o. IfSome o (λ a. (w : Option World)
         → StandsAt H.meaning name.now (Some tenant.old) w log.old.records
         → KeepsOnAt H.meaning w (Some tenant.old) (record { step = step; said = a.said }) (Some tenant.new))) }
+    ensures just { IfOk result (λ o. IfSome o (λ a. (w : Option World)
+        → StandsAt H.meaning name.now (Some tenant.old) w log.old.records
+        → KeepsJustAt H.meaning name.now w (Some tenant.old) (record { step = step; said = a.said })
+        log.old.records log.new.records)) }
     ensures logs { IfOk result (λ o. IfSome o (λ a. (w : Option World)
         → StandsAt H.meaning name.now (Some tenant.old) w log.old.records
         → LogsAt H.meaning name.now w step a.said log.old log.new)) }
     ensures unopened { IfOk result (λ o. IfSome o (λ a. (w : Option World)
         → StandsAt H.meaning name.now (Some tenant.old) w log.old.records → opened_by name.now step a.reply ≡ [])) }
     ensures others_stand { KeepsOthers H.meaning name.now log.old.records log.new.records }
+    ensures others_live { OthersLive name.now log.old.records log.new.records }
     ensures up { log.old.failures ≤ log.new.failures }
     ensures stale { IfOk result (λ o. IfNone o (tenant.new ≡ tenant.old)) }
     ensures stale_log { IfOk result (λ o. IfNone o (log.new ≡ log.old)) }

@@ -8,7 +8,7 @@ ghost use Rattle.model.specs.declared.replies.Who.TheVariants.{Caller};
 ghost use Rattle.book.specs.Certificates.{CertifiesAt, IsHeadline, certificate_at, seats_at};
 ghost use Rattle.book.specs.Commits.{Commits, needed};
 ghost use Rattle.book.specs.Entries.{CountsDevice, IsEntered};
-ghost use Rattle.book.specs.Keeping.{FootprintAfter, kept_after};
+ghost use Rattle.book.specs.Keeping.{FootprintAfter, LiveAfter, kept_after};
 ghost use Rattle.book.specs.Standing.{IsHostOf};
 ghost use Rattle.book.specs.History.{IsIsolated, IsRecordedIn, IsSaidHonestly, Ran, entries_of, opened, released_at};
 ghost use Rattle.book.specs.History.{table_at, world_of};
@@ -67,11 +67,14 @@ impl<H: Handler, S: Store> Book<H, S> {
     /// The entries, in order. To each tenant the replies are those that it gets alone, and the
     /// records of the log are those that the entries acknowledged, honestly, but for the places whose
     /// records were forgotten. No more entries say that the device failed than it counted failures.
+    /// Of each unit the log has just the records of the stable intervals behind its base: all others
+    /// are forgotten.
     pub fn history(&self) -> &[Entry]
         ensures entries { result.now ≡ self.now.history }
         ensures legal { IsLegal H.meaning self.now.history }
         ensures recorded { IsRecordedIn H.meaning self.now.history self.now.log.records }
         ensures device { CountsDevice self.now.history self.now.log.failures }
+        ensures live { LiveAfter H.meaning self.now.history self.now.log.records }
     {
         self.history.as_slice()
     }

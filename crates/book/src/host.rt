@@ -47,6 +47,7 @@ impl<H: Handler, S: Store> Model for Host<H, S> {
 
 impl<H: Handler, S: Store> Host<H, S> {
     /// A host with no tenants, over a store that acknowledged nothing yet. It takes no memory.
+    #[tactic(auto, using(crate::proofs::Live::just_none))]
     pub fn new(alloc: Global, handler: H, store: S) -> Host<H, S>
         requires { S.log store ≡ [] }
         ensures replay { HostReplays H.meaning result [] }

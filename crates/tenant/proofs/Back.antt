@@ -368,6 +368,15 @@ module _ {S : Type 0} (M : Meaning S) (name : List ℕ)
               outside = c.outside;
             }
 
+        -- The unit that went back has as many live records as are behind its base up to the target.
+        pub went_count : live_count (returned r target wt.progress) ≡ min (target - r.base) (live_count r)
+        went_count = counts (stable_places (returned r target wt.progress)) x.unit.stable (stable_places r)
+            (kept_places k x.unit) target r.base (sym seen_after.stable) x.is.seen.stable last
+          where
+            counts : (s a b n target base : ℕ) → s ≡ min a n → a ≡ b → target + 1 ≡ n
+                → s - 1 - base ≡ min (target - base) (b - 1 - base)
+            counts s a b n target base e f g = omega (arith, e, f, g)
+
         live_own : AreLast after_unit.live (live_in name after.records u)
         live_own =
             let count : target - r.base ≡ kept_places k x.unit - suc x.unit.base.index =

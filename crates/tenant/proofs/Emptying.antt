@@ -1,9 +1,8 @@
 -- A unit's base moves, and the tenant keeps what the rules leave.
 use Rattle.std.proofs.Common.{◌≡◌, inl, inr, refl, sym, ◌∙◌, ap, subst, ℕ, zero, suc, ◌+◌, ◌-◌, ◌<◌, ◌≤◌, Bool, true}
 use Rattle.std.proofs.Common.{false, cond, ◌||◌, List, [], ◌∷◌, ◌++◌, length, take, drop, arith, map}
-use Rattle.std.specs.Prelude.{Option, Some, None, option_map, slice_get, slice_set, is_none, ◌==◌}
+use Rattle.std.specs.Prelude.{Option, Some, None, slice_get, slice_set, is_none, ◌==◌}
 use Rattle.std.specs.List.{list_any}
-use Rattle.std.specs.Option.{option_map_or}
 use Rattle.std.proofs.lemmas.List.{drop-drop, drop-map, map-set, take-map}
 use Rattle.std.proofs.lemmas.List.Folds.{list_any-append}
 use Rattle.std.proofs.lemmas.Option.{slice_get_past, slice_get_within, same_Some}
@@ -17,14 +16,12 @@ use Rattle.model.specs.Records.{letter_of}
 use Rattle.model.specs.World.{Member, World}
 use Rattle.model.proofs.Places.{get_below}
 use Rattle.theory.proofs.Certificate.{Invariant, reachable_invariant}
-use Rattle.theory.proofs.ListLaws.{any_at, any_none, at_map, bool_cases, eq_true, get_drop, get_set, get_take, or_cases}
+use Rattle.theory.proofs.ListLaws.{any_none, at_map, bool_cases, eq_true, get_drop, get_set, get_take}
 use Rattle.theory.proofs.ListLaws.{set_get_other, set_get_same, true_eq, or_false}
 use Rattle.layer_laws.specs.Laws.{frontier}
 use Rattle.compact.specs.Compact.{Compact, Interval, IsUnit, Letter, interval_of}
 use Rattle.compact.specs.Forgetting.{without_content}
 use Rattle.compact.specs.StepLaws.{StandsCompact}
-use Rattle.checkpoint.specs.declared.snapshot.Snapshot.{Snapshot as SnapshotOf}
-use Rattle.checkpoint.specs.Shelves.{is_at}
 use Rattle.rollback.specs.Units.{Recovering, based_on, forgotten}
 use Rattle.rollback_laws.proofs.Places.{places_are_seen}
 use Rattle.tenant.specs.Bases.{emptied_all, emptied_at, emptied_by, moved_kept, next_base, passed}
@@ -33,15 +30,10 @@ use Rattle.tenant.specs.Kept.{TenantState, Member as MemberOf}
 use Rattle.tenant.specs.Represents.{IsCompact}
 use Rattle.tenant.specs.Stands.{IsStanding, Stands, live_in}
 use Rattle.tenant.proofs.Follow.{KeepsUnit, keeps}
-use Rattle.tenant.proofs.Moving.{next_is}
+use Rattle.tenant.proofs.Moving.{not_back}
 use Rattle.tenant.proofs.Lasting.{past_closed, past_opened}
 use Rattle.tenant.proofs.Shelves.{based_is, next_there}
 use Rattle.tenant.proofs.Standing.{opened}
-
-shelf_base : {P : Type 0} (o : Option (SnapshotOf P)) (n : ℕ)
-    → option_map (λ (s : SnapshotOf P). s.index) o ≡ Some n → (b : SnapshotOf P) × (o ≡ Some b) × (b.index ≡ n)
-shelf_base None n e = absurd (cc e)
-shelf_base (Some b) n e = (b, refl, same_Some b.index n e)
 
 -- ---- letters
 
@@ -256,22 +248,7 @@ module _ {S : Type 0} (M : Meaning S) (name : List ℕ) (t : TenantState S) (w :
         go false e = refl
 
     not_lower : r.base ≤ base
-    not_lower =
-        let there = (next_is r f base next).0 in
-        let b = shelf_base r.shelf.base r.base x.is.kept.base in
-        elim (or_cases (option_map_or (is_at base) r.shelf.base false) (list_any (is_at base) r.shelf.others) there) [
-          | inl h ↦
-              let at : (b.0.index == base) ≡ true = ap (λ o. option_map_or (is_at base) o false) (sym b.1) ∙ h in
-              let e = eq_true b.0.index base at in
-              let i = b.2 in
-              omega (arith, e, i)
-          | inr h ↦
-              let y = any_at (is_at base) r.shelf.others h in
-              let above = x.is.kept.rises.above b.0 y.0 y.1.0 b.1 y.1.1 in
-              let e = eq_true y.1.0.index base y.1.2 in
-              let i = b.2 in
-              omega (arith, above, e, i)
-        ]
+    not_lower = not_back r x.is.kept f base next
 
     own_letter : (l : ℕ) (c : Letter) → Was t.letters l c (list_any (λ (i : Interval). is_of l i.letter) given)
         → c.receiver ≡ u → (z : Shelf) → z ≡ based f (shelf_of r) → is_none c.content ≡ received_for_good w q z l

@@ -219,7 +219,8 @@ module _ {S : Type 0} (M : Meaning S) (name : List ℕ)
         (mw.0.stable + i) b.0 (get_drop mw.0.path mw.0.stable i b.0 b.1) in
         (ap (λ (z : Record). z.tenant) b.2, ap (λ (z : Record). z.unit) b.2 ∙ own)
 
-    live_own : live_in name after.records u ≡ live u ++ numbers_from (length whole) said.appended
+    -- The live places of the unit that is flushed have those of the records that were logged behind them.
+    pub live_own : live_in name after.records u ≡ live u ++ numbers_from (length whole) said.appended
     live_own =
         let long : length grown ≡ said.appended = length-take-le said.appended r.volatile few in
         let left = left_length before.records whole s.left in
@@ -229,7 +230,8 @@ module _ {S : Type 0} (M : Meaning S) (name : List ℕ)
         ∙ ap (λ ps. live u ++ ps) (own_places name u (0 + length before.records) grown (λ i q e. let o =
         are_own i q e in owns name u q o.0 o.1) ∙ (λ i. numbers_from (from i) (long i)))
 
-    live_other : (a : ℕ) → (a ≡ u → ⊥) → live_in name after.records a ≡ live a
+    -- The live places of the tenant's other units stay as they were.
+    pub live_other : (a : ℕ) → (a ≡ u → ⊥) → live_in name after.records a ≡ live a
     live_other a other =
         ap (places_from name a 0) logged
         ∙ places_behind name a 0 before.records (map Some grown)

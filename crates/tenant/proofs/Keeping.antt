@@ -166,7 +166,8 @@ pub data StepStays : TenantStep → Type 0 where
   release_stays : (u : ℕ) → StepStays (Release u)
   status_stays : (u : ℕ) → StepStays (Status u)
 
-stays_is : (step : TenantStep)
+-- After a step that neither puts nor gives up checkpoints the checkpoints are as they were.
+pub stays_is : (step : TenantStep)
     → StepStays step → (reply : Reply) (z : World) (shelves : List Shelf) → shelves_after z step reply shelves ≡ shelves
 stays_is step (post_stays u number text) reply z shelves = refl
 stays_is step (deliver_stays l) reply z shelves = refl
@@ -200,7 +201,8 @@ module _ {S : Type 0} (M : Meaning S) (name : List ℕ)
 
 -- ---- a unit more
 
-after_join_bases : (reply : Reply) → SameBases (after_join reply)
+-- A join moves no base.
+pub after_join_bases : (reply : Reply) → SameBases (after_join reply)
 after_join_bases (Opened units) = same_bases
 after_join_bases (Joined unit) = joined_bases
 after_join_bases (Accepted at held letters) = same_bases

@@ -42,6 +42,7 @@
 --   (`unit_missing`).
 -- Touching: where the store is asked by a restart or a notice (`notice_asked`).
 -- Giving: texts that were released are given up (`past_still`).
+-- Live: the log has just the live records that the rules of keeping leave (`stays_ok`).
 pub mod Results
 pub mod Found
 pub mod Lines
@@ -82,3 +83,4 @@ pub mod Standing
 mod Counted
 mod Touching
 pub mod Giving
+pub mod Live

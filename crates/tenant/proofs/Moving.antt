@@ -18,8 +18,8 @@ use Rattle.model.specs.declared.steps.TenantStep.{TenantStep}
 use Rattle.model.specs.Failures.{HasRisen}
 use Rattle.model.specs.Handler.{Meaning}
 use Rattle.model.specs.World.{World}
-use Rattle.theory.proofs.ListLaws.{bool_cases, eq_same, eq_true, get_drop, get_set, get_take, le_true, or_left}
-use Rattle.theory.proofs.ListLaws.{or_right, true_eq, set_same}
+use Rattle.theory.proofs.ListLaws.{any_at, bool_cases, eq_same, eq_true, get_drop, get_set, get_take, le_true}
+use Rattle.theory.proofs.ListLaws.{or_cases, or_left, or_right, true_eq, set_same}
 use Rattle.checkpoint.specs.declared.snapshot.Snapshot.{Snapshot as Shelf}
 use Rattle.checkpoint.specs.Shelves.{Shelved, based_at, has_index, is_at, later_of, nearest_of}
 use Rattle.compact.specs.Compact.{Compact, Interval, Letter, Represents, Snapshot, Unit}
@@ -106,6 +106,25 @@ next_is r f base e =
     let x = index_of (nearest_of r.shelf t) base e in
     let n = nearest_is r.shelf t x.0 x.1 in
     (ap (has_index r.shelf) (sym x.2) ∙ n.0, let a = x.2 in let b = n.1 in omega (arith, a, b))
+
+-- A unit's next base is not before its base.
+pub not_back : {S : Type 0} (r : Recovering S) → IsKept r → (f base : ℕ) → next_base r f ≡ Some base → r.base ≤ base
+not_back r k f base next =
+    let there = (next_is r f base next).0 in
+    let b = index_of r.shelf.base r.base k.base in
+    elim (or_cases (option_map_or (is_at base) r.shelf.base false) (list_any (is_at base) r.shelf.others) there) [
+      | inl h ↦
+          let at : (b.0.index == base) ≡ true = ap (λ o. option_map_or (is_at base) o false) (sym b.1) ∙ h in
+          let e = eq_true b.0.index base at in
+          let i = b.2 in
+          omega (arith, e, i)
+      | inr h ↦
+          let y = any_at (is_at base) r.shelf.others h in
+          let above = k.rises.above b.0 y.0 y.1.0 b.1 y.1.1 in
+          let e = eq_true y.1.0.index base y.1.2 in
+          let i = b.2 in
+          omega (arith, above, e, i)
+    ]
 
 -- The next base of a unit is one of its places.
 pub next_within : {S : Type 0} (r : Recovering S) (f last : ℕ)

@@ -12,7 +12,9 @@ use Rattle.theory.proofs.ListLaws.{get_take}
 use Rattle.shared_log.specs.Logged.{Grows, Logged, OthersKept, places_from}
 use Rattle.shared_log.proofs.LeftLaws.{appended_grows, same_grows}
 use Rattle.compact.proofs.Flushes.{logs_may_grow}
+use Rattle.tenant.specs.Bases.{IsBeside}
 use Rattle.tenant.specs.Kept.{TenantState}
+use Rattle.tenant.specs.Live.{OthersLive}
 use Rattle.tenant.specs.Stands.{Stands, live_in}
 use Rattle.tenant.specs.Represents.{IsCompact}
 use Rattle.tenant.proofs.Logging.{AreOf}
@@ -38,12 +40,16 @@ stands_beside M name t w before after grown grows same given =
       );
     })
 
--- Records of one tenant are live of no other.
-pub appended_beside : {S : Type 0} (M : Meaning S) (name other : List ℕ) (t : TenantState S) (w : World)
-    (before after : List (Option Record)) (records : List Record) (n : ℕ) → after ≡ before ++ map Some (take n records)
-    → AreOf name records n → bytes_eq other name ≡ false → Stands M other t w before → Stands M other t w after
-appended_beside M name other t w before after records n logged of_name differs s =
-    stands_beside M other t w before after (take n records) (appended_grows before after (take n records) logged) same s
+-- Records of one tenant that are appended leave the live places of the others as they were.
+pub appended_live : (name other : List ℕ) (before after : List (Option Record)) (records : List Record) (n : ℕ)
+    → after ≡ before ++ map Some (take n records) → AreOf name records n → bytes_eq other name ≡ false
+    → (u : ℕ) → places_from other u 0 after ≡ places_from other u 0 before
+appended_live name other before after records n logged of_name differs u =
+    ap (places_from other u 0) logged
+    ∙ places_behind other u 0 before (map Some (take n records))
+    ∙ ap (λ ps. places_from other u 0 before ++ ps) (other_places other
+    u (0 + length before) (take n records) (λ i r e. owns_not other u r (λ own unit. not_own i r e own)))
+    ∙ append-nil (places_from other u 0 before)
   where
     not_own : (i : ℕ) (r : Record) → slice_get (take n records) i ≡ Some r → r.tenant ≡ other → ⊥
     not_own i r e own =
@@ -55,13 +61,13 @@ appended_beside M name other t w before after records n logged of_name differs s
         let is : bytes_eq other name ≡ true = (bytes_eq-Decides other name).1 (sym own ∙ is_name) in
         cc (is, differs)
 
-    same : (u : ℕ) → live_in other after u ≡ live_in other before u
-    same u =
-        ap (places_from other u 0) logged
-        ∙ places_behind other u 0 before (map Some (take n records))
-        ∙ ap (λ ps. places_from other u 0 before ++ ps) (other_places other
-        u (0 + length before) (take n records) (λ i r e. owns_not other u r (λ own unit. not_own i r e own)))
-        ∙ append-nil (places_from other u 0 before)
+-- Records of one tenant are live of no other.
+pub appended_beside : {S : Type 0} (M : Meaning S) (name other : List ℕ) (t : TenantState S) (w : World)
+    (before after : List (Option Record)) (records : List Record) (n : ℕ) → after ≡ before ++ map Some (take n records)
+    → AreOf name records n → bytes_eq other name ≡ false → Stands M other t w before → Stands M other t w after
+appended_beside M name other t w before after records n logged of_name differs s =
+    stands_beside M other t w before after (take n records) (appended_grows before after (take n records) logged)
+    (appended_live name other before after records n logged of_name differs) s
 
 -- A unit's records that go are of no other tenant.
 pub returned_beside : {S : Type 0}
@@ -81,3 +87,15 @@ pub either_beside : {T E : Type 0} (r : Result T E) (name : List ℕ) (u : ℕ) 
 either_beside (Ok x) name u before after h e = h
 either_beside (Err x) name u before after h e =
     (same_grows before.records after.records e, λ n v other. places_same before after e n v)
+
+-- A log that grows by no record and lets go only one tenant's has the live places of the others as they were.
+pub beside_live : (name : List ℕ) (before after : Logged)
+    → IsBeside name before after → OthersLive name before.records after.records
+beside_live name before after b other u differs = live_same before after other u (b.others other u differs)
+
+-- So it has where only one unit's records go.
+pub returned_live : (name : List ℕ) (u : ℕ) (before after : Logged)
+    → Grows before.records [] after.records × OthersKept name u before after
+    → OthersLive name before.records after.records
+returned_live name u before after kept other v differs = live_same before after other v (kept.1 other v (λ h.
+    let is : bytes_eq other name ≡ true = (bytes_eq-Decides other name).1 h.0 in cc (is, differs)))

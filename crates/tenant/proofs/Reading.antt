@@ -43,8 +43,8 @@ more_seats {S} members i m before after seat within at so_far is made =
     ∙ ap (λ ms. before ++ seats_of ms) (sym next)
     ∙ so_far
 
--- what holds of each element holds of this one
-All-at : {X : Type 0} (P : X → Type 0) (xs : List X) (u : ℕ) (x : X) → All P xs → slice_get xs u ≡ Some x → P x
+-- What holds of each element holds of this one.
+pub All-at : {X : Type 0} (P : X → Type 0) (xs : List X) (u : ℕ) (x : X) → All P xs → slice_get xs u ≡ Some x → P x
 All-at P xs u x all at =
     subst P (get_or_from_slice_get xs u x x at) (All-get_or P xs u x (slice_get_within xs u x at) all)
 

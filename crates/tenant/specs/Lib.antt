@@ -9,3 +9,4 @@ pub mod Represents
 pub mod Stands
 pub mod Keeping
 pub mod Footprint
+pub mod Live

@@ -6,6 +6,7 @@ ghost use Rattle.model.specs.World.{World};
 ghost use Rattle.model.specs.declared.steps.TenantStep.TheVariants.{Checkpoint};
 ghost use Rattle.tenant.specs.Keeping.{KeepsOn};
 ghost use Rattle.tenant.specs.Kept.{TenantState, Member as MemberOf, checkpointed_member};
+ghost use Rattle.tenant.specs.Live.{OthersLive, StaysJust};
 ghost use Rattle.tenant.specs.Stands.{Did, Stands};
 
 use crate::answer::Answer;
@@ -74,9 +75,12 @@ impl<H: Handler> Tenant<H> {
             → Did H.meaning tenant.now w self.new (Checkpoint unit) a.said a.reply log.old log.new) }
         ensures keeps_on { IfOk result (λ a.
             KeepsOn H.meaning tenant.now self.old (Checkpoint unit) a.said a.reply self.new log.old.records) }
+        ensures just { IfOk result (λ _.
+            StaysJust H.meaning tenant.now self.old log.old.records self.new log.new.records) }
         // What other tenants stand for stays.
         ensures others { (k : TenantState H.State) (w : World) (other : List ℕ) → bytes_eq other tenant.now ≡ false
             → Stands H.meaning other k w log.old.records → Stands H.meaning other k w log.new.records }
+        ensures others_live { OthersLive tenant.now log.old.records log.new.records }
         ensures up { log.old.failures ≤ log.new.failures }
         ensures failures { log.new.failures ≡ log.old.failures }
         ensures err { OnErr result (self.new ≡ self.old) }

@@ -13,6 +13,7 @@ ghost use Rattle.rollback.specs.Units.{stable_places};
 ghost use Rattle.unit_steps.specs.Receipts.{IsFrontier, frontier_of};
 ghost use Rattle.tenant.specs.Keeping.{KeepsOn};
 ghost use Rattle.tenant.specs.Kept.{GoOn, MakesStable, TenantState, Member as MemberOf, flushed_member};
+ghost use Rattle.tenant.specs.Live.{OthersLive, StaysJust};
 ghost use Rattle.tenant.specs.Stands.{Did, Stands};
 
 use crate::answer::Answer;
@@ -222,9 +223,12 @@ impl<H: Handler> Tenant<H> {
             → Did H.meaning tenant.now w self.new (Flush unit) a.said a.reply log.old log.new) }
         ensures keeps_on { IfOk result (λ a.
             KeepsOn H.meaning tenant.now self.old (Flush unit) a.said a.reply self.new log.old.records) }
+        ensures just { IfOk result (λ _.
+            StaysJust H.meaning tenant.now self.old log.old.records self.new log.new.records) }
         // What other tenants stand for stays.
         ensures others { (k : TenantState H.State) (w : World) (other : List ℕ) → bytes_eq other tenant.now ≡ false
             → Stands H.meaning other k w log.old.records → Stands H.meaning other k w log.new.records }
+        ensures others_live { OthersLive tenant.now log.old.records log.new.records }
         ensures up { log.old.failures ≤ log.new.failures }
         ensures steady { (log.new.failures ≡ log.old.failures) ⊎ IsOkAnd result (λ a. a.said.end ≡ Device) }
         ensures once { log.new.failures ≤ log.old.failures + 1 }

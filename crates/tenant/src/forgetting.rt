@@ -8,6 +8,7 @@ ghost use Rattle.tenant.specs.Bases.{IsBeside, LetsGo, emptied_all, emptied_by, 
 ghost use Rattle.tenant.specs.Bases.{moved_member, next_base, passed};
 ghost use Rattle.tenant.specs.Keeping.{Bases, KeepsPast, based_one};
 ghost use Rattle.tenant.specs.Kept.{Member as MemberOf};
+ghost use Rattle.tenant.specs.Live.{StaysJust};
 ghost use Rattle.model.specs.Keeping.{Shelf, where_added};
 ghost use Rattle.tenant.specs.Stands.{Stands};
 
@@ -126,6 +127,7 @@ impl<H: Handler> Tenant<H> {
         ensures stands { (w : World) → Stands H.meaning tenant.now self.old w log.old.records
             → Stands H.meaning tenant.now self.new w log.new.records }
         ensures beside { IsBeside tenant.now log.old log.new }
+        ensures just { StaysJust H.meaning tenant.now self.old log.old.records self.new log.new.records }
         ensures bases { (w : World) (shelves : List Shelf) → Stands H.meaning tenant.now self.old w log.old.records
             → KeepsPast self.old w shelves → KeepsPast self.new w (based_one w at (slice_get w.members at) shelves) }
         ensures gone { self.new.gone ≡ self.old.gone }
@@ -141,6 +143,7 @@ impl<H: Handler> Tenant<H> {
         ensures stands { (w : World) → Stands H.meaning tenant.now self.old w log.old.records
             → Stands H.meaning tenant.now self.new w log.new.records }
         ensures beside { IsBeside tenant.now log.old log.new }
+        ensures just { StaysJust H.meaning tenant.now self.old log.old.records self.new log.new.records }
         ensures bases { Bases H.meaning tenant.now self.old log.old.records self.new }
         ensures gone { self.new.gone ≡ self.old.gone }
     {
@@ -159,6 +162,7 @@ impl<H: Handler> Tenant<H> {
         ensures stands { (w : World) → Stands H.meaning tenant.now self.old w log.old.records
             → Stands H.meaning tenant.now self.new w log.new.records }
         ensures beside { IsBeside tenant.now log.old log.new }
+        ensures just { StaysJust H.meaning tenant.now self.old log.old.records self.new log.new.records }
         ensures bases { (w : World) (shelves : List Shelf) → Stands H.meaning tenant.now self.old w log.old.records
             → KeepsPast self.old w shelves → KeepsPast self.new w (where_added w added shelves) }
         ensures gone { self.new.gone ≡ self.old.gone }

@@ -9,6 +9,7 @@ ghost use Rattle.model.specs.declared.steps.TenantStep.TheVariants.{Notice};
 ghost use Rattle.model.specs.Keeping.{after_return};
 ghost use Rattle.tenant.specs.Keeping.{Shelves};
 ghost use Rattle.tenant.specs.Kept.{TenantState, Member as MemberOf};
+ghost use Rattle.tenant.specs.Live.{OthersLive, StaysJust};
 ghost use Rattle.tenant.specs.Stands.{Did, Stands};
 
 use crate::answer::Answer;
@@ -72,9 +73,12 @@ impl<H: Handler> Tenant<H> {
         ensures did { IfOk result (λ a. (w : World) → Stands H.meaning tenant.now self.old w log.old.records
             → Did H.meaning tenant.now w self.new (Notice unit) a.said a.reply log.old log.new) }
         ensures shelves { IfOk result (λ a. Shelves (after_return unit a.reply) self.old self.new) }
+        ensures just { IfOk result (λ _.
+            StaysJust H.meaning tenant.now self.old log.old.records self.new log.new.records) }
         // What other tenants stand for stays.
         ensures others { (k : TenantState H.State) (w : World) (other : List ℕ) → bytes_eq other tenant.now ≡ false
             → Stands H.meaning other k w log.old.records → Stands H.meaning other k w log.new.records }
+        ensures others_live { OthersLive tenant.now log.old.records log.new.records }
         ensures up { log.old.failures ≤ log.new.failures }
         ensures steady { (log.new.failures ≡ log.old.failures) ⊎ IsOkAnd result (λ a. a.said.end ≡ Device) }
         ensures once { log.new.failures ≤ log.old.failures + 1 }

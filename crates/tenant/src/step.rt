@@ -6,6 +6,7 @@ ghost use Rattle.model.specs.World.{World};
 ghost use Rattle.model.specs.declared.replies.End.TheVariants.{Device};
 ghost use Rattle.tenant.specs.Keeping.{KeepsOn};
 ghost use Rattle.tenant.specs.Kept.{KeepsTexts, TenantState};
+ghost use Rattle.tenant.specs.Live.{KeepsJust, OthersLive};
 ghost use Rattle.tenant.specs.Needs.{WasFresh, needs};
 ghost use Rattle.tenant.specs.Stands.{Did, Stands};
 
@@ -33,9 +34,13 @@ impl<H: Handler> Tenant<H> {
         // It keeps of its past what the rules of keeping leave.
         ensures keeps_on { IfOk result (λ a.
             KeepsOn H.meaning name.now self.old step a.said a.reply self.new log.old.records) }
+        // The log then has of each of its units just the live records that those rules leave, and no others.
+        ensures just { IfOk result (λ a. KeepsJust H.meaning name.now self.old step a.said a.reply
+            log.old.records log.new.records) }
         // What other tenants stand for stays.
         ensures others { (k : TenantState H.State) (w : World) (other : List ℕ) → bytes_eq other name.now ≡ false
             → Stands H.meaning other k w log.old.records → Stands H.meaning other k w log.new.records }
+        ensures others_live { OthersLive name.now log.old.records log.new.records }
         // The count of the device's failures never falls.
         ensures up { log.old.failures ≤ log.new.failures }
         // It stays, unless the answer says that the device failed: a call of it that did isn't made again.
@@ -87,9 +92,13 @@ impl<H: Handler> Tenant<H> {
             IfSome o (λ a. KeepsOn H.meaning name.now self.old step a.said a.reply self.new log.old.records)) }
         ensures stale { IfOk result (λ o. IfNone o (self.new ≡ self.old)) }
         ensures stale_log { IfOk result (λ o. IfNone o (log.new ≡ log.old)) }
+        // The log then has of each of its units just the live records that the rules of keeping leave, and no others.
+        ensures just { IfOk result (λ o. IfSome o (λ a. KeepsJust H.meaning name.now self.old step a.said a.reply
+            log.old.records log.new.records)) }
         // What other tenants stand for stays.
         ensures others { (k : TenantState H.State) (w : World) (other : List ℕ) → bytes_eq other name.now ≡ false
             → Stands H.meaning other k w log.old.records → Stands H.meaning other k w log.new.records }
+        ensures others_live { OthersLive name.now log.old.records log.new.records }
         // The count of the device's failures never falls.
         ensures up { log.old.failures ≤ log.new.failures }
         // It stays, unless the answer says that the device failed: a call of it that did isn't made again.

@@ -1,6 +1,7 @@
 use Rattle.book.proofs.Answers.{SaysDevice, both_ok, if_ok, keeps_others, logs_open, steady_err, steady_ok, steps_open}
 use Rattle.book.proofs.Answers.{unopened}
 use Rattle.book.proofs.Keeping.{keeps_open}
+use Rattle.book.proofs.Live.{just_open}
 use Rattle.book.proofs.answer.answer_open.Goals as goal
 
 pub returns-clause-steps : goal.returns-clause-steps
@@ -37,3 +38,10 @@ returns-clause-keeps g c =
     (λ a both. keeps_open g.H.Handler.meaning c.args.name.now
     c.args.tenant.now c.step.new.self c.args.step a.said a.reply c.args.log.now c.step.new.log both.0 both.1)
     (both_ok _ _ c.step.result c.step.ensures.did c.step.ensures.keeps_on)
+
+pub returns-clause-just : goal.returns-clause-just
+returns-clause-just g c =
+    if_ok c.step.result
+    (λ a both. just_open g.H.Handler.meaning c.args.name.now
+    c.args.tenant.now c.step.new.self c.args.step a.said a.reply c.args.log.now c.step.new.log both.0 both.1)
+    (both_ok _ _ c.step.result c.step.ensures.did c.step.ensures.just)

@@ -1,6 +1,7 @@
 use Rattle.book.proofs.Answers.{SaysDevice, SaysDeviceIf, both_ok, both_some, if_ok, if_some, logs_open, says_some}
 use Rattle.book.proofs.Answers.{steady_err, steady_ok, steps_open, unopened}
 use Rattle.book.proofs.Keeping.{keeps_open}
+use Rattle.book.proofs.Live.{just_open}
 use Rattle.book.proofs.answer.answer_open_with.Goals as goal
 
 pub returns-clause-steps : goal.returns-clause-steps
@@ -37,3 +38,11 @@ returns-clause-keeps g c =
     c.step_with.new.self c.args.step a.said a.reply c.args.log.now c.step_with.new.log both.0 both.1)
     (both_some _ _ o clauses.0 clauses.1))
     (both_ok _ _ c.step_with.result c.step_with.ensures.did c.step_with.ensures.keeps_on)
+
+pub returns-clause-just : goal.returns-clause-just
+returns-clause-just g c =
+    if_ok c.step_with.result
+    (λ o clauses. if_some o (λ a both. just_open g.H.Handler.meaning c.args.name.now c.args.tenant.now
+    c.step_with.new.self c.args.step a.said a.reply c.args.log.now c.step_with.new.log both.0 both.1)
+    (both_some _ _ o clauses.0 clauses.1))
+    (both_ok _ _ c.step_with.result c.step_with.ensures.did c.step_with.ensures.just)

@@ -1,8 +1,10 @@
-use Rattle.std.proofs.Common.{arith, refl}
+use Rattle.std.proofs.Common.{ap, arith, refl}
 use Rattle.std.proofs.lemmas.Option.{slice_get_within}
 use Rattle.model.specs.declared.steps.TenantStep.TheVariants.{Checkpoint}
-use Rattle.tenant.specs.Kept.{Member}
+use Rattle.tenant.specs.Kept.{Member, TenantState, checkpointed_member}
+use Rattle.tenant.proofs.Live.{like_own}
 use Rattle.tenant.proofs.Moving.{beside_stands, did_then}
+use Rattle.tenant.proofs.Others.{beside_live}
 use Rattle.tenant.proofs.Shelving.{checkpoint_done, checkpoint_refused, checkpoint_unlogged}
 use Rattle.tenant.proofs.Stepping.{any_did}
 use Rattle.tenant.proofs.Keeping.{checkpoint_keeps, refused_keeps}
@@ -74,3 +76,25 @@ returns-clause-keeps_on g c =
     c.args.log.now.records c.args.unit m c.in-Ok.ensures.found c.in-Ok.ensures.up (omega (arith, none, count))
     c.last_mark-at.result c.last_mark-at.ensures
     new c.forget_firm.ensures.bases c.from_pair.result.said c.from_pair.result.reply c.from_pair.ensures.reply
+
+pub returns-clause-just : goal.returns-clause-just
+returns-clause-just g c = λ w s has.
+    let none = c.if-volatile_count-gt0.false in
+    let count = c.volatile_count.ensures in
+    let m : Member g.row.H-State.Denot = c.in-Ok.member.now in
+    let new = c.in_ok-checkpoint_at.ensures.ok m c.in-Ok.ensures.found in
+    let d = any_did g.H.Handler.meaning c.args.tenant.now c.args.self.now
+    c.checkpoint_at.new.self (Checkpoint c.args.unit) c.args.log.now (λ w. (refl, refl, refl)) c.from_pair.result
+    (λ name live w log s.
+    rw (c.from_pair.ensures.reply, new)
+    (checkpoint_done g.H.Handler.meaning name live c.args.self.now w log s c.args.unit m c.in-Ok.ensures.found
+    c.in-Ok.ensures.up (omega (arith, none, count)) c.last_mark-at.result c.last_mark-at.ensures))
+    c.from_pair.ensures.plain w s in
+    c.forget_firm.ensures.just d.steps.0 d.steps.2
+    (like_own c.args.tenant.now c.args.self.now c.checkpoint_at.new.self c.args.log.now.records c.args.unit m
+    (checkpointed_member m) c.in-Ok.ensures.found refl
+    (ap (λ (z : TenantState g.row.H-State.Denot). z.members) new) has)
+
+pub returns-clause-others_live : goal.returns-clause-others_live
+returns-clause-others_live g c =
+    beside_live c.args.tenant.now c.args.log.now c.forget_firm.new.log c.forget_firm.ensures.beside

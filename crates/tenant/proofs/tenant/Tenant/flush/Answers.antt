@@ -8,7 +8,8 @@ use Rattle.rollback.specs.Units.{Recovering}
 use Rattle.tenant.specs.Kept.{Member}
 use Rattle.tenant.proofs.Flushing.{flush_done, flush_refused}
 use Rattle.tenant.proofs.Moving.{beside_stands, did_then}
-use Rattle.tenant.proofs.Others.{appended_beside}
+use Rattle.tenant.proofs.Live.{flushed_own}
+use Rattle.tenant.proofs.Others.{appended_beside, appended_live, beside_live}
 use Rattle.tenant.proofs.Results.{unless_device}
 use Rattle.tenant.proofs.Standing.{opened}
 use Rattle.std.proofs.Common.{inl, refl}
@@ -86,3 +87,33 @@ pub returns-clause-steady : goal.returns-clause-steady
 returns-clause-steady g c =
     unless_device c.append_all-said.result.end (λ not. c.forget_after.ensures.beside.failures
     ∙ c.append_all-said.ensures.steady not)
+
+pub returns-clause-just : goal.returns-clause-just
+returns-clause-just g c = λ w s has.
+    let m : Member g.row.H-State.Denot = c.in-Ok.member.now in
+    let said = c.append_all-said.result in
+    let same : c.unit_state.result.now ≡ m.unit_state = c.unit_state.ensures in
+    let volatile : c.unit_state.result.now.volatile ≡ m.unit_state.volatile =
+    ap (λ (r : Recovering g.row.H-State.Denot). r.volatile) same in
+    let logged = c.append_all-said.ensures.records
+    ∙ ap (λ vs. c.args.log.now.records ++ map Some (take said.appended vs)) volatile in
+    let few = subst (λ vs. said.appended ≤ length vs) volatile c.append_all-said.ensures.within in
+    let whole = subst (λ vs. (said.end ≡ Whole) ↔ (said.appended ≡ length vs)) volatile
+    c.append_all-said.ensures.whole in
+    let some = c.nothing_logged_for_memory.ensures.some c.if-nothing_logged_for_memory.false in
+    let makes = c.enter_stable.ensures.makes m c.in-Ok.ensures.found in
+    let d = flush_done g.H.Handler.meaning c.args.tenant.now c.args.self.now w c.args.log.now (opened s)
+    c.args.unit m c.in-Ok.ensures.found c.in-Ok.ensures.up c.append_all-said.new.log c.enter_stable.new.self said
+    logged few whole some makes c.append_all-said.ensures.device in
+    c.forget_after.ensures.just d.steps.0 d.steps.2
+    (flushed_own g.H.Handler.meaning c.args.tenant.now c.args.self.now w c.args.log.now s c.args.unit m
+    c.in-Ok.ensures.found c.in-Ok.ensures.up c.append_all-said.new.log c.enter_stable.new.self said logged few whole
+    some makes has)
+
+pub returns-clause-others_live : goal.returns-clause-others_live
+returns-clause-others_live g c = λ other u differs.
+    beside_live c.args.tenant.now c.append_all-said.new.log c.forget_after.new.log c.forget_after.ensures.beside
+    other u differs
+    ∙ appended_live c.args.tenant.now other c.args.log.now.records c.append_all-said.new.log.records
+    c.unit_state.result.now.volatile c.append_all-said.result.appended c.append_all-said.ensures.records
+    c.append_all-said.ensures.own differs u

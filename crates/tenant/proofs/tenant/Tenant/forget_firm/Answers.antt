@@ -12,6 +12,7 @@ pub loop-at-init : goal.loop-at-init
 loop-at-init g c = record {
   gone = refl;
   stands = λ w s. s;
+  just = λ w s has. has;
   beside = beside_same c.args.tenant.now c.args.log.now;
   bases = λ w shelves s kept. kept;
 }
@@ -20,6 +21,7 @@ pub loop-at-preserved : goal.loop-at-preserved
 loop-at-preserved g c = record {
   gone = c.forget_one.ensures.gone ∙ c.loop-at.invariant.gone;
   stands = λ w s. c.forget_one.ensures.stands w (c.loop-at.invariant.stands w s);
+  just = λ w s has. c.forget_one.ensures.just w (c.loop-at.invariant.stands w s) (c.loop-at.invariant.just w s has);
   beside = beside_then c.args.tenant.now
       c.args.log.now c.loop-at.log c.forget_one.new.log c.loop-at.invariant.beside c.forget_one.ensures.beside;
   bases = λ w shelves s kept.

@@ -3,6 +3,7 @@ use Rattle.std.specs.Prelude.{Some, slice_get}
 use Rattle.std.proofs.lemmas.Option.{slice_get_read}
 use Rattle.model.proofs.Places.{get_below}
 use Rattle.tenant.specs.Kept.{TenantState}
+use Rattle.tenant.proofs.Live.{moved_own}
 use Rattle.tenant.proofs.Moving.{lets_beside, moved_stands}
 use Rattle.tenant.proofs.Standing.{opened}
 use Rattle.tenant.proofs.Emptying.{none_keeps, one_keeps}
@@ -64,3 +65,14 @@ returns-else-at-len-clause-bases g c = λ w shelves s kept.
       | else-at-len-via-else-at-len h ↦ let a = h.if-at-len.false in
           let b = c.len.ensures in omega (arith, a, b, within, wide)
     ])
+
+pub returns-then-at-len-2-clause-just : goal.returns-then-at-len-2-clause-just
+returns-then-at-len-2-clause-just g c = λ w s.
+    let t : TenantState g.row.H-State.Denot = c.args.self.now in
+    let wide : length c.self.inside.members.items ≡ length t.members =
+    ap (λ (t : TenantState g.row.H-State.Denot). length t.members) c.self.view_is in
+    let m = get_below t.members c.args.at (let a = c.if-at-len.true in
+    let b = c.len.ensures in omega (arith, a, b, wide)) in
+    moved_own g.H.Handler.meaning c.args.tenant.now t w c.args.log.now c.forget_unit.new.log s c.args.at m.0 m.1
+    c.index-frontier.result.now c.forget_unit.new.self (c.forget_unit.ensures.kept m.0 m.1)
+    (c.forget_unit.ensures.log m.0 m.1)

@@ -3,7 +3,8 @@ use Rattle.std.proofs.lemmas.Option.{slice_get_within}
 use Rattle.rollback.specs.Units.{places}
 use Rattle.tenant.specs.Kept.{Member}
 use Rattle.tenant.proofs.Back.{above, notice_learns, notice_not_up, notice_returns, notice_worn}
-use Rattle.tenant.proofs.Others.{either_beside, returned_beside}
+use Rattle.tenant.proofs.Live.{like_own, returned_own}
+use Rattle.tenant.proofs.Others.{either_beside, returned_beside, returned_live}
 use Rattle.tenant.proofs.Results.{if_ok}
 use Rattle.tenant.proofs.Standing.{opened}
 use Rattle.std.proofs.Common.{ap, refl, inr}
@@ -97,3 +98,28 @@ returns-clause-shelves g c =
     c.return_to.new.self c.args.unit m found c.rollback_target-target.result _ a c.args.log.now c.return_to.new.log
     start
     (ap (λ (z : Start). z.index) c.start_behind.ensures) (inr refl) (returns m found)) c.return_to.ensures.returns
+
+pub returns-then-is_last-clause-just : goal.returns-then-is_last-clause-just
+returns-then-is_last-clause-just g c = λ w s.
+    let m : Member g.row.H-State.Denot = c.in-Ok.field-0.now in
+    let found = c.in-Ok.ensures.found in
+    let t : TenantState g.row.H-State.Denot = c.args.self.now in
+    like_own c.args.tenant.now t c.learn_rows.new.self c.args.log.now.records c.args.unit m
+    (record m { known = length t.table }) found refl
+    (ap (λ (z : TenantState g.row.H-State.Denot). z.members) (c.learn_rows.ensures.learned m found))
+
+pub returns-clause-just : goal.returns-clause-just
+returns-clause-just g c =
+    let m : Member g.row.H-State.Denot = c.in-Ok.field-0.now in
+    let found = c.in-Ok.ensures.found in
+    if_ok _ _ c.return_to.result (λ a returns w s.
+    returned_own g.H.Handler.meaning c.args.tenant.now c.args.self.now w c.args.log.now s c.args.unit m found
+    c.rollback_target-target.result (c.rollback_target-target.ensures.target m found)
+    (c.rollback_target-target.ensures.kept m found)
+    c.return_to.new.self c.return_to.new.log a _ (returns m found)) c.return_to.ensures.returns
+
+pub returns-clause-others_live : goal.returns-clause-others_live
+returns-clause-others_live g c =
+    returned_live c.args.tenant.now c.args.unit c.args.log.now c.return_to.new.log
+    (either_beside c.return_to.result c.args.tenant.now c.args.unit
+    c.args.log.now c.return_to.new.log c.return_to.ensures.beside c.return_to.ensures.err_log)
