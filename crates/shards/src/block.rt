@@ -33,7 +33,7 @@ use std::io::{BufRead, Write};
 use std::thread;
 use std::thread::Threads;
 
-/// From how many lines on a block is stepped in threads: starting them takes as long as some tens of steps.
+/// From how many steps on a block is stepped in threads: starting them takes as long as some tens of steps.
 const THREADED: usize = 64;
 
 /// What is held of the line that is being read, and where each line before it is answered that wasn't answered yet.
@@ -198,7 +198,8 @@ fn answer<T: Threads + Sync, W: Write, H: Handler + Send, S: Store + Send>(
     ensures read { result ≢ Err ServeFault.Read }
     ensures same { result ≢ Err ServeFault.Write → writer.new.failed ≡ writer.old.failed }
 {
-    run_all(rt, shards, threads_for(places.len(), among));
+    let threads = threads_for(shards);
+    run_all(rt, shards, threads);
     let written = write_all(alloc, writer, shards, places.as_slice(), text);
     places.clear();
     written
@@ -227,15 +228,28 @@ pub(crate) fn step_waiting<T: Threads + Sync, H: Handler + Send, S: Store + Send
         (record { input = input; out = out; hosts = map (λ s. s.host) shards.new }) }
     ensures idle { AreIdle (map (λ s. s.steps.items) shards.new) }
 {
-    run_all(rt, shards, threads_for(places.len(), among));
+    let threads = threads_for(shards);
+    run_all(rt, shards, threads);
 }
 
-/// In how many threads so many lines are stepped.
-fn threads_for(lines: usize, among: usize) -> usize
-    requires { 0 < among }
+/// In how many threads the steps that wait are done: in one for each shard where there are enough of them, and no shard
+/// has most of them. A step in a thread of its own takes up to a half longer than in the one that was there before.
+fn threads_for<H: Handler, S: Store>(shards: &[Shard<H, S>]) -> usize
+    requires { 0 < length shards.now }
     ensures { 0 < result }
 {
-    if lines < THREADED { 1 } else { among }
+    let mut all = 0usize;
+    let mut most = 0usize;
+    for shard in shards {
+        let own = shard.steps.len();
+        all = all.saturating_add(own);
+        most = most.max(own);
+    }
+    if all < THREADED || most / 2 > all / 3 {
+        1
+    } else {
+        shards.len()
+    }
 }
 
 /// Deals what was read of a line, and tells where it is answered. A step for which there is no memory is one that was
