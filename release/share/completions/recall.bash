@@ -10,6 +10,7 @@ _recall() {
     'run --log') COMPREPLY=($(compgen -f -- "$now")) && return ;;
     'run --journal') COMPREPLY=($(compgen -f -- "$now")) && return ;;
     'run --from') return ;;
+    'run --cores') return ;;
     'run --report') return ;;
     'drive --journal') COMPREPLY=($(compgen -f -- "$now")) && return ;;
     'drive --from') return ;;
@@ -29,7 +30,7 @@ _recall() {
     'diff --with') COMPREPLY=($(compgen -f -- "$now")) && return ;;
     esac
     case "$command" in
-    run) COMPREPLY=($(compgen -W '--log --journal --from --adopt --accept-upgrade --explain --strict --report --programs --audit -q --quiet -v --verbose -h --help' -- "$now")) ;;
+    run) COMPREPLY=($(compgen -W '--log --journal --from --cores --adopt --accept-upgrade --explain --strict --report --programs --audit -q --quiet -v --verbose -h --help' -- "$now")) ;;
     drive) COMPREPLY=($(compgen -W '--journal --from --adopt --accept-upgrade --explain --strict --report --programs --audit -q --quiet -v --verbose -h --help' -- "$now")) ;;
     feeds) COMPREPLY=($(compgen -W '--programs --audit -q --quiet -v --verbose -h --help' -- "$now") $(compgen -f -- "$now")) ;;
     draw) COMPREPLY=($(compgen -W '--tenant --to --html --from --last --programs -h --help' -- "$now")) ;;

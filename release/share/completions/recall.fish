@@ -3,6 +3,7 @@ complete -c recall -n __fish_use_subcommand -a run -d 'Reads step lines from sta
 complete -c recall -n '__fish_seen_subcommand_from run' -l log -r -F -d 'Makes FILE anew, for its owner alone, and writes a line to it for each record that is logged'
 complete -c recall -n '__fish_seen_subcommand_from run' -l journal -r -F -d 'Keeps each line in FILE before it is stepped, and begins with the lines that FILE has, without their replies'
 complete -c recall -n '__fish_seen_subcommand_from run' -l from -x -d 'Writes the replies to the lines of the journal from N on (from 0)'
+complete -c recall -n '__fish_seen_subcommand_from run' -l cores -x -d 'Steps tenants on N cores side by side; else on all, but on one where input or standard error is a terminal, or beside --log, --audit or --explain'
 complete -c recall -n '__fish_seen_subcommand_from run' -l adopt -d 'Takes over a FILE that has bytes, and of which no page beside it tells whose it is'
 complete -c recall -n '__fish_seen_subcommand_from run' -l accept-upgrade -d 'Goes on with a FILE of another handler, or of another version of it, steps its lines by this one, and notes in FILE.about at which line that was'
 complete -c recall -n '__fish_seen_subcommand_from run' -l explain -d 'Writes to standard error why each line was refused, and what would help; always, where that is a terminal'
