@@ -63,6 +63,37 @@ impl<H: Handler, S: Store> Host<H, S> {
         }
     }
 
+    /// The host of these tenants, in the order of opening, and this log. Takes no memory.
+    pub fn of(
+        alloc: Global,
+        handler: H,
+        log: SharedLog<S>,
+        tenants: IndexMap<TenantName, Tenant<H>>,
+    ) -> Host<H, S>
+        ensures { result ≡ record { entries = tenants.entries; log = log } }
+    {
+        Host {
+            alloc,
+            handler,
+            log,
+            tenants,
+        }
+    }
+
+    /// Its tenants under their names, in the order of opening.
+    pub fn by_name(&self) -> &IndexMap<TenantName, Tenant<H>>
+        ensures { result.now.entries ≡ self.now.entries }
+    {
+        &self.tenants
+    }
+
+    /// The log of all of them.
+    pub fn log(&self) -> &SharedLog<S>
+        ensures { result.now ≡ self.now.log }
+    {
+        &self.log
+    }
+
     /// Its allocator.
     pub(crate) fn alloc(&self) -> Global {
         self.alloc

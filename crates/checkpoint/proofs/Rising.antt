@@ -1,13 +1,14 @@
 -- A shelf rises after each call.
-use Rattle.std.proofs.Common.{◌≡◌, ◌≢◌, inl, inr, refl, ◌∙◌, ap, ℕ, suc, ◌+◌, ◌<◌, Bool, true, false, cond, ◌||◌, List}
+use Rattle.std.proofs.Common.{◌≡◌, ◌≢◌, inl, inr, refl, ◌∙◌, ap, ℕ, suc, ◌+◌, ◌<◌, Bool, true, false, cond, ◌||◌, ◌&&◌, zero, subst, List}
 use Rattle.std.proofs.Common.{[], ◌∷◌, ◌++◌, length, take, drop, arith, length-append}
-use Rattle.std.specs.Prelude.{Option, Some, None, slice_get, nat_lt}
+use Rattle.std.specs.Prelude.{Option, Some, None, option_map, slice_get, nat_lt}
 use Rattle.std.specs.List.{list_any, remove}
 use Rattle.std.specs.Option.{option_map_or}
 use Rattle.std.proofs.lemmas.Option.{slice_get_within, same_Some}
-use Rattle.theory.proofs.ListLaws.{get_append, get_drop, get_take, at_any, true_eq}
+use Rattle.theory.proofs.ListLaws.{get_append, get_drop, get_take, at_any, true_eq, and_both, both_and, lt_true, true_lt}
 use Rattle.checkpoint.specs.declared.snapshot.Snapshot.{Snapshot}
-use Rattle.checkpoint.specs.Shelves.{Shelved, Rises, IsShelved, IsTop, is_at, has_index, making_room}
+use Rattle.checkpoint.specs.Shelves.{Shelved, Rises, IsShelved, IsTop, is_at, has_index, making_room, are_rising}
+use Rattle.checkpoint.specs.Shelves.{is_index_behind}
 
 -- an empty shelf
 pub rises_none : {S : Type 0} → Rises {S = S} None []
@@ -90,3 +91,49 @@ rises_put {S} base others now z is none top r = rw is (record { above = above; r
         | inr q ↦ rw q.1 (below x (inr (i + cond (nat_lt (length others) 64) 0 1, making_room_at others i x p)))
       ]
     ]
+
+-- Where the test passes, each index is greater than the one before the list.
+above_by : {S : Type 0} (last : ℕ) (xs : List (Snapshot S)) → are_rising (Some last) xs ≡ true
+    → (i : ℕ) (x : Snapshot S) → slice_get xs i ≡ Some x → last < x.index
+above_by last [] e i x f = cc
+above_by last (z ∷ xs) e zero x f =
+    subst (λ y. last < y.index) (same_Some z x f) (lt_true last z.index (and_both _ _ e).0)
+above_by last (z ∷ xs) e (suc i) x f =
+    let first : last < z.index = lt_true last z.index (and_both _ _ e).0 in
+    let rest : z.index < x.index = above_by z.index xs (and_both (nat_lt last z.index) _ e).1 i x f in
+    omega (arith, first, rest)
+
+-- And each is greater than those before it in the list.
+rising_by : {S : Type 0} (last : Option ℕ) (xs : List (Snapshot S)) → are_rising last xs ≡ true
+    → (i j : ℕ) (x y : Snapshot S) → i < j → slice_get xs i ≡ Some x → slice_get xs j ≡ Some y → x.index < y.index
+rising_by last [] e i j x y h p q = cc
+rising_by last (z ∷ xs) e i zero x y h p q = absurd (omega (arith, h))
+rising_by last (z ∷ xs) e zero (suc j) x y h p q =
+    subst (λ a. a.index < y.index) (same_Some z x p)
+    (above_by z.index xs (and_both (is_index_behind last z.index) _ e).1 j y q)
+rising_by last (z ∷ xs) e (suc i) (suc j) x y h p q =
+    rising_by (Some z.index) xs (and_both (is_index_behind last z.index) _ e).1 i j x y (omega (arith, h)) p q
+
+-- Where the test passes, a shelf of these rises.
+pub rises_of : {S : Type 0} (base : Option (Snapshot S)) (others : List (Snapshot S))
+    → are_rising (option_map (λ s. s.index) base) others ≡ true → Rises base others
+rises_of base others e = record {
+  above = λ b i x is f. above_by b.index others
+      (subst (λ o. are_rising (option_map (λ s. s.index) o) others ≡ true) is e) i x f;
+  rising = rising_by (option_map (λ s. s.index) base) others e;
+}
+
+-- the first is greater than the base
+behind_base : {S : Type 0} (base : Option (Snapshot S)) (x : Snapshot S) (xs : List (Snapshot S))
+    → Rises base (x ∷ xs) → is_index_behind (option_map (λ s. s.index) base) x.index ≡ true
+behind_base None x xs r = refl
+behind_base (Some b) x xs r = true_lt b.index x.index (r.above b 0 x refl refl)
+
+-- A shelf that rises passes the test.
+pub of_rises : {S : Type 0} (base : Option (Snapshot S)) (others : List (Snapshot S))
+    → Rises base others → are_rising (option_map (λ s. s.index) base) others ≡ true
+of_rises base [] r = refl
+of_rises base (x ∷ xs) r = both_and _ _ (behind_base base x xs r) (of_rises (Some x) xs (record {
+  above = λ b i y is f. subst (λ a. a.index < y.index) (same_Some x b is) (r.rising 0 (suc i) x y (omega arith) refl f);
+  rising = λ i j y z h p q. r.rising (suc i) (suc j) y z (omega (arith, h)) p q;
+}))

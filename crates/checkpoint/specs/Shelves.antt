@@ -18,6 +18,16 @@ pub record Rises {S : Type 0} (base : Option (Snapshot S)) (others : List (Snaps
   pub rising : (i j : ℕ) (x y : Snapshot S) → i < j → slice_get others i ≡ Some x → slice_get others j ≡ Some y
       → x.index < y.index
 
+-- the index is greater than this one, if there is one
+abbrev pub is_index_behind : Option ℕ → ℕ → Bool
+is_index_behind None index = true
+is_index_behind (Some last) index = nat_lt last index
+
+-- whether each index is greater than the one before it, the first greater than this one, if there is one
+abbrev pub are_rising : {S : Type 0} → Option ℕ → List (Snapshot S) → Bool
+are_rising last [] = true
+are_rising last (x ∷ xs) = is_index_behind last x.index && are_rising (Some x.index) xs
+
 -- this snapshot is there
 abbrev pub IsShelved : {S : Type 0} → Shelved S → Snapshot S → Type 0
 IsShelved s x = (s.base ≡ Some x) ⊎ ((i : ℕ) × (slice_get s.others i ≡ Some x))

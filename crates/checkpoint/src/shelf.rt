@@ -1,11 +1,12 @@
 //! The shelf and its calls.
 
 ghost use Rattle.std.specs.Prelude.{◌≡◌, ◌≤◌, [], ◌∷◌, ◌++◌, None, IfOk, IsTrue, OnErr, MatchOption, Some, ◌+◌, ◌<◌};
-ghost use Rattle.std.specs.Prelude.{drop, false, true, nat_lt, slice_get, length};
+ghost use Rattle.std.specs.Prelude.{drop, false, true, nat_lt, slice_get, length, IfSome, IsSome, option_map};
 ghost use Rattle.std.specs.List.{list_all, list_any, position_or_len, prefix_len};
 ghost use Rattle.std.specs.Option.{option_copied, option_map_or};
 ghost use Rattle.checkpoint.specs.Shelves.{based_at, cut_at, has_index, is_at, is_within, later_of as later_by};
 ghost use Rattle.checkpoint.specs.Shelves.{nearest_of, put_on, tops, making_room, AllAbove, IsNearest, IsTop, Rises};
+ghost use Rattle.checkpoint.specs.Shelves.{are_rising, is_index_behind};
 
 use crate::snapshot::Snapshot;
 use model::{MAX_CHECKPOINTS, NoMemory};
@@ -49,6 +50,35 @@ impl<S: Drop> Shelf<S> {
             base: Some(base),
             others: Vec::new(alloc),
         }
+    }
+
+    /// A shelf with this base and these other snapshots, if each has a greater index than the one before it. Takes no
+    /// memory.
+    #[tactic(auto, using(crate::proofs::Rising::rises_of, crate::proofs::Rising::of_rises))]
+    pub fn of(base: Option<Snapshot<S>>, others: Vec<Snapshot<S>>) -> Option<Shelf<S>>
+        ensures made { IfSome result (λ s. s ≡ record { base = base; others = others.items }) }
+        ensures rises { Rises base others.items → IsSome result }
+    {
+        if rise(&base, others.as_slice()) {
+            Some(Shelf { base, others })
+        } else {
+            None
+        }
+    }
+
+    /// The base, if there is one.
+    pub fn base(&self) -> Option<&Snapshot<S>>
+        ensures base { option_copied result ≡ self.now.base }
+        ensures rises { Rises self.now.base self.now.others }
+    {
+        self.base.as_ref()
+    }
+
+    /// The snapshots beside the base, in the order of putting.
+    pub fn others(&self) -> &[Snapshot<S>]
+        ensures { result.now ≡ self.now.others }
+    {
+        self.others.as_slice()
     }
 
     /// How many snapshots there are beside the base.
@@ -159,6 +189,33 @@ fn take_at<S: Drop>(others: &mut Vec<Snapshot<S>>, at: usize) -> Snapshot<S>
         let _ = others.remove(0);
     }
     others.remove(0)
+}
+
+/// Whether each index is greater than the one before it, that of the base before all.
+fn rise<S>(base: &Option<Snapshot<S>>, others: &[Snapshot<S>]) -> bool
+    ensures { result ≡ are_rising (option_map (λ s. s.index) base.now) others.now }
+{
+    let mut last = match base {
+        Some(base) => Some(base.index),
+        None => None,
+    };
+    for x in others {
+        if !is_behind(last, x.index) {
+            return false;
+        }
+        last = Some(x.index);
+    }
+    true
+}
+
+/// Whether the index is greater than this one, if there is one.
+fn is_behind(last: Option<u32>, index: u32) -> bool
+    ensures { result ≡ is_index_behind last index }
+{
+    match last {
+        Some(last) => last < index,
+        None => true,
+    }
 }
 
 fn is_top_of<S>(base: &Option<Snapshot<S>>, others: &[Snapshot<S>], index: u32) -> bool

@@ -54,6 +54,36 @@ impl Hold {
         self.outputs.len()
     }
 
+    /// The output at this place, the first at 0. Takes no memory, and a constant time.
+    pub fn at(&self, place: usize) -> &Held
+        requires { place < length self.now.outputs }
+        ensures { slice_get self.now.outputs place ≡ Some result.now }
+    {
+        &self.outputs[place]
+    }
+
+    /// Which unit's outputs they are.
+    pub fn unit(&self) -> Unit
+        ensures { result ≡ self.now.unit }
+    {
+        self.unit
+    }
+
+    /// Holds one output, behind those that are held.
+    ///
+    /// # Errors
+    ///
+    /// `NoMemory` where it finds no memory; what is held stays as it was.
+    pub fn push(&mut self, held: Held) -> Result<(), NoMemory>
+        ensures unit { self.new.unit ≡ self.old.unit }
+        ensures ok { IfOk result (λ _. self.new.outputs ≡ self.old.outputs ++ held ∷ []) }
+        ensures err { OnErr result (self.new.outputs ≡ self.old.outputs) }
+    {
+        self.outputs.reserve(1)?;
+        self.outputs.push_back_reserved(held);
+        Ok(())
+    }
+
     /// Holds the outputs of one interval, behind those that are held. For writers of another host: the tenant uses
     /// `reserve` and `add_reserved`.
     ///

@@ -42,6 +42,6 @@ mod view;
 
 pub use held::Held;
 pub use hold::Hold;
-pub use outlet::Outlet;
+pub use outlet::{Outlet, Released};
 pub use ticket::Ticket;
 pub use view::StableView;

@@ -1,7 +1,7 @@
 //! What left.
 
 ghost use Rattle.std.specs.Prelude.{◌≡◌, ◌+◌, ◌<◌, ◌≤◌, ◌∷◌, [], ◌++◌, IfErr, IfOk, IsOk, OnErr, OnOk, length, max};
-ghost use Rattle.std.specs.Prelude.{vec_capacity, vec_len, ◌≢◌, ℕ};
+ghost use Rattle.std.specs.Prelude.{vec_capacity, vec_len, ◌≢◌, ◌^◌, ℕ};
 ghost use Rattle.output_commit.specs.Holds.{IsOut, gone_of, line_of, line_texts, room_of};
 
 use crate::held::Held;
@@ -43,7 +43,15 @@ impl Released {
         }
     }
 
-    pub(crate) fn as_slice(&self) -> &[Text]
+    /// How many texts were given up.
+    pub fn gone(&self) -> u64
+        ensures { result ≡ self.now.gone }
+    {
+        self.gone
+    }
+
+    /// The texts behind those that were given up.
+    pub fn as_slice(&self) -> &[Text]
         ensures { result.now ≡ self.now.texts }
     {
         self.texts.as_slice()
@@ -139,6 +147,29 @@ impl Outlet {
         ensures { result ≡ length self.now }
     {
         self.lines.len()
+    }
+
+    /// What each unit released, unit 0 first.
+    pub fn lines(&self) -> &[Released]
+        ensures { result.now ≡ self.now }
+    {
+        self.lines.as_slice()
+    }
+
+    /// Adds a unit that released so many texts, which were given up, and these behind them.
+    ///
+    /// # Errors
+    ///
+    /// `NoMemory` where it finds no memory; the others stay as they were.
+    pub fn add(&mut self, gone: u64, texts: Vec<Text>) -> Result<(), NoMemory>
+        requires { gone + vec_len texts < 2 ^ 64 }
+        ensures ok { IfOk result (λ _. (room : ℕ)
+            × (self.new ≡ self.old ++ record { gone = gone; texts = texts.items; room = room } ∷ [])) }
+        ensures err { OnErr result (self.new ≡ self.old) }
+    {
+        self.lines.reserve(1)?;
+        self.lines.push_reserved(Released { gone, texts });
+        Ok(())
     }
 
     /// How many texts the unit released.

@@ -5,6 +5,7 @@
 //!   snapshots. Contracts see it as `Recovering` of `specs/Units`.
 //! - `Progress`: state and sessions after an interval. A receipt and its replay are one function, `advance`.
 //! - `Interval`: what is kept of an interval, its vector and the letter that it received.
+//! - `UnitParts`: what a unit is made of, for whoever writes it down and reads it again.
 //! - `Effects`: what the turn of a receipt sends and puts out.
 //!
 //! That what is kept is enough is said of the definitions in `compact`.
@@ -28,6 +29,7 @@
 
 mod effects;
 mod interval;
+mod parts;
 mod path;
 mod progress;
 mod replay;
@@ -36,5 +38,6 @@ mod unit;
 
 pub use effects::Effects;
 pub use interval::Interval;
+pub use parts::UnitParts;
 pub use progress::Progress;
 pub use unit::RecoveryUnit;

@@ -1,6 +1,6 @@
 //! The unit and its calls.
 
-ghost use Rattle.std.specs.Prelude.{◌≡◌, ◌+◌, ◌<◌, ◌≤◌, ◌^◌, ◌∷◌, [], ◌++◌, ◌-◌, IfOk, IfSome, IsTrue, OnErr, Some};
+ghost use Rattle.std.specs.Prelude.{◌≡◌, ◌+◌, ◌<◌, ◌≤◌, ◌^◌, ◌∷◌, [], ◌++◌, ◌-◌, IfOk, IfSome, IsSome, IsTrue, OnErr, Some};
 ghost use Rattle.std.specs.Prelude.{None, option_map, ℕ, List, length, drop, take, slice_get, slice_index_or, false};
 ghost use Rattle.std.specs.List.{position};
 ghost use Rattle.std.specs.Option.{is_some, option_copied};
@@ -15,10 +15,11 @@ ghost use Rattle.compact.specs.Steps.{from_outside};
 ghost use Rattle.rollback.specs.Units.{asking, begun_unit, checkpointed, cut_behind, effects_of, forgotten};
 ghost use Rattle.rollback.specs.Units.{killed_recovering, marked_stable, places, records_to, restored, stable_places};
 ghost use Rattle.rollback.specs.Units.{took, widened_to, BeginsBy, CountsOutside, CountsFit, IsTarget, KeepsShelved};
-ghost use Rattle.rollback.specs.Units.{OrphansAreTail};
+ghost use Rattle.rollback.specs.Units.{IsKept, OrphansAreTail};
 
 use crate::effects::Effects;
 use crate::interval::Interval;
+use crate::parts::UnitParts;
 use crate::progress::{self, Progress};
 use crate::{path, replay, shelving};
 use checkpoint::Shelf;
@@ -103,6 +104,42 @@ impl<H: Handler> RecoveryUnit<H> {
             volatile: VolatileLog::new(alloc),
             shelf,
         })
+    }
+
+    /// The unit of these parts, if they are those of a unit. Takes no memory.
+    pub fn of(parts: UnitParts<H::State>) -> Option<RecoveryUnit<H>>
+        ensures made { IfSome result (λ u. u ≡ parts) }
+        ensures whole { IsKept parts → IsSome result }
+    {
+        if !parts.are_whole() {
+            return None;
+        }
+        let UnitParts {
+            seat,
+            progress,
+            base,
+            outside,
+            intervals,
+            volatile,
+            shelf,
+        } = parts;
+        Some(RecoveryUnit {
+            seat,
+            progress,
+            base,
+            outside,
+            intervals,
+            volatile,
+            shelf,
+        })
+    }
+
+    /// Its snapshots. `kept` says which units there are.
+    pub fn shelf(&self) -> &Shelf<Progress<H::State>>
+        ensures shelf { result.now ≡ self.now.shelf }
+        ensures kept { IsKept self.now }
+    {
+        &self.shelf
     }
 
     /// Where it sits.

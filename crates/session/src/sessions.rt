@@ -4,7 +4,7 @@ ghost use Rattle.std.specs.Prelude.{◌≡◌, ◌+◌, ◌<◌, ◌≤◌, ◌^
 ghost use Rattle.session.specs.Arrivals.{arrival_of};
 ghost use Rattle.model.specs.Lists.{padded};
 ghost use Rattle.session.specs.Counts.{advanced, no_counts, nothing, sent_one, sent_to, taken_from, widened_counts};
-ghost use Rattle.session.specs.Counts.{HasRoom, IsCounted};
+ghost use Rattle.session.specs.Counts.{HasRoom, IsCounted, NoneSentMore};
 
 use crate::arrival::Arrival;
 use crate::exchange::Exchange;
@@ -50,6 +50,26 @@ impl Sessions {
             units,
             most_sent: 0,
         })
+    }
+
+    /// The counts of a unit that took so many receipts from outside and exchanged these letters with each unit, unit 0
+    /// first. Takes no memory.
+    pub fn of(outside: u64, units: Vec<Exchange>) -> Sessions
+        ensures { result ≡ record { outside = outside; units = units.items } }
+    {
+        let most_sent = most_sent(units.as_slice());
+        Sessions {
+            outside,
+            units,
+            most_sent,
+        }
+    }
+
+    /// What was exchanged with each unit, unit 0 first.
+    pub fn units(&self) -> &[Exchange]
+        ensures { result.now ≡ self.now.units }
+    {
+        self.units.as_slice()
     }
 
     /// How many units have an entry.
@@ -201,6 +221,17 @@ fn entry(units: &[Exchange], unit: usize) -> Exchange
         Some(exchange) => *exchange,
         None => Exchange::none(),
     }
+}
+
+/// The most letters that were sent to one unit.
+fn most_sent(units: &[Exchange]) -> u64
+    ensures { NoneSentMore units.now result }
+{
+    let mut most = 0;
+    for exchange in units {
+        most = exchange.sent.max(most);
+    }
+    most
 }
 
 /// Whether so many more letters to each unit can be counted.

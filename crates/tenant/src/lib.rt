@@ -82,5 +82,6 @@ mod tenant;
 
 pub use answer::Answer;
 pub use footprint::Footprint;
+pub use member::Member;
 pub use model::{Kept, Reply, TenantStep};
 pub use tenant::Tenant;

@@ -91,8 +91,34 @@ impl<H: Handler> Member<H> {
         })
     }
 
+    /// The member that keeps this of its unit, these outputs, and knows so many rows. Takes no memory.
+    pub fn of(unit_state: RecoveryUnit<H>, hold: Hold, known: usize) -> Member<H>
+        ensures { result ≡ record {
+          unit_state = unit_state;
+          unit = hold.unit;
+          outputs = hold.outputs;
+          known = known;
+        } }
+    {
+        let unit = hold.unit();
+        Member {
+            unit_state,
+            unit,
+            hold,
+            known,
+        }
+    }
+
+    /// Its held outputs.
+    pub fn hold(&self) -> &Hold
+        ensures unit { result.now.unit ≡ self.now.unit }
+        ensures outputs { result.now.outputs ≡ self.now.outputs }
+    {
+        &self.hold
+    }
+
     /// What it needs to go on and to go back.
-    pub(crate) fn unit_state(&self) -> &RecoveryUnit<H>
+    pub fn unit_state(&self) -> &RecoveryUnit<H>
         ensures { result.now ≡ self.now.unit_state }
     {
         &self.unit_state
@@ -127,7 +153,7 @@ impl<H: Handler> Member<H> {
     }
 
     /// How many rows the unit knows.
-    pub(crate) fn known(&self) -> usize
+    pub fn known(&self) -> usize
         ensures { result ≡ self.now.known }
     {
         self.known

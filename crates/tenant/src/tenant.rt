@@ -13,17 +13,18 @@ use std::marker::Model;
 use unit_steps::SentLetter;
 
 /// An open tenant: its units with the counts of their stable and of their firm intervals, what they released, the
-/// letters, and the table of rows.
+/// letters, and the table of rows. Whoever writes a tenant down and reads it again makes it of these parts: which world
+/// it stands for is said of them alone.
 #[derive(Drop)]
 pub struct Tenant<H: Handler> {
-    pub(crate) quota: Quota,
-    pub(crate) optimism: u32,
-    pub(crate) table: StartTable,
-    pub(crate) members: Vec<Member<H>>,
-    pub(crate) stable_lengths: Vec<u64>,
-    pub(crate) frontiers: Vec<u64>,
-    pub(crate) outlet: Outlet,
-    pub(crate) letters: Vec<SentLetter>,
+    pub quota: Quota,
+    pub optimism: u32,
+    pub table: StartTable,
+    pub members: Vec<Member<H>>,
+    pub stable_lengths: Vec<u64>,
+    pub frontiers: Vec<u64>,
+    pub outlet: Outlet,
+    pub letters: Vec<SentLetter>,
 }
 
 impl<H: Handler> Model for Tenant<H> {
