@@ -48,3 +48,24 @@ receiver_then = refl
 sender_then : kept_after (two ++ flush 0 1 ∷ []) 0 ≡ kept 1 0 0
 unfolding first_refusal at_unit at_up
 sender_then = refl
+
+-- a checkpoint of a beginning, which is always firm
+begun_once : kept_after (opening ((codes "echo") ∷ []) ∷ asks (Checkpoint 0) ∷ []) 0 ≡ kept 0 1 0
+unfolding first_refusal at_unit at_up
+begun_once = refl
+
+begun_twice : kept_after (opening ((codes "echo") ∷ []) ∷ asks (Checkpoint 0) ∷ asks (Checkpoint 0) ∷ []) 0
+    ≡ kept 0 1 0
+unfolding first_refusal at_unit at_up
+begun_twice = refl
+
+-- another takes its place
+begun_then : kept_after (opening ((codes "echo") ∷ []) ∷ asks (Checkpoint 0) ∷ post 0 0 (codes "a") ∷ flush 0 1
+    ∷ asks (Checkpoint 0) ∷ []) 0 ≡ kept 0 1 0
+unfolding first_refusal at_unit at_up
+begun_then = refl
+
+-- without one a beginning is none
+not_begun : kept_after (opening ((codes "echo") ∷ []) ∷ []) 0 ≡ kept 0 0 0
+unfolding first_refusal at_unit at_up
+not_begun = refl

@@ -18,23 +18,29 @@ use Rattle.model.specs.World.{Member, World, executed, is_firm}
 
 -- ---- the checkpoints of a unit
 
--- Their indices: the base, which is firm, and the others in the order of putting. The base is the beginning, at 0,
--- until
--- a checkpoint takes its place.
+-- Their indices: the base, which is firm, and the others in the order of putting. The base is the beginning, at 0, until
+-- a checkpoint behind it takes its place. The beginning is a checkpoint once one was put there.
 pub record Shelf : Type 0 where
   pub base : ℕ
+  pub first_put : Bool
   pub others : List ℕ
 
 abbrev pub first_shelf : Shelf
-first_shelf = record { base = 0; others = [] }
+first_shelf = record { base = 0; first_put = false; others = [] }
 
 -- as many others as may be kept: then the one first put goes
 abbrev pub with_room : List ℕ → List ℕ
 with_room others = cond (nat_lt (length others) MAX_CHECKPOINTS) others (drop 1 others)
 
--- one more; one at an index that is shelved, or at the beginning, leaves the shelf as it is
+-- whether one was put at the beginning
+abbrev pub marked : ℕ → Shelf → Shelf
+marked index s = record s { first_put = s.first_put || (index == 0) }
+
+-- one more; one at an index that is shelved leaves the others as they are
 abbrev pub put : ℕ → Shelf → Shelf
-put index s = cond ((s.base == index) || has s.others index) s (record s { others = with_room s.others ++ index ∷ [] })
+put index s =
+    let m = marked index s in
+    cond ((s.base == index) || has s.others index) m (record m { others = with_room m.others ++ index ∷ [] })
 
 -- those of a path of this length
 abbrev pub cut : ℕ → Shelf → Shelf
@@ -48,7 +54,7 @@ later n best index = cond (nat_lt index n) index best
 abbrev pub based : ℕ → Shelf → Shelf
 based n s =
     let base = fold (later n) s.base s.others in
-    record { base = base; others = filter (nat_lt base) s.others }
+    record s { base = base; others = filter (nat_lt base) s.others }
 
 -- how many intervals of the path are firm, up to the first that is not
 abbrev pub firm_length : World → Member → ℕ
@@ -159,11 +165,15 @@ received_for_good w m s l = received_at w.nodes (take (suc s.base) m.path) l
 abbrev pub keeps_letter : World → ℕ → Member → Shelf → ℕ × Message → Bool
 keeps_letter w u m s l = (l.1.receiver == u) && not (received_for_good w m s l.0)
 
--- the live records are those of the stable intervals behind the base, and a base at the beginning is no checkpoint
+-- a base is a checkpoint, but for a beginning at which none was put
+abbrev pub base_count : ℕ → Bool → ℕ
+base_count base first_put = cond ((base == 0) && not first_put) 0 1
+
+-- the live records are those of the stable intervals behind the base
 abbrev pub kept_behind : {S : Type 0} → Meaning S → World → ℕ → Member → Shelf → Kept
 kept_behind M w u m s = record {
   records = m.stable - 1 - s.base;
-  shelved = length s.others + cond (s.base == 0) 0 1;
+  shelved = length s.others + base_count s.base s.first_put;
   letters = count_by (keeps_letter w u m s) (enumerate_from 0 (executed M w).letters);
 }
 

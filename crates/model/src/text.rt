@@ -1,7 +1,7 @@
 //! Texts and lists that contracts see by their content.
 
 ghost use Rattle.std.specs.Prelude.{◌≡◌, ◌+◌, ◌<◌, ◌^◌, ℕ, List, Some, None, if◌then◌else◌, IfOk, IfSome, length};
-ghost use Rattle.std.specs.Prelude.{string_bytes};
+ghost use Rattle.std.specs.Prelude.{string_bytes, IsTrue};
 ghost use Rattle.std.specs.List.{list_all};
 ghost use Rattle.std.specs.Str.{bytes_eq};
 ghost use Rattle.std.proofs.Common.{rules};
@@ -412,7 +412,8 @@ impl TenantName {
 
     #[inline(always)]
     pub fn as_str(&self) -> &str
-        ensures { result.now ≡ self.now }
+        ensures text { result.now ≡ self.now }
+        ensures name { IsTrue (is_tenant_name self.now) }
     {
         let name = &self.string;
         name.as_str()

@@ -1,6 +1,7 @@
 -- How values are written as bytes, and read again.
 use Rattle.std.specs.Prelude.{◌≡◌, ℕ, ◌+◌, ◌<◌, ◌^◌, nat_lt, cond, All, List, [], ◌∷◌, ◌++◌, length, Option, None, Some}
 use Rattle.std.specs.Int.{to_le_bytes, w64}
+use Rattle.std.specs.Str.{IsUtf8}
 
 -- The bytes of a value, with what follows behind them. So the bytes of values one behind the other are one call in the
 -- other.
@@ -58,3 +59,16 @@ pair_code first second p rest = first p.0 (second p.1 rest)
 -- bytes as they are, and how many
 abbrev pub bytes_code : Code (List ℕ)
 bytes_code bytes rest = number_code (length bytes) (bytes ++ rest)
+
+-- they are a text's
+abbrev pub FitsText : List ℕ → Type 0
+FitsText bytes = IsUtf8 bytes × (length bytes < 2 ^ 64)
+
+-- the same of so many values one behind the other
+abbrev pub DecodesEach : {A : Type 0} → Code A → (A → Type 0) → ℕ → List ℕ → List A → List ℕ → Type 0
+DecodesEach {A} code fits count old xs new = (vs : List A) (rest : List ℕ)
+    → length vs ≡ count → All fits vs → old ≡ each_code code vs rest → (vs ≡ xs) × (rest ≡ new)
+
+abbrev pub UnlessEach : {A : Type 0} → Code A → (A → Type 0) → ℕ → List ℕ → Type 0 → Type 0
+UnlessEach {A} code fits count old P = (vs : List A) (rest : List ℕ)
+    → length vs ≡ count → All fits vs → old ≡ each_code code vs rest → P

@@ -26,7 +26,7 @@ pub trait Coded: Drop + Sized {
     /// `NoMemory` where they find no memory; some of them may be appended then.
     fn encode(&self, out: &mut Vec<u8>) -> Result<(), NoMemory>
         ensures code { IfOk result (λ _. Encodes code self.now out.old.items out.new.items) }
-        ensures fits { fits self.now };
+        ensures fits { IfOk result (λ _. fits self.now) };
 
     /// Takes a value's bytes off the input.
     ///

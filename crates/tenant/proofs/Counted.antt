@@ -12,7 +12,7 @@ use Rattle.model.specs.declared.kept.Kept.{Kept as Amount}
 use Rattle.model.specs.declared.names.Row.{Row}
 use Rattle.model.specs.declared.records.Record.{Record}
 use Rattle.model.specs.Handler.{Meaning}
-use Rattle.model.specs.Keeping.{Shelf, keeps_letter, kept_behind, kept_if, kept_in, received_for_good}
+use Rattle.model.specs.Keeping.{Shelf, base_count, keeps_letter, kept_behind, kept_if, kept_in, received_for_good}
 use Rattle.model.specs.Nodes.{Message, node_at}
 use Rattle.model.specs.World.{Member, World, executed, held, is_firm, mark_of}
 use Rattle.model.proofs.Places.{get_below}
@@ -91,15 +91,15 @@ module _ {S : Type 0} (M : Meaning S) (name : List ℕ) (t : TenantState S) (w :
     | yes q ↦
         let m = get_below w.members u q in
         let x = stands_at M name (live_in name records) t w (opened s).whole (opened s).stands u m.0 m.1 in
-        let f : Shelf = shelf_of x.member.unit_state in
+        let f : Shelf = shelf_of x.member.first_put x.member.unit_state in
         let there : slice_get shelves u ≡ Some f = ap (λ ss. slice_get ss u) (sym keeping.shelved)
-        ∙ at_map (λ (n : MemberOf S). shelf_of n.unit_state) t.members u x.member x.found in
+        ∙ at_map (λ (n : MemberOf S). shelf_of n.first_put n.unit_state) t.members u x.member x.found in
         let stable = sym x.kept.seen.stable ∙ x.stands.stable in
         let others : length x.member.unit_state.shelf.others ≡ length f.others =
         sym (length-map x.member.unit_state.shelf.others (λ s. s.index)) in
         let same : amount_of t.letters u x.member ≡ kept_behind M w u m.0 f = (λ i. record {
           records = stable i - 1 - f.base;
-          shelved = others i + cond (f.base == 0) 0 1;
+          shelved = others i + base_count f.base f.first_put;
           letters = letters_same u m.0 f m.1 there i;
         }) in
         ap (option_map (amount_of t.letters u)) x.found
@@ -155,8 +155,8 @@ module _ {S : Type 0} (M : Meaning S) (name : List ℕ) (t : TenantState S) (w :
       let r = x.member.unit_state in
       let all = places_are_seen M r x.unit x.kept.kept x.kept.seen in
       let kept_there = ap (λ ss. slice_get ss u) (sym keeping.shelved)
-      ∙ at_map (λ (z : MemberOf S). shelf_of z.unit_state) t.members u x.member x.found in
-      let shelf : shelf_of r ≡ q = same_Some (shelf_of r) q (sym kept_there ∙ there) in
+      ∙ at_map (λ (z : MemberOf S). shelf_of z.first_put z.unit_state) t.members u x.member x.found in
+      let shelf : shelf_of x.member.first_put r ≡ q = same_Some (shelf_of x.member.first_put r) q (sym kept_there ∙ there) in
       let base : r.base ≡ q.base = ap (λ (z : Shelf). z.base) shelf in
       let path : length x.unit.intervals ≡ length m.path - x.unit.base.index =
       ap length x.stands.intervals

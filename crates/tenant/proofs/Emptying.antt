@@ -176,9 +176,9 @@ module _ {S : Type 0} (M : Meaning S) (name : List ℕ) (t : TenantState S) (w :
   low : r.base < f
   low = let a = here.firm_base in let b = base_is in let c = front_is in omega (arith, a, b, c)
 
-  shelved : slice_get shelves u ≡ Some (shelf_of r)
+  shelved : slice_get shelves u ≡ Some (shelf_of m.first_put r)
   shelved = ap (λ ss. slice_get ss u) (sym kept.shelved)
-      ∙ at_map (λ (n : MemberOf S). shelf_of n.unit_state) t.members u m found
+      ∙ at_map (λ (n : MemberOf S). shelf_of n.first_put n.unit_state) t.members u m found
 
   module _ (base : ℕ) (next : next_base r f ≡ Some base) where
     abbrev given : List Interval
@@ -235,15 +235,15 @@ module _ {S : Type 0} (M : Meaning S) (name : List ℕ) (t : TenantState S) (w :
     v = moved_kept t u m (Some base)
 
     abbrev moved_shelves : List Shelf
-    moved_shelves = slice_set shelves u (based f (shelf_of r))
+    moved_shelves = slice_set shelves u (based f (shelf_of m.first_put r))
 
-    based_to : shelf_of (forgotten r base) ≡ based f (shelf_of r)
-    based_to = based_is r x.is.kept f low base next
+    based_to : shelf_of m.first_put (forgotten r base) ≡ based f (shelf_of m.first_put r)
+    based_to = based_is r m.first_put x.is.kept f low base next
 
-    base_to : (shelf_of (forgotten r base)).base ≡ base
+    base_to : (shelf_of m.first_put (forgotten r base)).base ≡ base
     base_to = go (base == r.base) refl
       where
-        go : (b : Bool) → (base == r.base) ≡ b → (shelf_of (cond b r (based_on r base))).base ≡ base
+        go : (b : Bool) → (base == r.base) ≡ b → (shelf_of m.first_put (cond b r (based_on r base))).base ≡ base
         go true e = sym (eq_true base r.base e)
         go false e = refl
 
@@ -251,10 +251,10 @@ module _ {S : Type 0} (M : Meaning S) (name : List ℕ) (t : TenantState S) (w :
     not_lower = not_back r x.is.kept f base next
 
     own_letter : (l : ℕ) (c : Letter) → Was t.letters l c (list_any (λ (i : Interval). is_of l i.letter) given)
-        → c.receiver ≡ u → (z : Shelf) → z ≡ based f (shelf_of r) → is_none c.content ≡ received_for_good w q z l
+        → c.receiver ≡ u → (z : Shelf) → z ≡ based f (shelf_of m.first_put r) → is_none c.content ≡ received_for_good w q z l
     own_letter l c was to z same =
         let to_unit : was.was.receiver ≡ u = sym was.receiver ∙ to in
-        let before = kept.letters l was.was q (shelf_of r) was.at (ap (slice_get w.members) to_unit
+        let before = kept.letters l was.was q (shelf_of m.first_put r) was.at (ap (slice_get w.members) to_unit
         ∙ world_unit.1) (ap (slice_get shelves) to_unit ∙ shelved) in
         let moved_base : z.base ≡ base = ap (λ (y : Shelf). y.base) (same ∙ sym based_to) ∙ base_to in
         was.content
@@ -265,21 +265,21 @@ module _ {S : Type 0} (M : Meaning S) (name : List ℕ) (t : TenantState S) (w :
     pub moved_keeping : IsKeeping v w moved_shelves
     moved_keeping = record {
       shelved =
-          map-set (λ (n : MemberOf S). shelf_of n.unit_state) t.members u (record m { unit_state = forgotten r base })
+          map-set (λ (n : MemberOf S). shelf_of n.first_put n.unit_state) t.members u (record m { unit_state = forgotten r base })
           ∙ (λ j. slice_set (kept.shelved j) u (based_to j));
       letters = λ l c n z at after own.
           let was = was_all t.letters given l c at in
           elim (ℕ_discrete c.receiver u) [
             | yes to ↦
                 let same_unit : q ≡ n = same_Some q n (sym world_unit.1 ∙ ap (slice_get w.members) (sym to) ∙ after) in
-                let own_shelf : z ≡ based f (shelf_of r) =
-                sym (same_Some (based f (shelf_of r)) z (sym (set_get_same shelves u (based f (shelf_of r))
-                (shelf_of r) shelved) ∙ ap (slice_get moved_shelves) (sym to) ∙ own)) in
+                let own_shelf : z ≡ based f (shelf_of m.first_put r) =
+                sym (same_Some (based f (shelf_of m.first_put r)) z (sym (set_get_same shelves u (based f (shelf_of m.first_put r))
+                (shelf_of m.first_put r) shelved) ∙ ap (slice_get moved_shelves) (sym to) ∙ own)) in
                 own_letter l c was to z own_shelf ∙ ap (λ (y : Member). received_for_good w y z l) same_unit
             | no other ↦
                 let away : was.was.receiver ≡ u → ⊥ = λ e. other (was.receiver ∙ e) in
                 let own_before : slice_get shelves was.was.receiver ≡ Some z =
-                sym (set_get_other shelves u was.was.receiver (based f (shelf_of r)) away)
+                sym (set_get_other shelves u was.was.receiver (based f (shelf_of m.first_put r)) away)
                 ∙ ap (slice_get moved_shelves) (sym was.receiver) ∙ own in
                 was.content
                 ∙ ap (λ b. is_none was.was.content || b) (other_none l was.was was.at away)
@@ -290,16 +290,16 @@ module _ {S : Type 0} (M : Meaning S) (name : List ℕ) (t : TenantState S) (w :
 
   -- Its base moves as far as it is firm.
   moved_to : (o : Option ℕ) → next_base r f ≡ o
-      → IsKeeping (moved_kept t u m o) w (slice_set shelves u (based f (shelf_of r)))
-  moved_to None e = absurd (next_there r x.is.kept f low e)
+      → IsKeeping (moved_kept t u m o) w (slice_set shelves u (based f (shelf_of m.first_put r)))
+  moved_to None e = absurd (next_there r m.first_put x.is.kept f low e)
   moved_to (Some base) e = moved_keeping base e
 
   pub moved_keeps : (v : TenantState S)
       → v ≡ moved_kept t u m (next_base r f) → IsKeeping v w (changed (based (firm_length w q)) u shelves)
   moved_keeps v same =
-      subst (λ (ss : List Shelf). IsKeeping v w ss) ((λ j. slice_set shelves u (based (front_is j) (shelf_of r)))
+      subst (λ (ss : List Shelf). IsKeeping v w ss) ((λ j. slice_set shelves u (based (front_is j) (shelf_of m.first_put r)))
       ∙ ap (changed_if (based (firm_length w q)) u shelves) (sym shelved))
-      (subst (λ (z : TenantState S). IsKeeping z w (slice_set shelves u (based f (shelf_of r))))
+      (subst (λ (z : TenantState S). IsKeeping z w (slice_set shelves u (based f (shelf_of m.first_put r))))
       (sym same) (moved_to (next_base r f) refl))
 
 -- ---- all units, one after another

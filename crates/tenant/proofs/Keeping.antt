@@ -69,7 +69,7 @@ no_letters t v e = record { made = []; letters = e ∙ sym (append-nil t.letters
 -- ---- checkpoints, by lists
 
 abbrev of_member : {S : Type 0} → Member S → Shelf
-of_member m = shelf_of m.unit_state
+of_member m = shelf_of m.first_put m.unit_state
 
 module _ {S : Type 0} (t : TenantState S) (u : ℕ) (m : Member S) (found : slice_get t.members u ≡ Some m)
     (n : Member S) (v : TenantState S) (members : v.members ≡ slice_set t.members u n) where
@@ -120,7 +120,7 @@ pub one_back : {S : Type 0} (t v : TenantState S) (u : ℕ) (m : Member S)
     → v ≡ returned_kept t u m target incarnation progress → Shelves (changed (cut (target + 1)) u) t v
 one_back {S} t v u m found target incarnation progress e =
     one_changed t u m found _ v (ap (λ (z : TenantState S). z.members) e)
-    (cut (target + 1)) (cut_is m.unit_state (target + 1)) (no_letters t v (ap (λ (z : TenantState S). z.letters) e))
+    (cut (target + 1)) (cut_is m.unit_state m.first_put (target + 1)) (no_letters t v (ap (λ (z : TenantState S). z.letters) e))
 
 -- ---- what the rules leave
 
@@ -308,11 +308,12 @@ module _ {S : Type 0} (M : Meaning S) (name : List ℕ) (t mid v : TenantState S
   abbrev last : ℕ
   last = places r - 1
 
-  shelf_put : IsKept r → shelf_of (checkpointed r) ≡ put last (shelf_of r)
+  shelf_put : IsKept r → of_member (checkpointed_member m) ≡ put last (of_member m)
   shelf_put kept =
       let p = there r.progress up in
-      ap (λ (o : Option (Progress S)). shelf_of (record r { shelf = shelf_with r.shelf last o })) p.1
-      ∙ put_is r kept last p.0
+      ap (λ (o : Option (Progress S)). shelf_of (m.first_put || (last == 0))
+      (record r { shelf = shelf_with r.shelf last o })) p.1
+      ∙ put_is r m.first_put kept last p.0
 
   -- A checkpoint that is put, and after which the bases move, keeps what the rules leave.
   pub checkpoint_keeps : (said : Said) (reply : Reply)

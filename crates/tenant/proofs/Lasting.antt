@@ -14,8 +14,8 @@ use Rattle.model.specs.declared.steps.TenantStep.{TenantStep}
 use Rattle.model.specs.Alone.{Reachable, step_open}
 use Rattle.model.specs.Alone.Reachable.{stepped}
 use Rattle.model.specs.Handler.{Meaning}
-use Rattle.model.specs.Keeping.{Shelf, changed, changed_if, first_shelf, put, with_room, received_at, received_for_good}
-use Rattle.model.specs.Keeping.{receives}
+use Rattle.model.specs.Keeping.{Shelf, changed, changed_if, first_shelf, marked, put, with_room, received_at}
+use Rattle.model.specs.Keeping.{received_for_good, receives}
 use Rattle.model.specs.Lists.{has}
 use Rattle.model.specs.Nodes.{Cause, Message, Node, began, letter, node_at, outside, parents, place_before, sender_of}
 use Rattle.model.specs.Steps.{Outcome}
@@ -159,7 +159,7 @@ module _ {S : Type 0} (M : Meaning S) (name : List ℕ)
       let a = standing.stands.1.width in
       let b = standing.stands.2.represents.width in
       let c : length (shelves_of t) ≡ length t.members =
-      length-map t.members (λ (m : MemberOf S). shelf_of m.unit_state) in
+      length-map t.members (λ (m : MemberOf S). shelf_of m.first_put m.unit_state) in
       ap length (sym keeping.shelved) ∙ c ∙ a ∙ b
 
   count : length t.letters ≡ length (executed M w).letters
@@ -171,8 +171,8 @@ module _ {S : Type 0} (M : Meaning S) (name : List ℕ)
   of_shelf u s at =
       let m = get_below w.members u (let a = slice_get_within shelves u s at in let b = width in omega (arith, a, b)) in
       let x = stands_at M name (live_in name records) t w standing.whole standing.stands u m.0 m.1 in
-      let own : shelf_of x.member.unit_state ≡ s = same_Some (shelf_of x.member.unit_state) s
-      (sym (at_map (λ (n : MemberOf S). shelf_of n.unit_state) t.members u x.member x.found)
+      let own : shelf_of x.member.first_put x.member.unit_state ≡ s = same_Some (shelf_of x.member.first_put x.member.unit_state) s
+      (sym (at_map (λ (n : MemberOf S). shelf_of n.first_put n.unit_state) t.members u x.member x.found)
       ∙ ap (λ ss. slice_get ss u) keeping.shelved ∙ at) in
       let base : x.member.unit_state.base ≡ s.base = ap (λ (r : Shelf). r.base) own in
       let seen : x.unit.base.index ≡ x.member.unit_state.base =
@@ -270,7 +270,8 @@ changed_bases f keeps u shelves v s at = go (slice_get shelves u) refl at
 pub put_base : (index : ℕ) (s : Shelf) → (put index s).base ≡ s.base
 put_base index s = go ((s.base == index) || has s.others index)
   where
-    go : (b : Bool) → (cond b s (record s { others = with_room s.others ++ index ∷ [] })).base ≡ s.base
+    go : (b : Bool)
+        → (cond b (marked index s) (record (marked index s) { others = with_room s.others ++ index ∷ [] })).base ≡ s.base
     go true = refl
     go false = refl
 

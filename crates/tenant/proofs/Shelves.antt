@@ -27,11 +27,11 @@ index_of x = x.index
 abbrev indices : {P : Type 0} → List (Snapshot P) → List ℕ
 indices xs = map index_of xs
 
-abbrev shelf : ℕ → List ℕ → Shelf
-shelf base others = record { base = base; others = others }
+abbrev shelf : Bool → ℕ → List ℕ → Shelf
+shelf first base others = record { base = base; first_put = first; others = others }
 
-same_shelf : (m n : ℕ) (xs ys : List ℕ) → m ≡ n → xs ≡ ys → shelf m xs ≡ shelf n ys
-same_shelf m n xs ys e f = λ i. shelf (e i) (f i)
+same_shelf : (first : Bool) (m n : ℕ) (xs ys : List ℕ) → m ≡ n → xs ≡ ys → shelf first m xs ≡ shelf first n ys
+same_shelf first m n xs ys e f = λ i. shelf first (e i) (f i)
 
 has_indices : {P : Type 0} (xs : List (Snapshot P)) (n : ℕ) → list_any (is_at n) xs ≡ has (indices xs) n
 has_indices [] n = refl
@@ -148,7 +148,7 @@ above_base None others m e rises i x g = absurd (cc e)
 above_base (Some b) others m e rises i x g = let is : b.index ≡ m = same_Some b.index m e in
     let h = rises.above b i x refl g in omega (arith, is, h)
 
-module _ {S : Type 0} (r : Recovering S) where
+module _ {S : Type 0} (r : Recovering S) (first : Bool) where
   abbrev others : List (Snapshot (Progress S))
   others = r.shelf.others
 
@@ -168,24 +168,28 @@ module _ {S : Type 0} (r : Recovering S) where
 
   -- A shelf on which a snapshot is put has, by its indices, the snapshot's index put.
   pub put_is : IsKept r → (index : ℕ) (p : Progress S)
-      → shelf_of (record r { shelf = put_on r.shelf (record { index = index; state = p }) }) ≡ put index (shelf_of r)
+      → shelf_of (first || (index == 0)) (record r { shelf = put_on r.shelf (record { index = index; state = p }) })
+      ≡ put index (shelf_of first r)
   put_is k index p = go (has_index r.shelf index)
-      ∙ ap (λ b. cond b (shelf_of r) (shelf r.base (room_of (indices others) ++ index ∷ []))) (has_is k index)
+      ∙ ap (λ b. cond b (shelf_of marks r) (shelf marks r.base (room_of (indices others) ++ index ∷ []))) (has_is k index)
     where
-      go : (b : Bool) → shelf_of (record r {
+      abbrev marks : Bool
+      marks = first || (index == 0)
+
+      go : (b : Bool) → shelf_of marks (record r {
         shelf =
             cond b r.shelf (record r.shelf { others = making_room others ++ snapshot index p ∷ [] });
       })
-          ≡ cond b (shelf_of r) (shelf r.base (room_of (indices others) ++ index ∷ []))
+          ≡ cond b (shelf_of marks r) (shelf marks r.base (room_of (indices others) ++ index ∷ []))
       go true = refl
-      go false = ap (shelf r.base) (map-append index_of (making_room others) (snapshot index p ∷ [])
+      go false = ap (shelf marks r.base) (map-append index_of (making_room others) (snapshot index p ∷ [])
           ∙ ap (λ is. is ++ index ∷ []) (room_is others))
 
   -- ---- a path is cut
 
   -- A shelf that is cut at an index has, by its indices, those that are cut there.
-  pub cut_is : (n : ℕ) → shelf_of (record r { shelf = cut_at r.shelf n }) ≡ cut n (shelf_of r)
-  cut_is n = ap (shelf r.base) (front_is n others)
+  pub cut_is : (n : ℕ) → shelf_of first (record r { shelf = cut_at r.shelf n }) ≡ cut n (shelf_of first r)
+  cut_is n = ap (shelf first r.base) (front_is n others)
 
   -- ---- the base moves
 
@@ -213,22 +217,22 @@ module _ {S : Type 0} (r : Recovering S) where
 
   -- those above the new base stay
   forgotten_is : IsKept r → (base : ℕ)
-      → has_index r.shelf base ≡ true → shelf_of (forgotten r base) ≡ shelf base (filter (nat_lt base) (indices others))
+      → has_index r.shelf base ≡ true → shelf_of first (forgotten r base) ≡ shelf first base (filter (nat_lt base) (indices others))
   forgotten_is k base there = go (base == r.base) refl
     where
       go : (q : Bool) → (base == r.base) ≡ q
-          → shelf_of (cond q r (based_on r base)) ≡ shelf base (filter (nat_lt base) (indices others))
+          → shelf_of first (cond q r (based_on r base)) ≡ shelf first base (filter (nat_lt base) (indices others))
       go true t =
           let is = eq_true base r.base t in
-          same_shelf r.base base (indices others) (filter (nat_lt base) (indices others)) (sym is)
+          same_shelf first r.base base (indices others) (filter (nat_lt base) (indices others)) (sym is)
           (sym (all_above base others (λ i x e. let h = above_base r.shelf.base others r.base k.base k.rises i x e in
           omega (arith, is, h))))
       go false t = ap (shelf base) (behind_is base
-          others (λ i j x y lt f g. k.rises.rising i j x y lt f g) (others_have r.shelf r.base base k.base t there))
+          others (λ i j x y lt f g. k.rises.rising i j x y lt f g) (others_have r.shelf first r.base base k.base t there))
 
   -- A unit that forgets up to its next base has, by its indices, a shelf that is based at the frontier.
   pub based_is : IsKept r → (f : ℕ)
-      → r.base < f → (base : ℕ) → next_base r f ≡ Some base → shelf_of (forgotten r base) ≡ based f (shelf_of r)
+      → r.base < f → (base : ℕ) → next_base r f ≡ Some base → shelf_of first (forgotten r base) ≡ based f (shelf_of first r)
   based_is k f low base e =
       forgotten_is k base (next_is r f base e).0
-      ∙ ap (λ n. shelf n (filter (nat_lt n) (indices others))) (same_Some base (last f) (sym e ∙ next_last k f low))
+      ∙ ap (λ n. shelf first n (filter (nat_lt n) (indices others))) (same_Some base (last f) (sym e ∙ next_last k f low))

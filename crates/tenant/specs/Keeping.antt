@@ -1,5 +1,5 @@
 -- What a tenant keeps of its world's past.
-use Rattle.std.specs.Prelude.{◌≡◌, ℕ, ◌+◌, ◌++◌, ◌==◌, ◌&&◌, Bool, false, cond, List, length, map, Option, Some, None}
+use Rattle.std.specs.Prelude.{◌≡◌, ℕ, ◌+◌, ◌++◌, ◌==◌, ◌&&◌, Bool, false, List, length, map, Option, Some, None}
 use Rattle.std.specs.Prelude.{option_map, slice_get, is_none}
 use Rattle.std.specs.List.{filter}
 use Rattle.std.specs.Option.{is_some}
@@ -10,8 +10,8 @@ use Rattle.model.specs.declared.steps.TenantStep.{TenantStep}
 use Rattle.model.specs.declared.records.Record.{Record}
 use Rattle.model.specs.Alone.{step_open}
 use Rattle.model.specs.Handler.{Meaning}
-use Rattle.model.specs.Keeping.{Shelf, after_open, all_based, based, changed, firm_length, received_for_good}
-use Rattle.model.specs.Keeping.{shelves_after}
+use Rattle.model.specs.Keeping.{Shelf, after_open, all_based, base_count, based, changed, firm_length}
+use Rattle.model.specs.Keeping.{received_for_good, shelves_after}
 use Rattle.model.specs.World.{Member as MemberOf, World}
 use Rattle.compact.specs.Compact.{Letter}
 use Rattle.rollback.specs.Units.{Recovering}
@@ -19,12 +19,12 @@ use Rattle.tenant.specs.Kept.{TenantState, Member, live_count}
 use Rattle.tenant.specs.Outcomes.{done}
 use Rattle.tenant.specs.Stands.{Stands}
 
--- the checkpoints of a unit by their indices
-abbrev pub shelf_of : {S : Type 0} → Recovering S → Shelf
-shelf_of r = record { base = r.base; others = map (λ s. s.index) r.shelf.others }
+-- the checkpoints of a unit by their indices, where one was put at its beginning or not
+abbrev pub shelf_of : {S : Type 0} → Bool → Recovering S → Shelf
+shelf_of first_put r = record { base = r.base; first_put = first_put; others = map (λ s. s.index) r.shelf.others }
 
 abbrev pub shelves_of : {S : Type 0} → TenantState S → List Shelf
-shelves_of t = map (λ m. shelf_of m.unit_state) t.members
+shelves_of t = map (λ m. shelf_of m.first_put m.unit_state) t.members
 
 -- The tenant's units have these checkpoints, and a letter is without content just where an interval up to its
 -- receiver's base received it.
@@ -80,14 +80,14 @@ Bases M name t records v = (w : World) (shelves : List Shelf) → Stands M name 
 abbrev pub is_whole_to : ℕ → Letter → Bool
 is_whole_to u c = (c.receiver == u) && is_some c.content
 
--- how many checkpoints a unit has: a base at the beginning is none
-abbrev pub shelved_count : {S : Type 0} → Recovering S → ℕ
-shelved_count r = length r.shelf.others + cond (r.base == 0) 0 1
+-- how many checkpoints a unit has
+abbrev pub shelved_count : {S : Type 0} → Member S → ℕ
+shelved_count m = length m.unit_state.shelf.others + base_count m.unit_state.base m.first_put
 
 abbrev pub amount_of : {S : Type 0} → List Letter → ℕ → Member S → Amount
 amount_of letters u m = record {
   records = live_count m.unit_state;
-  shelved = shelved_count m.unit_state;
+  shelved = shelved_count m;
   letters = length (filter (is_whole_to u) letters);
 }
 

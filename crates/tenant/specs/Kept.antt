@@ -1,5 +1,6 @@
 -- What a tenant keeps, by lists.
 use Rattle.std.specs.Prelude.{◌≡◌, All, [], ◌∷◌, replicate, length, ◌++◌, ◌-◌, min, option_map, drop, map, slice_get}
+use Rattle.std.specs.Prelude.{Bool, false, ◌||◌, ◌==◌}
 use Rattle.std.specs.Prelude.{slice_set, ℕ, cond, nat_le, nat_lt, List, Option, Some, None, ◌+◌, take, ◌<◌, ◌^◌}
 use Rattle.std.specs.List.{fold, position}
 use Rattle.std.specs.Option.{is_some}
@@ -34,12 +35,14 @@ use Rattle.unit_steps.specs.Receipts.{IsFrontier, frontier_of, TenantView, lette
 use Rattle.unit_steps.specs.Receipts.{vector_upon}
 use Rattle.compact.specs.Steps.{Receipt, letters_by}
 
--- One unit: what it needs to go on and to go back, its held outputs, and how many rows it knows.
+-- One unit: what it needs to go on and to go back, its held outputs, how many rows it knows, and whether a checkpoint
+-- of its beginning was put.
 pub record Member (S : Type 0) : Type 0 where
   pub unit_state : Recovering S
   pub unit : ℕ
   pub outputs : List Held
   pub known : ℕ
+  pub first_put : Bool
 
 -- An open tenant. For each unit it keeps how many of its intervals are stable and how many are firm, how many of the
 -- texts that it released were given up, and those behind them.
@@ -129,14 +132,17 @@ killed_member m =
 -- ---- checkpoint
 
 abbrev pub checkpointed_member : {S : Type 0} → Member S → Member S
-checkpointed_member m = record m { unit_state = checkpointed m.unit_state }
+checkpointed_member m = record m {
+  unit_state = checkpointed m.unit_state;
+  first_put = m.first_put || (places m.unit_state - 1 == 0);
+}
 
 -- ---- open
 
 -- a unit at its beginning, in a tenant of so many units, when there are so many rows
 abbrev pub begun_member : {S : Type 0} → Meaning S → ℕ → Seat → ℕ → Member S
 begun_member M width seat known =
-    record { unit_state = begun_unit M width seat; unit = seat.unit; outputs = []; known = known }
+    record { unit_state = begun_unit M width seat; unit = seat.unit; outputs = []; known = known; first_put = false }
 
 -- one unit more, at its beginning
 abbrev pub with_begun : {S : Type 0} → Meaning S → ℕ → List (Member S) → ℕ → List (Member S)

@@ -29,13 +29,15 @@ use session::Sessions;
 use std::alloc::Global;
 use std::marker::Model;
 
-/// What it needs to go on and to go back, its held outputs, and how many rows of the table it knows.
+/// What it needs to go on and to go back, its held outputs, how many rows of the table it knows, and whether a
+/// checkpoint of its beginning was put.
 #[derive(Drop)]
 pub struct Member<H: Handler> {
     unit_state: RecoveryUnit<H>,
     unit: Unit,
     hold: Hold,
     known: usize,
+    first_put: bool,
 }
 
 impl<H: Handler> Model for Member<H> {
@@ -49,6 +51,7 @@ impl<H: Handler> Model for Member<H> {
       unit = m.unit;
       outputs = m.hold.outputs;
       known = m.known;
+      first_put = m.first_put;
     } };
 
     ghost invariant = { λ m. m.hold.unit ≡ m.unit };
@@ -88,16 +91,24 @@ impl<H: Handler> Member<H> {
             unit,
             hold,
             known,
+            first_put: false,
         })
     }
 
-    /// The member that keeps this of its unit, these outputs, and knows so many rows. Takes no memory.
-    pub fn of(unit_state: RecoveryUnit<H>, hold: Hold, known: usize) -> Member<H>
+    /// The member that keeps this of its unit, these outputs, knows so many rows, and had a checkpoint of its beginning
+    /// or not. Takes no memory.
+    pub fn of(
+        unit_state: RecoveryUnit<H>,
+        hold: Hold,
+        known: usize,
+        first_put: bool,
+    ) -> Member<H>
         ensures { result ≡ record {
           unit_state = unit_state;
           unit = hold.unit;
           outputs = hold.outputs;
           known = known;
+          first_put = first_put;
         } }
     {
         let unit = hold.unit();
@@ -106,7 +117,15 @@ impl<H: Handler> Member<H> {
             unit,
             hold,
             known,
+            first_put,
         }
+    }
+
+    /// Whether a checkpoint of its beginning was put.
+    pub fn first_put(&self) -> bool
+        ensures { result ≡ self.now.first_put }
+    {
+        self.first_put
     }
 
     /// Its held outputs.
@@ -239,7 +258,9 @@ impl<H: Handler> Member<H> {
         ensures ok { IfOk result (λ _. self.new ≡ checkpointed_member self.old) }
         ensures err { OnErr result (self.new ≡ self.old) }
     {
+        let is_first = self.unit_state.last_index() == 0;
         self.unit_state.checkpoint(alloc, handler)?;
+        self.first_put = self.first_put || is_first;
         Ok(())
     }
 
@@ -360,12 +381,12 @@ impl<H: Handler> Member<H> {
         stable.saturating_sub(u64::from(self.unit_state.base())) as usize
     }
 
-    /// How many checkpoints it has, with its base where that is not its beginning.
+    /// How many checkpoints it has, with its base, but for a beginning at which none was put.
     pub(crate) fn shelved_count(&self) -> usize
-        ensures { result ≡ shelved_count self.now.unit_state }
+        ensures { result ≡ shelved_count self.now }
     {
         let others = self.unit_state.shelved();
-        if self.unit_state.base() == 0 {
+        if self.unit_state.base() == 0 && !self.first_put {
             others
         } else {
             others + 1

@@ -7,6 +7,6 @@ use Rattle.audit.proofs.line.audit_line.Goals as goal
 pub returns : goal.returns
 unfolding outcome_text
 returns c =
-    let is = c.in_ok-value.ensures ∙ ap (λ t. outcome_data t c.args.outcome.now) c.as_str.ensures in
+    let is = c.in_ok-value.ensures ∙ ap (λ t. outcome_data t c.args.outcome.now) c.as_str.ensures.text in
     c.in_ok-to_string.ensures.text (ap has_float is ∙ has_float-outcome c.args.tenant.now c.args.outcome.now)
     ∙ ap compact_text is

@@ -1,0 +1,50 @@
+//! Texts and lists that have a type of their own.
+
+ghost use Rattle.std.specs.Prelude.{◌≡◌, ◌<◌, ◌^◌, ◌×◌, IfErr, IfOk, length};
+ghost use Rattle.std.specs.Str.{IsUtf8};
+ghost use Rattle.snapshot.specs.Codes.{bytes_code, Decodes, Encodes, FitsText, Unless};
+ghost use Rattle.snapshot.specs.declared.fault.DecodeFault.{DecodeFault as FaultOf};
+
+use crate::coded::Coded;
+use crate::fault::DecodeFault;
+use crate::input::Input;
+use model::{NoMemory, Text};
+use std::alloc::Global;
+
+/// Appends the length of the bytes, and the bytes.
+fn encode_bytes(bytes: &[u8], out: &mut Vec<u8>) -> Result<(), NoMemory>
+    ensures { IfOk result (λ _. Encodes bytes_code bytes.now out.old.items out.new.items) }
+{
+    bytes.len().encode(out)?;
+    out.extend_from_slice(bytes)?;
+    Ok(())
+}
+
+/// Takes a text off the input.
+fn decode_str<'a>(alloc: Global, input: &mut Input<'a>) -> Result<&'a str, DecodeFault>
+    ensures ok { IfOk result (λ x. Decodes bytes_code FitsText input.old x.now input.new) }
+    ensures err { IfErr result (λ e. Unless bytes_code FitsText input.old (e ≡ FaultOf.NoMemory)) }
+{
+    let len = usize::decode(alloc, input)?;
+    let bytes = input.bytes(len)?;
+    match str::from_utf8(bytes) {
+        Ok(text) => Ok(text),
+        Err(_) => Err(DecodeFault::Damaged),
+    }
+}
+
+impl Coded for Text {
+    ghost code = { bytes_code };
+
+    ghost fits = { FitsText };
+
+    fn encode(&self, out: &mut Vec<u8>) -> Result<(), NoMemory> {
+        encode_bytes(self.as_str().as_bytes(), out)
+    }
+
+    fn decode(alloc: Global, input: &mut Input) -> Result<Text, DecodeFault> {
+        let text = decode_str(alloc, input)?;
+        let text = Text::of(alloc, text)?;
+        Ok(text)
+    }
+}
