@@ -5,7 +5,7 @@
 -- Certified: the certificate of a tenant's world holds, whatever its entries are (`headline`).
 -- Lasting: what is released stays so to the end of a history, and begins what the certificate's run puts out
 --   (`stays_released`).
--- Keeping: of its past a tenant keeps what the rules leave of its own entries (`footprint_none`).
+-- PastKept: of its past a tenant keeps what the rules leave of its own entries (`footprint_none`).
 -- Devices: the entries that say that the device failed are counted among its failures (`counts_on`).
 -- Wanting: no step is answered as one for which there was no memory (`never_wanting`).
 -- Parted: a tenant's own entries of a history are a history of it alone (`legal_part`).
@@ -16,7 +16,7 @@ pub mod Replays
 pub mod Runs
 pub mod Certified
 pub mod Lasting
-pub mod Keeping
+pub mod PastKept
 pub mod Devices
 pub mod Wanting
 pub mod Parted

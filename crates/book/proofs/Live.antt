@@ -28,8 +28,8 @@ use Rattle.tenant.specs.Outcomes.{IsPlain}
 use Rattle.tenant.specs.Stands.{Did, IsOpened, TenantState, Stands, StandsAt}
 use Rattle.tenant.proofs.Live.{are_live}
 use Rattle.book.specs.History.{DidAt, Holding, IsReplay, opened_by}
-use Rattle.book.specs.Keeping.{HasJustAt, KeepsIn, KeepsJustAt, KeepsOnAt, LiveAfter, keeping_after}
-use Rattle.book.proofs.Keeping.{keeping_world}
+use Rattle.book.specs.Past.{HasJustAt, KeepsIn, KeepsJustAt, KeepsOnAt, LiveAfter, keeping_after}
+use Rattle.book.proofs.PastKept.{keeping_world}
 
 module _ {S : Type 0} (M : Meaning S) where
   -- ---- a step

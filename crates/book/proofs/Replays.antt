@@ -23,9 +23,9 @@ use Rattle.tenant.specs.Stands.{TenantState, StandsAt}
 use Rattle.book.specs.Entries.{IsAdded, Ledger}
 use Rattle.book.proofs.Wanting.{never_wanting}
 use Rattle.model.specs.Keeping.{Keeping, keeping, keeping_on}
-use Rattle.book.specs.Keeping.{HasJustAt, KeepsAt, KeepsIn, keeping_after}
+use Rattle.book.specs.Past.{HasJustAt, KeepsAt, KeepsIn, keeping_after}
 use Rattle.book.proofs.Devices.{counts_on}
-use Rattle.book.proofs.Keeping.{keeping-push, keeping_world}
+use Rattle.book.proofs.PastKept.{keeping-push, keeping_world}
 use Rattle.book.specs.History.{DidAt, Holding, IsAnswered, IsHonestAfter, IsIsolated, IsReplay, IsSaidHonestly}
 use Rattle.book.specs.History.{RecordedAfter, opened, opened_by, world_of}
 

@@ -14,9 +14,9 @@ use Rattle.shared_log.specs.Logged.{Logged}
 use Rattle.tenant.specs.Stands.{KeepsTexts, TenantState, Stands, StandsAt}
 use Rattle.book.specs.Entries.{CountsDevice, IsAdded, Ledger, memory_reply}
 use Rattle.book.specs.History.{HoldsAsBefore, Holding, IsAnswered, IsRecordedIn, IsReplay, IsSaidHonestly, world_of}
-use Rattle.book.specs.Keeping.{HasJustAt, KeepsAt, KeepsIn, keeping_after}
+use Rattle.book.specs.Past.{HasJustAt, KeepsAt, KeepsIn, keeping_after}
 use Rattle.model.specs.Keeping.{Keeping, Shelf}
-use Rattle.tenant.specs.Keeping.{KeepsPast}
+use Rattle.tenant.specs.Past.{KeepsPast}
 use Rattle.book.specs.Standing.{Carries, CommitsHonestly, EntersHonestly, Hosted, IsHostOf, KeepTexts, ReplaysAsWell}
 use Rattle.book.specs.Standing.{held_by}
 use Rattle.handler.specs.Inputs.{Input}

@@ -24,7 +24,7 @@ use Rattle.shared_log.specs.Logged.{Grows, IsLeftOf, Logged}
 use Rattle.tenant.specs.Live.{OthersLive}
 use Rattle.tenant.specs.Stands.{TenantState, StandsAt, receiver_in, released_in}
 use Rattle.book.specs.Entries.{CountsDevice, Ledger, IsEntered}
-use Rattle.book.specs.Keeping.{HasJustAt, KeepsAt, KeepsJustAt, KeepsOnAt, keeping_after}
+use Rattle.book.specs.Past.{HasJustAt, KeepsAt, KeepsJustAt, KeepsOnAt, keeping_after}
 
 -- ---- tenants
 

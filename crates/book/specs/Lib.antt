@@ -2,5 +2,5 @@ pub mod Entries
 pub mod History
 pub mod Certificates
 pub mod Commits
-pub mod Keeping
+pub mod Past
 pub mod Standing

@@ -14,7 +14,7 @@ ghost use Rattle.shared_log.specs.Logged.{Logged};
 ghost use Rattle.book.specs.Commits.{needs_at};
 ghost use Rattle.book.specs.Entries.{memory_reply as reply_of_memory};
 ghost use Rattle.model.specs.Keeping.{Keeping};
-ghost use Rattle.book.specs.Keeping.{KeepsAt, KeepsJustAt, KeepsOnAt};
+ghost use Rattle.book.specs.Past.{KeepsAt, KeepsJustAt, KeepsOnAt};
 ghost use Rattle.book.specs.Standing.{KeepTexts};
 ghost use Rattle.book.specs.History.{DidAt, IsAnswered, HoldsAsBefore, KeepsOthers, LogsAt, StepsAt, holding};
 ghost use Rattle.book.specs.History.{opened_by};

@@ -8,7 +8,7 @@ ghost use Rattle.model.specs.declared.replies.Who.TheVariants.{Caller};
 ghost use Rattle.book.specs.Certificates.{CertifiesAt, IsHeadline, certificate_at, seats_at};
 ghost use Rattle.book.specs.Commits.{Commits, needed};
 ghost use Rattle.book.specs.Entries.{CountsDevice, IsEntered};
-ghost use Rattle.book.specs.Keeping.{FootprintAfter, LiveAfter, kept_after};
+ghost use Rattle.book.specs.Past.{FootprintAfter, LiveAfter, kept_after};
 ghost use Rattle.book.specs.Standing.{IsHostOf};
 ghost use Rattle.book.specs.History.{IsIsolated, IsRecordedIn, IsSaidHonestly, Ran, entries_of, opened, released_at};
 ghost use Rattle.book.specs.History.{table_at, world_of};

@@ -11,7 +11,7 @@ ghost use Rattle.std.specs.Prelude.{Option};
 ghost use Rattle.book.specs.Commits.{needed, needs_at};
 ghost use Rattle.book.specs.Entries.{IsAdded};
 ghost use Rattle.book.specs.History.{HoldsAsBefore, IsAnswered, opened, receiver_at, world_of};
-ghost use Rattle.book.specs.Keeping.{FootprintAfter, kept_after};
+ghost use Rattle.book.specs.Past.{FootprintAfter, kept_after};
 ghost use Rattle.book.specs.Standing.{Carries, KeepTexts, ReplaysAsWell, CommitsHonestly, EntersHonestly, HostReplays};
 ghost use Rattle.book.specs.Standing.{IsHostOf, held_by};
 

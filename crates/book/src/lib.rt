@@ -27,7 +27,7 @@
 //! - `Step`, `Reply`, `Who`, `Entry` with `Said` and `End`, `Move` and `Kept` are those of `model`.
 //!
 //! The words of the contracts are in `specs/`: `Entries` says how a step is entered, `History` what a
-//! history makes of tenants and log, `Standing` which books a host stands for, and `Keeping` what is
+//! history makes of tenants and log, `Standing` which books a host stands for, and `Past` what is
 //! left of the past. The work of one step is `answer::answer`, and the lemma `entered` of
 //! `proofs/Replays` shows that the host is the replay of the history with one entry more after it.
 //!

@@ -29,8 +29,7 @@ abbrev pub begins_image : List ℕ → Bool
 begins_image rest = starts_with nat_eq rest (codes "UlYxA")
 
 -- whether a text is a part of an image: one from outside with a mark, where there is no program, where an image has
--- begun,
--- or where one begins with it
+-- begun, or where one begins with it
 abbrev pub is_part : Process → Source → List ℕ → Bool
 is_part process Outside (first ∷ rest) =
     is_mark first && (not process.has_program || (nat_lt 0 process.loaded || begins_image rest))

@@ -37,8 +37,7 @@ HasSignOf (negsuc n) (pos m) = ⊥
 HasSignOf (negsuc n) (negsuc m) = Unit {0}
 
 -- The same of signed numbers, where the quotient is not too large. The remainder is smaller than the divisor, and has
--- the
--- dividend's sign.
+-- the dividend's sign.
 pub record DividesSigned (a b : ℕ) : Type 0 where
   pub sum : signed (value_of Div a b) *ℤ signed b +ℤ signed (value_of Rem a b) ≡ signed a
   pub size : unsigned_abs (signed (value_of Rem a b)) < unsigned_abs (signed b)

@@ -1,6 +1,5 @@
 -- Memory: 64 pages of 1,024 words of 32 bits, from address 0 on. The word at an address is in page address / 4096, at
--- place
--- address / 4 % 1024, and the byte at an address is at place address % 4 of that word, where place 0 is the lowest
+-- place address / 4 % 1024. The byte at an address is at place address % 4 of that word, where place 0 is the lowest
 -- byte.
 use Rattle.std.specs.Prelude.{◌≡◌, ℕ, Bool, zero, suc, ◌+◌, ◌/◌, ◌%◌, List, [], ◌∷◌, replicate, slice_index}
 use Rattle.std.specs.Prelude.{slice_index_or, slice_set, length, All}

@@ -12,7 +12,7 @@ use Rattle.checkpoint.specs.Shelves.{Shelved, Rises, IsShelved, IsTop, has_index
 use Rattle.checkpoint.specs.Shelves.{making_room}
 use Rattle.checkpoint.proofs.Nearest.{nearest_some, nearest_none}
 use Rattle.rollback.specs.Units.{IsKept, KeepsShelved, Recovering, shelf_with}
-use Rattle.rollback.proofs.Keeping.{put_rises}
+use Rattle.rollback.proofs.StaysKept.{put_rises}
 
 -- a snapshot of its own index is the nearest to it, or one of the same index is
 nearest_at : {P : Type 0} (s : Shelved P) (y : Snapshot P) → Rises s.base s.others

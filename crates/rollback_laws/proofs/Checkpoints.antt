@@ -15,7 +15,7 @@ use Rattle.compact.proofs.Words.{map_push}
 use Rattle.compact.proofs.Checkpoints.{last_greatest}
 use Rattle.rollback.specs.Units.{Recovering, IsKept, checkpointed, places, shelf_with}
 use Rattle.rollback.proofs.Forgetting.{unequal}
-use Rattle.rollback.proofs.Keeping.{last_top}
+use Rattle.rollback.proofs.StaysKept.{last_top}
 use Rattle.rollback_laws.specs.Seen.{IsSeen, shelved_as}
 use Rattle.rollback_laws.specs.Laws.{CheckpointsAreSeen}
 use Rattle.rollback_laws.proofs.Places.{places_are}

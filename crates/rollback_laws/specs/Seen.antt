@@ -17,8 +17,7 @@ abbrev pub shelved_as : {S : Type 0} → Snapshot S → Shelf (Progress S)
 shelved_as s = record { index = s.index; state = s.progress }
 
 -- The recovery unit keeps this unit of the compact state. How many rows the unit knows, its frontier, the places of its
--- records
--- in the log, and its outputs are kept elsewhere.
+-- records in the log, and its outputs are kept elsewhere.
 pub record IsSeen {S : Type 0} (r : Recovering S) (x : Unit S) : Type 0 where
   pub seat : x.seat ≡ r.seat
   pub up : x.up ≡ is_some r.progress

@@ -23,7 +23,7 @@ use Rattle.compact.specs.Compact.{Letter, interval_of}
 use Rattle.rollback_laws.proofs.Places.{places_are_seen}
 use Rattle.tenant.specs.declared.footprint.Footprint.{Footprint}
 use Rattle.tenant.specs.Footprint.{IsFootprint, IsLengths, gives_up_letter, is_spent_to}
-use Rattle.tenant.specs.Keeping.{IsKeeping, KeepsPast, amount_of, is_whole_to, kept_by, shelf_of}
+use Rattle.tenant.specs.Past.{IsKeeping, KeepsPast, amount_of, is_whole_to, kept_by, shelf_of}
 use Rattle.tenant.specs.Kept.{TenantState, Member as MemberOf}
 use Rattle.tenant.specs.Stands.{Stands, live_in}
 use Rattle.tenant.proofs.Lasting.{past_opened}

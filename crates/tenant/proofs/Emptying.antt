@@ -25,7 +25,7 @@ use Rattle.compact.specs.StepLaws.{StandsCompact}
 use Rattle.rollback.specs.Units.{Recovering, based_on, forgotten}
 use Rattle.rollback_laws.proofs.Places.{places_are_seen}
 use Rattle.tenant.specs.Bases.{emptied_all, emptied_at, emptied_by, moved_kept, next_base, passed}
-use Rattle.tenant.specs.Keeping.{IsKeeping, KeepsPast, based_one, shelf_of}
+use Rattle.tenant.specs.Past.{IsKeeping, KeepsPast, based_one, shelf_of}
 use Rattle.tenant.specs.Kept.{TenantState, Member as MemberOf}
 use Rattle.tenant.specs.Represents.{IsCompact}
 use Rattle.tenant.specs.Stands.{IsStanding, Stands, live_in}

@@ -31,7 +31,7 @@ use Rattle.compact.specs.Steps.{with_unit_at}
 use Rattle.compact.specs.StepLaws.{StandsCompact}
 use Rattle.compact.proofs.Flushes.{flushes_follow}
 use Rattle.rollback.specs.Units.{IsKept, Recovering, marked_stable, stable_places}
-use Rattle.rollback.proofs.Keeping.{kept_marked}
+use Rattle.rollback.proofs.StaysKept.{kept_marked}
 use Rattle.rollback_laws.specs.Seen.{IsSeen}
 use Rattle.rollback_laws.proofs.Failures.{flushes_are_seen, frontiers_are_seen}
 use Rattle.rollback_laws.proofs.Places.{places_are_seen}

@@ -11,7 +11,7 @@ use Rattle.model.specs.Handler.{Meaning}
 use Rattle.model.specs.World.{World}
 use Rattle.compact.specs.Compact.{Compact}
 use Rattle.model.specs.Keeping.{Shelf}
-use Rattle.tenant.specs.Keeping.{KeepsPast}
+use Rattle.tenant.specs.Past.{KeepsPast}
 use Rattle.tenant.specs.Kept.{TenantState, gone_of, released_of}
 use Rattle.tenant.specs.Stands.{Stands, live_in}
 use Rattle.tenant.proofs.Standing.{closed, opened}

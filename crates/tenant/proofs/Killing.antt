@@ -29,7 +29,7 @@ use Rattle.compact.proofs.Cuts.{cut_hold, cut_member}
 use Rattle.compact.proofs.Recovery.{kills_follow}
 use Rattle.compact.proofs.Tests.{places_are}
 use Rattle.rollback.specs.Units.{killed_recovering, places}
-use Rattle.rollback.proofs.Keeping.{kept_killed}
+use Rattle.rollback.proofs.StaysKept.{kept_killed}
 use Rattle.rollback_laws.proofs.Failures.{kills_are_seen}
 use Rattle.rollback_laws.proofs.Places.{places_are_seen}
 use Rattle.rollback_laws.proofs.Standing.{units_are_ready}

@@ -31,7 +31,7 @@ use Rattle.layer_laws.specs.Laws.{frontier}
 use Rattle.compact.proofs.Tails.{before_frontier}
 use Rattle.rollback_laws.proofs.Places.{places_are_seen}
 use Rattle.compact.specs.Compact.{Content, IsContent, IsLetter, Letter}
-use Rattle.tenant.specs.Keeping.{IsKeeping, KeepsPast, Shelves, shelf_of, shelves_of}
+use Rattle.tenant.specs.Past.{IsKeeping, KeepsPast, Shelves, shelf_of, shelves_of}
 use Rattle.tenant.specs.Kept.{TenantState, Member as MemberOf}
 use Rattle.tenant.specs.Outcomes.{done}
 use Rattle.tenant.specs.Stands.{IsStanding, live_in}

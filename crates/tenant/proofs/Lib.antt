@@ -23,7 +23,7 @@
 -- Moving: a unit's base moves on, and the tenant stands for the world that it stood for (`passed_all`).
 -- Shelves: the checkpoints of a unit by their indices (`based_is`).
 -- Emptying: a unit's base moves, and the tenant keeps what the rules leave (`none_keeps`).
--- Keeping: what each step makes of the checkpoints, and that the tenant then keeps what the rules leave
+-- PastKept: what each step makes of the checkpoints, and that the tenant then keeps what the rules leave
 --   (`opened_past`).
 -- Flushing: the step `flush` (`flush_done`).
 -- Fronts: how frontiers go on, one unit after another (`flushed_by`).
@@ -66,7 +66,7 @@ pub mod Lasting
 mod Moving
 mod Shelves
 pub mod Emptying
-pub mod Keeping
+pub mod PastKept
 mod Flushing
 mod Fronts
 mod Widths

@@ -37,7 +37,7 @@ use Rattle.shared_log.specs.Logged.{IsHeld, IsLeftOf, Logged, places_from, place
 use Rattle.shared_log.proofs.PlacesLaws.{all_held, places_are}
 use Rattle.tenant.specs.declared.answer.Answer.{Answer}
 use Rattle.tenant.specs.Bases.{LetsGo, given_up, moved_kept, moved_member, next_base}
-use Rattle.tenant.specs.Keeping.{KeepsOn, KeepsPast, amount_of, shelf_of}
+use Rattle.tenant.specs.Past.{KeepsOn, KeepsPast, amount_of, shelf_of}
 use Rattle.tenant.specs.Kept.{MakesStable, TenantState, Member as MemberOf, flushed_member, kept_length, live_count}
 use Rattle.tenant.specs.Kept.{returned_member}
 use Rattle.tenant.specs.Live.{AreLive, HasJust, HasOwn, KeepsJust, StaysJust, amount_live, live_of, records_if}
@@ -47,8 +47,8 @@ use Rattle.tenant.proofs.Back.{went_count}
 use Rattle.tenant.proofs.Counted.{kept_same}
 use Rattle.tenant.proofs.Flushing.{live_other, live_own}
 use Rattle.tenant.proofs.Follow.{KeepsUnit, keeps}
-use Rattle.tenant.proofs.Keeping.{StepStays, stays_is}
-use Rattle.tenant.proofs.Keeping.StepStays.{deliver_stays, kill_stays, post_stays, release_stays, status_stays}
+use Rattle.tenant.proofs.PastKept.{StepStays, stays_is}
+use Rattle.tenant.proofs.PastKept.StepStays.{deliver_stays, kill_stays, post_stays, release_stays, status_stays}
 use Rattle.tenant.proofs.Lasting.{SameBases, past_opened, same_bases}
 use Rattle.tenant.proofs.Moving.{next_is, not_back}
 use Rattle.tenant.proofs.Places.{found_whole, live_same}

@@ -17,7 +17,7 @@ use Rattle.tenant.specs.Kept.{IsAsking, IsNext, TenantState, Member, next_vector
 use Rattle.tenant.specs.Outcomes.{IsPlain}
 use Rattle.tenant.specs.Plans.{IsPlan, IsPlanned}
 use Rattle.tenant.proofs.Asking.{asked_up}
-use Rattle.tenant.proofs.Keeping.{letters_whole}
+use Rattle.tenant.proofs.PastKept.{letters_whole}
 
 module _ {S : Type 0} (name : List ℕ) (t : TenantState S)
     (u : ℕ) (m : Member S) (q : Receipt) (turn : Turn S) (plan : Plan) (planned : IsPlanned name t u m q turn (Ok plan))

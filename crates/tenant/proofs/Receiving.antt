@@ -16,7 +16,7 @@ use Rattle.compact.specs.Compact.{Compact, Letter, Progress}
 use Rattle.compact.specs.Steps.{Receipt, accepted_of, letters_by, new_letters, next_mark, next_record, next_vector}
 use Rattle.compact.specs.Steps.{receiving_state, receiving_unit, tests_of_turn, turn_of_receipt, with_unit_at}
 use Rattle.rollback.specs.Units.{IsKept, asking, places, took}
-use Rattle.rollback.proofs.Keeping.{kept_took}
+use Rattle.rollback.proofs.StaysKept.{kept_took}
 use Rattle.rollback_laws.specs.Seen.{IsSeen}
 use Rattle.rollback_laws.proofs.Receipts.{receipts_are_seen, turns_are_seen}
 use Rattle.unit_steps.specs.Laws.{AreMade}

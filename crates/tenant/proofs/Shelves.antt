@@ -16,7 +16,7 @@ use Rattle.compact.specs.Compact.{Progress}
 use Rattle.rollback.specs.Units.{IsKept, Recovering, based_on, forgotten, places}
 use Rattle.rollback.proofs.Forgetting.{others_have}
 use Rattle.tenant.specs.Bases.{next_base}
-use Rattle.tenant.specs.Keeping.{shelf_of}
+use Rattle.tenant.specs.Past.{shelf_of}
 use Rattle.tenant.proofs.Moving.{next_is}
 
 -- ---- lists of snapshots, and of their indices

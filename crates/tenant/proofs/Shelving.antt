@@ -24,7 +24,7 @@ use Rattle.compact.specs.StepLaws.{StandsCompact}
 use Rattle.compact.proofs.Checkpoints.{checkpoints_follow}
 use Rattle.compact.proofs.Forgetting.{snapshots_go}
 use Rattle.rollback.specs.Units.{IsKept, checkpointed, places}
-use Rattle.rollback.proofs.Keeping.{kept_shelved}
+use Rattle.rollback.proofs.StaysKept.{kept_shelved}
 use Rattle.rollback_laws.specs.Seen.{IsSeen}
 use Rattle.rollback_laws.proofs.Checkpoints.{checkpoints_are_seen}
 use Rattle.rollback_laws.proofs.Places.{places_are_seen}

@@ -7,6 +7,6 @@ pub mod Returns
 pub mod Reads
 pub mod Represents
 pub mod Stands
-pub mod Keeping
+pub mod Past
 pub mod Footprint
 pub mod Live

@@ -1,5 +1,5 @@
 -- Which records of a tenant are live in the log: those that its units may still need, and no others.
-use Rattle.std.specs.Prelude.{◌≡◌, ℕ, false, List, [], length, drop, map, Option, Some, None, slice_get, bytes_eq}
+use Rattle.std.specs.Prelude.{◌≡◌, ℕ, suc, false, List, [], length, drop, map, Option, Some, None, slice_get, bytes_eq}
 use Rattle.model.specs.declared.kept.Kept.{Kept as Amount}
 use Rattle.model.specs.declared.records.Record.{Record}
 use Rattle.model.specs.declared.replies.Reply.{Reply}
@@ -11,7 +11,7 @@ use Rattle.model.specs.Keeping.{Shelf, kept_of, shelves_after}
 use Rattle.model.specs.Records.{record_of}
 use Rattle.model.specs.World.{Member, World, stable_path}
 use Rattle.shared_log.specs.Logged.{places_from}
-use Rattle.tenant.specs.Keeping.{KeepsPast}
+use Rattle.tenant.specs.Past.{KeepsPast}
 use Rattle.tenant.specs.Kept.{TenantState, Member as Own, live_count}
 use Rattle.tenant.specs.Outcomes.{done}
 use Rattle.tenant.specs.Stands.{Stands}
@@ -62,7 +62,7 @@ abbrev pub records_if : {S : Type 0} → Meaning S → List ℕ → World → Op
 records_if M name w None shelf = []
 records_if M name w (Some m) None = []
 records_if M name w (Some m) (Some s) =
-    map (record_of M name w) (drop (Prim.Native.Nat.suc s.base) (stable_path m))
+    map (record_of M name w) (drop (suc s.base) (stable_path m))
 
 -- so it is of a tenant that may be unopened
 abbrev pub records_kept : {S : Type 0} → Meaning S → List ℕ → Option World → List Shelf → ℕ → List Record

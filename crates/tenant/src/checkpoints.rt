@@ -4,7 +4,7 @@ ghost use Rattle.std.specs.Prelude.{◌≡◌, ◌≤◌, ◌<◌, IfOk, List, O
 ghost use Rattle.std.specs.Prelude.{slice_set, ℕ};
 ghost use Rattle.model.specs.World.{World};
 ghost use Rattle.model.specs.declared.steps.TenantStep.TheVariants.{Checkpoint};
-ghost use Rattle.tenant.specs.Keeping.{KeepsOn};
+ghost use Rattle.tenant.specs.Past.{KeepsOn};
 ghost use Rattle.tenant.specs.Kept.{TenantState, Member as MemberOf, checkpointed_member};
 ghost use Rattle.tenant.specs.Live.{OthersLive, StaysJust};
 ghost use Rattle.tenant.specs.Stands.{Did, Stands};

@@ -8,7 +8,7 @@ ghost use Rattle.model.specs.World.{World};
 ghost use Rattle.compact.specs.Compact.{Letter as LetterOf};
 ghost use Rattle.rollback.specs.Units.{places};
 ghost use Rattle.unit_steps.specs.Receipts.{IsWithin};
-ghost use Rattle.tenant.specs.Keeping.{SameShelves};
+ghost use Rattle.tenant.specs.Past.{SameShelves};
 ghost use Rattle.tenant.specs.Kept.{IsAskingBy, Member as MemberOf, letter_refusal_of};
 ghost use Rattle.tenant.specs.Needs.{IsAsked, deliver_needs};
 ghost use Rattle.tenant.specs.Outcomes.{IsPlain};

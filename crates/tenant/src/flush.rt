@@ -11,7 +11,7 @@ ghost use Rattle.model.specs.declared.records.Record.{Record as RecordOf};
 ghost use Rattle.model.specs.declared.steps.TenantStep.TheVariants.{Flush};
 ghost use Rattle.rollback.specs.Units.{stable_places};
 ghost use Rattle.unit_steps.specs.Receipts.{IsFrontier, frontier_of};
-ghost use Rattle.tenant.specs.Keeping.{KeepsOn};
+ghost use Rattle.tenant.specs.Past.{KeepsOn};
 ghost use Rattle.tenant.specs.Kept.{GoOn, MakesStable, TenantState, Member as MemberOf, flushed_member};
 ghost use Rattle.tenant.specs.Live.{OthersLive, StaysJust};
 ghost use Rattle.tenant.specs.Stands.{Did, Stands};

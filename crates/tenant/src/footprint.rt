@@ -6,7 +6,7 @@ ghost use Rattle.model.specs.Keeping.{Shelf};
 ghost use Rattle.model.specs.World.{Member as MemberOf, World};
 ghost use Rattle.model.specs.declared.records.Record.{Record};
 ghost use Rattle.tenant.specs.Footprint.{IsFootprint, IsLengths, is_spent_to};
-ghost use Rattle.tenant.specs.Keeping.{KeepsPast};
+ghost use Rattle.tenant.specs.Past.{KeepsPast};
 ghost use Rattle.tenant.specs.Kept.{Member as MemberState};
 ghost use Rattle.tenant.specs.Stands.{Stands};
 

@@ -6,7 +6,7 @@ ghost use Rattle.compact.specs.Forgetting.{without_content};
 ghost use Rattle.rollback.specs.Units.{places};
 ghost use Rattle.tenant.specs.Bases.{IsBeside, LetsGo, emptied_all, emptied_by, given_up, moved_kept, moved_letters};
 ghost use Rattle.tenant.specs.Bases.{moved_member, next_base, passed};
-ghost use Rattle.tenant.specs.Keeping.{Bases, KeepsPast, based_one};
+ghost use Rattle.tenant.specs.Past.{Bases, KeepsPast, based_one};
 ghost use Rattle.tenant.specs.Kept.{Member as MemberOf};
 ghost use Rattle.tenant.specs.Live.{StaysJust};
 ghost use Rattle.model.specs.Keeping.{Shelf, where_added};

@@ -5,7 +5,7 @@ ghost use Rattle.std.specs.Prelude.{slice_get, slice_set};
 ghost use Rattle.session.specs.Counts.{widened_counts};
 ghost use Rattle.model.specs.Steps.{join as join_of};
 ghost use Rattle.model.specs.Keeping.{after_join};
-ghost use Rattle.tenant.specs.Keeping.{Shelves};
+ghost use Rattle.tenant.specs.Past.{Shelves};
 ghost use Rattle.tenant.specs.Kept.{KeepsTexts, Member as MemberOf, NoneGone, fitted_from, fitted_member, gone_of};
 ghost use Rattle.tenant.specs.Kept.{joined_kept, released_of};
 ghost use Rattle.tenant.specs.Outcomes.{IsPlain};

@@ -5,7 +5,7 @@ ghost use Rattle.std.specs.List.{filter};
 ghost use Rattle.model.specs.Keeping.{Shelf, kept_in};
 ghost use Rattle.model.specs.World.{World};
 ghost use Rattle.model.specs.declared.records.Record.{Record};
-ghost use Rattle.tenant.specs.Keeping.{KeepsPast, is_whole_to, kept_by};
+ghost use Rattle.tenant.specs.Past.{KeepsPast, is_whole_to, kept_by};
 ghost use Rattle.tenant.specs.Stands.{Stands};
 
 use crate::tenant::Tenant;

@@ -2,7 +2,7 @@
 
 ghost use Rattle.std.specs.Prelude.{◌≡◌, ◌<◌, Some, length, slice_get, slice_set};
 ghost use Rattle.model.specs.Steps.{kill as kill_of};
-ghost use Rattle.tenant.specs.Keeping.{SameShelves};
+ghost use Rattle.tenant.specs.Past.{SameShelves};
 ghost use Rattle.tenant.specs.Kept.{Member as MemberOf, killed_member};
 ghost use Rattle.tenant.specs.Outcomes.{IsPlain};
 ghost use Rattle.tenant.specs.Represents.{Does};

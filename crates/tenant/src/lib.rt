@@ -29,7 +29,7 @@
 //!
 //! Contracts see the tenant as `TenantState` of `specs/Kept`. `specs/Represents` says which world that is over a
 //! whole log, and what a step does whatever the log; `specs/Stands` says it over a log that may have forgotten
-//! records, and `specs/Keeping` what the tenant keeps of its past: what the rules of `model`, `specs/Keeping`, leave.
+//! records, and `specs/Past` what the tenant keeps of its past: what the rules of `model`, `specs/Keeping`, leave.
 //!
 //! For the writer of another host that has tenants of its own; whoever wants all of them takes `book`. A caller:
 //!

@@ -14,7 +14,7 @@ ghost use Rattle.handler.specs.Inputs.{turn_upon_input};
 ghost use Rattle.session.specs.Counts.{widened_counts};
 ghost use Rattle.rollback_laws.specs.Seen.{IsSeen};
 ghost use Rattle.tenant.specs.Bases.{next_base, rebased_member};
-ghost use Rattle.tenant.specs.Keeping.{shelved_count};
+ghost use Rattle.tenant.specs.Past.{shelved_count};
 ghost use Rattle.tenant.specs.Kept.{begun_member, checkpointed_member, firm_texts, flushed_member, killed_member};
 ghost use Rattle.tenant.specs.Kept.{outputs_to, released_member, fitted_member, kept_length, live_count};
 ghost use Rattle.tenant.specs.Kept.{returned_member, IsNext, received_member};

@@ -4,7 +4,7 @@ ghost use Rattle.std.specs.Prelude.{◌≡◌, ◌<◌, ◌≤◌, [], IfOk, IfS
 ghost use Rattle.std.specs.List.{list_any, fold};
 ghost use Rattle.std.specs.Option.{is_none};
 ghost use Rattle.model.specs.Steps.{can_open as can_open_with, is_quota as is_quota_of, within as is_within, kind_or_0};
-ghost use Rattle.tenant.specs.Keeping.{OpensPast};
+ghost use Rattle.tenant.specs.Past.{OpensPast};
 ghost use Rattle.tenant.specs.Kept.{KeepsTexts, gone_of, opened_kept, released_of, with_begun};
 ghost use Rattle.tenant.specs.Outcomes.{IsPlain};
 ghost use Rattle.tenant.specs.Represents.{OpensAs};

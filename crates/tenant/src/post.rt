@@ -6,7 +6,7 @@ ghost use Rattle.model.specs.declared.records.Record.{Record as RecordOf};
 ghost use Rattle.model.specs.Steps.{post as post_of};
 ghost use Rattle.model.specs.World.{World};
 ghost use Rattle.unit_steps.specs.Receipts.{post_refused};
-ghost use Rattle.tenant.specs.Keeping.{SameShelves};
+ghost use Rattle.tenant.specs.Past.{SameShelves};
 ghost use Rattle.tenant.specs.Kept.{IsAsking, Member as MemberOf};
 ghost use Rattle.tenant.specs.Needs.{IsAsked, post_needs};
 ghost use Rattle.tenant.specs.Outcomes.{IsPlain};

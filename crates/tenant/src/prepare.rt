@@ -4,7 +4,7 @@ ghost use Rattle.std.specs.Prelude.{◌≡◌, ℕ, List, Option, IfNone, IfOk, 
 ghost use Rattle.model.specs.declared.records.Record.{Record as RecordOf};
 ghost use Rattle.model.specs.Steps.{deliver as deliver_of, post as post_of};
 ghost use Rattle.model.specs.World.{World};
-ghost use Rattle.tenant.specs.Keeping.{SameShelves};
+ghost use Rattle.tenant.specs.Past.{SameShelves};
 ghost use Rattle.tenant.specs.Needs.{WasFresh, deliver_needs, needs, post_needs};
 ghost use Rattle.tenant.specs.Outcomes.{IsPlain};
 ghost use Rattle.tenant.specs.Represents.{DoesAs, StandsFor};

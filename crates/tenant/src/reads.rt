@@ -6,7 +6,7 @@ ghost use Rattle.model.specs.World.{World};
 ghost use Rattle.model.specs.declared.records.Record.{Record};
 ghost use Rattle.tenant.specs.Reads.{opening_count as opening_count_of, opening_of, seats_of};
 ghost use Rattle.model.specs.Keeping.{Shelf};
-ghost use Rattle.tenant.specs.Keeping.{KeepsPast};
+ghost use Rattle.tenant.specs.Past.{KeepsPast};
 ghost use Rattle.tenant.specs.Kept.{KeepsTexts};
 ghost use Rattle.tenant.specs.Stands.{Stands, receiver_in, released_in};
 

@@ -4,7 +4,7 @@ ghost use Rattle.std.specs.Prelude.{◌≡◌, ◌<◌, ℕ, List, IfOk, None, O
 ghost use Rattle.model.specs.Steps.{release as release_of};
 ghost use Rattle.model.specs.World.{World};
 ghost use Rattle.model.specs.declared.records.Record.{Record};
-ghost use Rattle.tenant.specs.Keeping.{SameShelves};
+ghost use Rattle.tenant.specs.Past.{SameShelves};
 ghost use Rattle.tenant.specs.Stands.{Stands};
 ghost use Rattle.tenant.specs.Kept.{AreOut, Member as MemberOf, firm_texts, gone_of, released_of, with_firm_released};
 ghost use Rattle.tenant.specs.Outcomes.{IsPlain};

@@ -6,7 +6,7 @@ ghost use Rattle.model.specs.World.{World, incarnation_of};
 ghost use Rattle.model.specs.declared.replies.End.TheVariants.{Device};
 ghost use Rattle.model.specs.declared.steps.TenantStep.TheVariants.{Restart};
 ghost use Rattle.model.specs.Keeping.{after_return};
-ghost use Rattle.tenant.specs.Keeping.{Shelves};
+ghost use Rattle.tenant.specs.Past.{Shelves};
 ghost use Rattle.tenant.specs.Kept.{TenantState, restart_refusal as restart_refusal_of};
 ghost use Rattle.tenant.specs.Live.{OthersLive, StaysJust};
 ghost use Rattle.tenant.specs.Stands.{Did, Stands};

@@ -4,7 +4,7 @@ ghost use Rattle.std.specs.Prelude.{◌≡◌, ◌⊎◌, ◌≤◌, ◌+◌, If
 ghost use Rattle.std.specs.Prelude.{false, bytes_eq};
 ghost use Rattle.model.specs.World.{World};
 ghost use Rattle.model.specs.declared.replies.End.TheVariants.{Device};
-ghost use Rattle.tenant.specs.Keeping.{KeepsOn};
+ghost use Rattle.tenant.specs.Past.{KeepsOn};
 ghost use Rattle.tenant.specs.Kept.{KeepsTexts, TenantState};
 ghost use Rattle.tenant.specs.Live.{KeepsJust, OthersLive};
 ghost use Rattle.tenant.specs.Needs.{WasFresh, needs};

@@ -1,6 +1,6 @@
 use Rattle.book.proofs.Answers.{SaysDevice, both_ok, if_ok, keeps_others, logs_open, steady_err, steady_ok, steps_open}
 use Rattle.book.proofs.Answers.{unopened}
-use Rattle.book.proofs.Keeping.{keeps_open}
+use Rattle.book.proofs.PastKept.{keeps_open}
 use Rattle.book.proofs.Live.{just_open}
 use Rattle.book.proofs.answer.answer_open.Goals as goal
 

@@ -1,6 +1,6 @@
 use Rattle.book.proofs.Answers.{SaysDevice, SaysDeviceIf, both_ok, both_some, if_ok, if_some, logs_open, says_some}
 use Rattle.book.proofs.Answers.{steady_err, steady_ok, steps_open, unopened}
-use Rattle.book.proofs.Keeping.{keeps_open}
+use Rattle.book.proofs.PastKept.{keeps_open}
 use Rattle.book.proofs.Live.{just_open}
 use Rattle.book.proofs.answer.answer_open_with.Goals as goal
 

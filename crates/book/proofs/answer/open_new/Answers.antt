@@ -3,13 +3,13 @@ use Rattle.std.proofs.lemmas.List.{append-nil}
 use Rattle.std.specs.Prelude.{IfSome, None, Some}
 use Rattle.std.specs.Map.{keys_of, lookup}
 use Rattle.indexmap.specs.IndexMap.{get, keys}
-use Rattle.tenant.specs.Keeping.{OpensPast}
+use Rattle.tenant.specs.Past.{OpensPast}
 use Rattle.tenant.specs.Stands.{IsOpened, KeepsTexts}
 use Rattle.book.proofs.Standing.{texts_more}
 use Rattle.model.specs.declared.steps.TenantStep.TheVariants.{Open}
-use Rattle.book.specs.Keeping.{KeepsOnAt}
+use Rattle.book.specs.Past.{KeepsOnAt}
 use Rattle.book.proofs.Answers.{opened-none, opened-some}
-use Rattle.book.proofs.Keeping.{keeps_opened}
+use Rattle.book.proofs.PastKept.{keeps_opened}
 use Rattle.book.proofs.answer.open_new.Goals as goal
 
 pub returns-in-None-clause-names : goal.returns-in-None-clause-names

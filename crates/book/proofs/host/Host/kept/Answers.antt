@@ -1,6 +1,6 @@
 use Rattle.std.proofs.Common.{bytes_eq}
 use Rattle.indexmap.specs.IndexMap.{get}
-use Rattle.book.proofs.Keeping.{kept_none, kept_open}
+use Rattle.book.proofs.PastKept.{kept_none, kept_open}
 use Rattle.book.proofs.host.Host.kept.Goals as goal
 
 pub returns-in-Some : goal.returns-in-Some

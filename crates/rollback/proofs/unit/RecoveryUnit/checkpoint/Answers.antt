@@ -5,7 +5,7 @@ use Rattle.checkpoint.specs.declared.snapshot.Snapshot.{Snapshot}
 use Rattle.checkpoint.specs.Shelves.{Shelved, IsTop, nearest_of}
 use Rattle.compact.specs.Compact.{Progress}
 use Rattle.rollback.specs.Units.{Recovering, KeepsShelved, places}
-use Rattle.rollback.proofs.Keeping.{kept_shelved, last_top}
+use Rattle.rollback.proofs.StaysKept.{kept_shelved, last_top}
 use Rattle.rollback.proofs.Snapshots.{shelved_keeps, shelved_nearest}
 use Rattle.rollback.proofs.unit.RecoveryUnit.checkpoint.Goals as goal
 

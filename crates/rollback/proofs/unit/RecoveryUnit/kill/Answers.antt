@@ -1,7 +1,7 @@
 use Rattle.std.proofs.Common.{◌≡◌, sym, ap, subst, ◌+◌, ◌-◌, drop, arith}
 use Rattle.compact.specs.Steps.{from_outside}
 use Rattle.rollback.specs.Units.{Recovering, CountsOutside}
-use Rattle.rollback.proofs.Keeping.{kept_killed}
+use Rattle.rollback.proofs.StaysKept.{kept_killed}
 use Rattle.rollback.proofs.Outside.{counts_shorter, outside_behind}
 use Rattle.rollback.proofs.unit.RecoveryUnit.kill.Goals as goal
 

@@ -1,4 +1,4 @@
-use Rattle.rollback.proofs.Keeping.{kept_marked}
+use Rattle.rollback.proofs.StaysKept.{kept_marked}
 use Rattle.rollback.proofs.unit.RecoveryUnit.mark_stable.Goals as goal
 
 pub invariant_of-self : goal.invariant_of-self

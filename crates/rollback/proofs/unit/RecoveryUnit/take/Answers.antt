@@ -1,7 +1,7 @@
 use Rattle.std.proofs.Common.{◌≡◌, sym, ◌∙◌, ap, subst, ◌+◌, ◌<◌, ◌^◌, drop, true, arith, rules}
 use Rattle.compact.specs.Steps.{from_outside}
 use Rattle.rollback.specs.Units.{Recovering, CountsOutside, places}
-use Rattle.rollback.proofs.Keeping.{kept_took}
+use Rattle.rollback.proofs.StaysKept.{kept_took}
 use Rattle.rollback.proofs.Outside.{counts_taken, outside_few}
 use Rattle.rollback.proofs.unit.RecoveryUnit.take.Goals as goal
 

@@ -7,7 +7,7 @@ use Rattle.tenant.proofs.Moving.{beside_stands, did_then}
 use Rattle.tenant.proofs.Others.{beside_live}
 use Rattle.tenant.proofs.Shelving.{checkpoint_done, checkpoint_refused, checkpoint_unlogged}
 use Rattle.tenant.proofs.Stepping.{any_did}
-use Rattle.tenant.proofs.Keeping.{checkpoint_keeps, refused_keeps}
+use Rattle.tenant.proofs.PastKept.{checkpoint_keeps, refused_keeps}
 use Rattle.tenant.proofs.tenant.Tenant.checkpoint.Goals as goal
 
 pub returns-in-Err-clause-did : goal.returns-in-Err-clause-did

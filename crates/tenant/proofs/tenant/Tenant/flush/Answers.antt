@@ -13,7 +13,7 @@ use Rattle.tenant.proofs.Others.{appended_beside, appended_live, beside_live}
 use Rattle.tenant.proofs.Results.{unless_device}
 use Rattle.tenant.proofs.Standing.{opened}
 use Rattle.std.proofs.Common.{inl, refl}
-use Rattle.tenant.proofs.Keeping.{flush_keeps, refused_keeps}
+use Rattle.tenant.proofs.PastKept.{flush_keeps, refused_keeps}
 use Rattle.tenant.proofs.tenant.Tenant.flush.Goals as goal
 
 pub returns-in-Err-clause-did : goal.returns-in-Err-clause-did

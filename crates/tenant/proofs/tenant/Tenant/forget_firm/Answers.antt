@@ -3,7 +3,7 @@ use Rattle.std.proofs.Common.{◌≡◌, ◌≤◌, ◌+◌, ◌∙◌, suc, ref
 use Rattle.std.proofs.lemmas.List.{take_all}
 use Rattle.model.specs.Keeping.{Shelf, all_based}
 use Rattle.std.specs.Prelude.{List}
-use Rattle.tenant.specs.Keeping.{KeepsPast}
+use Rattle.tenant.specs.Past.{KeepsPast}
 use Rattle.tenant.proofs.Emptying.{based_more}
 use Rattle.tenant.proofs.Standing.{opened}
 use Rattle.tenant.proofs.tenant.Tenant.forget_firm.Goals as goal

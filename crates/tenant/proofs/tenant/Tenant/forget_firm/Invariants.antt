@@ -2,7 +2,7 @@ use Rattle.std.proofs.Common.{◌≡◌, List, take}
 use Rattle.model.specs.Keeping.{Shelf, all_based}
 use Rattle.model.specs.World.{World}
 use Rattle.tenant.specs.Bases.{IsBeside}
-use Rattle.tenant.specs.Keeping.{KeepsPast}
+use Rattle.tenant.specs.Past.{KeepsPast}
 use Rattle.tenant.specs.Live.{StaysJust}
 use Rattle.tenant.specs.Stands.{Stands}
 use Rattle.tenant.proofs.tenant.Tenant.forget_firm.Given as goal

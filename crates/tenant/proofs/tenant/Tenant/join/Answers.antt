@@ -1,6 +1,6 @@
 use Rattle.std.proofs.Common.{◌∙◌, sym, arith}
 use Rattle.tenant.proofs.Joining.{join_done, join_full, join_unknown}
-use Rattle.tenant.proofs.Keeping.{one_joined}
+use Rattle.tenant.proofs.PastKept.{one_joined}
 use Rattle.tenant.proofs.tenant.Tenant.join.Goals as goal
 
 pub returns-in-None-clause-done : goal.returns-in-None-clause-done

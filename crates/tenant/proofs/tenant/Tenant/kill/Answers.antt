@@ -4,7 +4,7 @@ use Rattle.tenant.specs.Kept.{Member}
 use Rattle.tenant.proofs.Killing.{kill_done, kill_refused}
 use Rattle.std.proofs.Common.{ap, refl}
 use Rattle.tenant.specs.Kept.{TenantState, killed_member}
-use Rattle.tenant.proofs.Keeping.{no_letters, one_same}
+use Rattle.tenant.proofs.PastKept.{no_letters, one_same}
 use Rattle.tenant.proofs.tenant.Tenant.kill.Goals as goal
 
 pub returns-in-Err-clause-done : goal.returns-in-Err-clause-done

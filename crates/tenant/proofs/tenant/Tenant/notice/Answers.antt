@@ -10,7 +10,7 @@ use Rattle.tenant.proofs.Standing.{opened}
 use Rattle.std.proofs.Common.{ap, refl, inr}
 use Rattle.model.specs.declared.names.Start.{Start}
 use Rattle.tenant.specs.Kept.{TenantState}
-use Rattle.tenant.proofs.Keeping.{no_letters, one_same, returned_shelves}
+use Rattle.tenant.proofs.PastKept.{no_letters, one_same, returned_shelves}
 use Rattle.tenant.proofs.tenant.Tenant.notice.Goals as goal
 use Rattle.theory.proofs.ListLaws.{le_true}
 

@@ -1,5 +1,5 @@
 use Rattle.tenant.proofs.Opening.{opened_so}
-use Rattle.tenant.proofs.Keeping.{opened_past}
+use Rattle.tenant.proofs.PastKept.{opened_past}
 use Rattle.tenant.proofs.tenant.Tenant.open.Goals as goal
 
 pub returns-clause-opened : goal.returns-clause-opened

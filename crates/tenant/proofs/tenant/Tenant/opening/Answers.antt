@@ -3,7 +3,7 @@ use Rattle.model.specs.declared.replies.Reply.TheVariants.{Opened}
 use Rattle.tenant.specs.Kept.{KeepsTexts, opened_kept}
 use Rattle.tenant.proofs.Lines.{none_at_first}
 use Rattle.tenant.proofs.Beginning.{open_is}
-use Rattle.tenant.proofs.Keeping.{opens_past}
+use Rattle.tenant.proofs.PastKept.{opens_past}
 use Rattle.tenant.proofs.tenant.Tenant.opening.Goals as goal
 
 pub returns-then-can_open : goal.returns-then-can_open

@@ -5,7 +5,7 @@ use Rattle.std.proofs.Common.{ap, refl}
 use Rattle.tenant.specs.Kept.{TenantState, Member, released_member}
 use Rattle.tenant.specs.Stands.{live_in}
 use Rattle.tenant.proofs.Follow.{keeps}
-use Rattle.tenant.proofs.Keeping.{no_letters, none_changed, one_same}
+use Rattle.tenant.proofs.PastKept.{no_letters, none_changed, one_same}
 use Rattle.tenant.proofs.Standing.{opened}
 use Rattle.tenant.proofs.tenant.Tenant.release.Goals as goal
 

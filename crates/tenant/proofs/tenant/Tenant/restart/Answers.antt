@@ -8,7 +8,7 @@ use Rattle.tenant.proofs.Results.{if_ok}
 use Rattle.tenant.proofs.Standing.{opened}
 use Rattle.std.proofs.Common.{refl, inl}
 use Rattle.model.specs.declared.names.Start.{Start}
-use Rattle.tenant.proofs.Keeping.{returned_shelves}
+use Rattle.tenant.proofs.PastKept.{returned_shelves}
 use Rattle.tenant.proofs.tenant.Tenant.restart.Goals as goal
 
 pub returns-in-Some-clause-did : goal.returns-in-Some-clause-did

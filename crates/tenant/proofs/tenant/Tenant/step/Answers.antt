@@ -4,11 +4,11 @@ use Rattle.model.specs.declared.steps.TenantStep.TheVariants.{Release, Restart, 
 use Rattle.tenant.proofs.Stepping.{any_did, any_ok, plain_ok}
 use Rattle.model.specs.declared.steps.TenantStep.{TenantStep}
 use Rattle.tenant.proofs.Live.{join_stable, quiet_keeps, quiet_ok, stays_bases, stays_ok, stays_stable}
-use Rattle.tenant.proofs.Keeping.{after_join_bases, join_ok, none_changed, notice_ok, release_ok, restart_ok}
-use Rattle.tenant.proofs.Keeping.{same_keeps, same_ok}
-use Rattle.tenant.proofs.Keeping.{StepStays}
-use Rattle.tenant.proofs.Keeping.StepStays.{deliver_stays, kill_stays, post_stays, release_stays}
-use Rattle.tenant.proofs.Keeping.StepStays.{status_stays}
+use Rattle.tenant.proofs.PastKept.{after_join_bases, join_ok, none_changed, notice_ok, release_ok, restart_ok}
+use Rattle.tenant.proofs.PastKept.{same_keeps, same_ok}
+use Rattle.tenant.proofs.PastKept.{StepStays}
+use Rattle.tenant.proofs.PastKept.StepStays.{deliver_stays, kill_stays, post_stays, release_stays}
+use Rattle.tenant.proofs.PastKept.StepStays.{status_stays}
 use Rattle.tenant.proofs.tenant.Tenant.step.Goals as goal
 
 pub returns-in-Join-clause-did : goal.returns-in-Join-clause-did

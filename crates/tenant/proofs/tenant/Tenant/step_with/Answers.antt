@@ -4,9 +4,9 @@ use Rattle.tenant.specs.Needs.{deliver_needs, post_needs}
 use Rattle.tenant.proofs.Stepping.{fresh_ok, some_ok}
 use Rattle.model.specs.declared.steps.TenantStep.{TenantStep}
 use Rattle.tenant.proofs.Live.{quiet_worked, stays_bases, stays_stable}
-use Rattle.tenant.proofs.Keeping.{same_worked}
-use Rattle.tenant.proofs.Keeping.{StepStays}
-use Rattle.tenant.proofs.Keeping.StepStays.{deliver_stays, post_stays}
+use Rattle.tenant.proofs.PastKept.{same_worked}
+use Rattle.tenant.proofs.PastKept.{StepStays}
+use Rattle.tenant.proofs.PastKept.StepStays.{deliver_stays, post_stays}
 use Rattle.tenant.proofs.tenant.Tenant.step_with.Goals as goal
 
 pub returns-in-Post-clause-fresh : goal.returns-in-Post-clause-fresh

@@ -10,7 +10,7 @@ use Rattle.tenant.specs.Kept.{IsAskingBy}
 use Rattle.tenant.proofs.Asking.{asked_is_up, refused_stays}
 use Rattle.tenant.proofs.Delivering.{content_parts, letter_none, letter_no_unit, letter_planned, letter_refused_then}
 use Rattle.tenant.proofs.Planning.{planned_few, planned_next, planned_plain, planned_whole}
-use Rattle.tenant.proofs.Keeping.{received_same}
+use Rattle.tenant.proofs.PastKept.{received_same}
 use Rattle.tenant.proofs.tenant.Tenant.take_letter.Goals as goal
 
 pub returns-in-None-clause-done : goal.returns-in-None-clause-done

@@ -7,7 +7,7 @@ use Rattle.tenant.specs.declared.answer.Answer.{Answer}
 use Rattle.tenant.proofs.Asking.{asked_is_up, refused_stays}
 use Rattle.tenant.proofs.Planning.{planned_few, planned_next, planned_plain, planned_whole}
 use Rattle.tenant.proofs.Posting.{post_none, post_planned, post_refused_then}
-use Rattle.tenant.proofs.Keeping.{received_same}
+use Rattle.tenant.proofs.PastKept.{received_same}
 use Rattle.tenant.proofs.tenant.Tenant.take_post.Goals as goal
 
 pub returns-in-None-clause-done : goal.returns-in-None-clause-done

@@ -11,7 +11,7 @@ use Rattle.model.specs.declared.replies.Entry.{Entry}
 use Rattle.shared_log.specs.Logged.{places_from}
 use Rattle.tenant.specs.declared.footprint.Footprint.{Footprint}
 use Rattle.tenant.specs.Footprint.{IsFootprint}
-use Rattle.tenant.specs.Keeping.{KeepsPast}
+use Rattle.tenant.specs.Past.{KeepsPast}
 use Rattle.tenant.specs.Kept.{TenantState}
 use Rattle.tenant.specs.Live.{AreLive, HasJust, amount_live}
 

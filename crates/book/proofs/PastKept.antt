@@ -19,10 +19,10 @@ use Rattle.model.specs.declared.steps.TenantStep.{TenantStep}
 use Rattle.model.specs.declared.steps.TenantStep.TheVariants.{Open}
 use Rattle.shared_log.specs.Logged.{Logged}
 use Rattle.tenant.specs.declared.footprint.Footprint.{Footprint}
-use Rattle.tenant.specs.Keeping.{KeepsOn, KeepsPast, OpensPast}
+use Rattle.tenant.specs.Past.{KeepsOn, KeepsPast, OpensPast}
 use Rattle.tenant.specs.Stands.{Did, IsOpened, TenantState, Stands, StandsAt}
 use Rattle.book.specs.History.{world_of}
-use Rattle.book.specs.Keeping.{FootprintAfter, FootprintIn, KeepsAt, KeepsIn, KeepsOnAt, keeping_after, kept_after}
+use Rattle.book.specs.Past.{FootprintAfter, FootprintIn, KeepsAt, KeepsIn, KeepsOnAt, keeping_after, kept_after}
 
 module _ {S : Type 0} (M : Meaning S) where
   -- ---- events of one tenant

@@ -38,8 +38,8 @@ use Rattle.rollback_laws.proofs.Places.{places_are_seen}
 use Rattle.shared_log.specs.Logged.{Logged}
 use Rattle.rollback_laws.specs.Seen.{IsSeen}
 use Rattle.tenant.specs.declared.answer.Answer.{Answer}
-use Rattle.tenant.specs.Keeping.{AddsLetters, Bases, KeepsOn, KeepsPast, OpensPast, SameShelves, Shelves, shelf_of}
-use Rattle.tenant.specs.Keeping.{shelves_of}
+use Rattle.tenant.specs.Past.{AddsLetters, Bases, KeepsOn, KeepsPast, OpensPast, SameShelves, Shelves, shelf_of}
+use Rattle.tenant.specs.Past.{shelves_of}
 use Rattle.tenant.specs.Kept.{MakesStable, TenantState, Member, checkpointed_member, fitted_member, flushed_member}
 use Rattle.tenant.specs.Kept.{returned_kept, joined_kept, opened_kept, received_kept, received_member, with_begun}
 use Rattle.tenant.specs.Represents.{StandsFor}
