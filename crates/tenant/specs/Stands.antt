@@ -1,5 +1,5 @@
 -- What the crates above may use of a tenant: which world it stands for over a log that may have forgotten records.
-use Rattle.std.specs.Prelude.{◌≡◌, ℕ, List, Option, Some, None, option_map, slice_get}
+use Rattle.std.specs.Prelude.{◌≡◌, ℕ, List, Option, Some, None, false, bytes_eq, option_map, slice_get}
 use Rattle.model.specs.declared.names.Quota.{Quota}
 use Rattle.model.specs.declared.records.Record.{Record}
 use Rattle.model.specs.declared.replies.End.TheVariants.{Device}
@@ -48,6 +48,11 @@ pub record Logs {S : Type 0} (M : Meaning S) (name : List ℕ) (w : World) (step
     (before after : Logged) : Type 0 where
   pub honest : (grown : List Record) × Grows before.records grown after.records × IsHonest M name w step said grown
   pub device : said.end ≡ Device → HasRisen before.failures after.failures
+
+-- What other tenants stand for stays.
+abbrev pub OthersStand : {S : Type 0} → Meaning S → List ℕ → List (Option Record) → List (Option Record) → Type 0
+OthersStand {S} M name before after = (k : TenantState S) (w : World) (other : List ℕ) → bytes_eq other name ≡ false
+    → Stands M other k w before → Stands M other k w after
 
 -- the reply to a step of this world is that of the definitions for what the store said, and the tenant stands for the
 -- world after it

@@ -1,13 +1,13 @@
 //! The step `checkpoint`.
 
-ghost use Rattle.std.specs.Prelude.{◌≡◌, ◌≤◌, ◌<◌, IfOk, List, OnErr, Some, bytes_eq, false, length, slice_get};
+ghost use Rattle.std.specs.Prelude.{◌≡◌, ◌≤◌, ◌<◌, IfOk, List, OnErr, Some, length, slice_get};
 ghost use Rattle.std.specs.Prelude.{slice_set, ℕ};
 ghost use Rattle.model.specs.World.{World};
 ghost use Rattle.model.specs.declared.steps.TenantStep.TheVariants.{Checkpoint};
 ghost use Rattle.tenant.specs.Past.{KeepsOn};
-ghost use Rattle.tenant.specs.Kept.{TenantState, Member as MemberOf, checkpointed_member};
+ghost use Rattle.tenant.specs.Kept.{Member as MemberOf, checkpointed_member};
 ghost use Rattle.tenant.specs.Live.{OthersLive, StaysJust};
-ghost use Rattle.tenant.specs.Stands.{Did, Stands};
+ghost use Rattle.tenant.specs.Stands.{Did, OthersStand, Stands};
 
 use crate::answer::Answer;
 use crate::member::Member;
@@ -77,9 +77,7 @@ impl<H: Handler> Tenant<H> {
             KeepsOn H.meaning tenant.now self.old (Checkpoint unit) a.said a.reply self.new log.old.records) }
         ensures just { IfOk result (λ _.
             StaysJust H.meaning tenant.now self.old log.old.records self.new log.new.records) }
-        // What other tenants stand for stays.
-        ensures others { (k : TenantState H.State) (w : World) (other : List ℕ) → bytes_eq other tenant.now ≡ false
-            → Stands H.meaning other k w log.old.records → Stands H.meaning other k w log.new.records }
+        ensures others { OthersStand H.meaning tenant.now log.old.records log.new.records }
         ensures others_live { OthersLive tenant.now log.old.records log.new.records }
         ensures up { log.old.failures ≤ log.new.failures }
         ensures failures { log.new.failures ≡ log.old.failures }

@@ -12,9 +12,9 @@ ghost use Rattle.model.specs.declared.steps.TenantStep.TheVariants.{Flush};
 ghost use Rattle.rollback.specs.Units.{stable_places};
 ghost use Rattle.unit_steps.specs.Receipts.{IsFrontier, frontier_of};
 ghost use Rattle.tenant.specs.Past.{KeepsOn};
-ghost use Rattle.tenant.specs.Kept.{GoOn, MakesStable, TenantState, Member as MemberOf, flushed_member};
+ghost use Rattle.tenant.specs.Kept.{GoOn, MakesStable, Member as MemberOf, flushed_member};
 ghost use Rattle.tenant.specs.Live.{OthersLive, StaysJust};
-ghost use Rattle.tenant.specs.Stands.{Did, Stands};
+ghost use Rattle.tenant.specs.Stands.{Did, OthersStand, Stands};
 
 use crate::answer::Answer;
 use crate::member::Member;
@@ -225,9 +225,7 @@ impl<H: Handler> Tenant<H> {
             KeepsOn H.meaning tenant.now self.old (Flush unit) a.said a.reply self.new log.old.records) }
         ensures just { IfOk result (λ _.
             StaysJust H.meaning tenant.now self.old log.old.records self.new log.new.records) }
-        // What other tenants stand for stays.
-        ensures others { (k : TenantState H.State) (w : World) (other : List ℕ) → bytes_eq other tenant.now ≡ false
-            → Stands H.meaning other k w log.old.records → Stands H.meaning other k w log.new.records }
+        ensures others { OthersStand H.meaning tenant.now log.old.records log.new.records }
         ensures others_live { OthersLive tenant.now log.old.records log.new.records }
         ensures up { log.old.failures ≤ log.new.failures }
         ensures steady { (log.new.failures ≡ log.old.failures) ⊎ IsOkAnd result (λ a. a.said.end ≡ Device) }

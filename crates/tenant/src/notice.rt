@@ -1,6 +1,6 @@
 //! The step `notice`.
 
-ghost use Rattle.std.specs.Prelude.{◌≡◌, ◌⊎◌, ◌≤◌, ◌<◌, IfOk, IsOkAnd, OnErr, List, ℕ, Some, ◌+◌, false, bytes_eq};
+ghost use Rattle.std.specs.Prelude.{◌≡◌, ◌⊎◌, ◌≤◌, ◌<◌, IfOk, IsOkAnd, OnErr, List, ℕ, Some, ◌+◌};
 ghost use Rattle.std.specs.Prelude.{length, nat_le, slice_get, slice_set};
 ghost use Rattle.rollback.specs.Units.{places};
 ghost use Rattle.model.specs.World.{World};
@@ -8,9 +8,9 @@ ghost use Rattle.model.specs.declared.replies.End.TheVariants.{Device};
 ghost use Rattle.model.specs.declared.steps.TenantStep.TheVariants.{Notice};
 ghost use Rattle.model.specs.Keeping.{after_return};
 ghost use Rattle.tenant.specs.Past.{Shelves};
-ghost use Rattle.tenant.specs.Kept.{TenantState, Member as MemberOf};
+ghost use Rattle.tenant.specs.Kept.{Member as MemberOf};
 ghost use Rattle.tenant.specs.Live.{OthersLive, StaysJust};
-ghost use Rattle.tenant.specs.Stands.{Did, Stands};
+ghost use Rattle.tenant.specs.Stands.{Did, OthersStand, Stands};
 
 use crate::answer::Answer;
 use crate::member::Member;
@@ -75,9 +75,7 @@ impl<H: Handler> Tenant<H> {
         ensures shelves { IfOk result (λ a. Shelves (after_return unit a.reply) self.old self.new) }
         ensures just { IfOk result (λ _.
             StaysJust H.meaning tenant.now self.old log.old.records self.new log.new.records) }
-        // What other tenants stand for stays.
-        ensures others { (k : TenantState H.State) (w : World) (other : List ℕ) → bytes_eq other tenant.now ≡ false
-            → Stands H.meaning other k w log.old.records → Stands H.meaning other k w log.new.records }
+        ensures others { OthersStand H.meaning tenant.now log.old.records log.new.records }
         ensures others_live { OthersLive tenant.now log.old.records log.new.records }
         ensures up { log.old.failures ≤ log.new.failures }
         ensures steady { (log.new.failures ≡ log.old.failures) ⊎ IsOkAnd result (λ a. a.said.end ≡ Device) }

@@ -1,15 +1,15 @@
 //! The step `restart`.
 
-ghost use Rattle.std.specs.Prelude.{◌≡◌, ◌⊎◌, ◌≤◌, ◌<◌, ◌+◌, IfNone, IfOk, IsOkAnd, OnErr, List, ℕ, false, bytes_eq};
+ghost use Rattle.std.specs.Prelude.{◌≡◌, ◌⊎◌, ◌≤◌, ◌<◌, ◌+◌, IfNone, IfOk, IsOkAnd, OnErr, List, ℕ};
 ghost use Rattle.std.specs.Prelude.{length, slice_get};
 ghost use Rattle.model.specs.World.{World, incarnation_of};
 ghost use Rattle.model.specs.declared.replies.End.TheVariants.{Device};
 ghost use Rattle.model.specs.declared.steps.TenantStep.TheVariants.{Restart};
 ghost use Rattle.model.specs.Keeping.{after_return};
 ghost use Rattle.tenant.specs.Past.{Shelves};
-ghost use Rattle.tenant.specs.Kept.{TenantState, restart_refusal as restart_refusal_of};
+ghost use Rattle.tenant.specs.Kept.{restart_refusal as restart_refusal_of};
 ghost use Rattle.tenant.specs.Live.{OthersLive, StaysJust};
-ghost use Rattle.tenant.specs.Stands.{Did, Stands};
+ghost use Rattle.tenant.specs.Stands.{Did, OthersStand, Stands};
 
 use crate::answer::Answer;
 use crate::tenant::Tenant;
@@ -58,9 +58,7 @@ impl<H: Handler> Tenant<H> {
         ensures shelves { IfOk result (λ a. Shelves (after_return unit a.reply) self.old self.new) }
         ensures just { IfOk result (λ _.
             StaysJust H.meaning tenant.now self.old log.old.records self.new log.new.records) }
-        // What other tenants stand for stays.
-        ensures others { (k : TenantState H.State) (w : World) (other : List ℕ) → bytes_eq other tenant.now ≡ false
-            → Stands H.meaning other k w log.old.records → Stands H.meaning other k w log.new.records }
+        ensures others { OthersStand H.meaning tenant.now log.old.records log.new.records }
         ensures others_live { OthersLive tenant.now log.old.records log.new.records }
         ensures up { log.old.failures ≤ log.new.failures }
         ensures steady { (log.new.failures ≡ log.old.failures) ⊎ IsOkAnd result (λ a. a.said.end ≡ Device) }
