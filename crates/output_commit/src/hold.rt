@@ -54,14 +54,6 @@ impl Hold {
         self.outputs.len()
     }
 
-    /// The output at this place, the first at 0. Takes no memory, and a constant time.
-    pub fn at(&self, place: usize) -> &Held
-        requires { place < length self.now.outputs }
-        ensures { slice_get self.now.outputs place ≡ Some result.now }
-    {
-        &self.outputs[place]
-    }
-
     /// Which unit's outputs they are.
     pub fn unit(&self) -> Unit
         ensures { result ≡ self.now.unit }
