@@ -49,11 +49,24 @@ impl<S> Model for UnitParts<S> {
 impl<S: Drop> UnitParts<S> {
     /// Whether they are those of a unit: the base is shelved and stable, no snapshot is of an interval that is
     /// volatile, indices fit and rise, records bear them, and receipts from outside are counted.
+    #[tactic(auto, using(crate::proofs::Whole::whole_is, crate::proofs::Whole::top_passes))]
     pub(crate) fn are_whole(&self) -> bool
         ensures whole { IsTrue result → IsKept self.now }
         ensures all { IsKept self.now → IsTrue result }
     {
-        self.is_based() && self.has_stable() && self.is_shelved() && self.are_marked() && self.is_counted()
+        if !self.is_based() {
+            return false;
+        }
+        if !self.has_stable() {
+            return false;
+        }
+        if !self.is_shelved() {
+            return false;
+        }
+        if !self.are_marked() {
+            return false;
+        }
+        self.is_counted()
     }
 
     /// Whether the base is shelved.

@@ -1,7 +1,15 @@
 -- How values are written as bytes, and read again.
-use Rattle.std.specs.Prelude.{◌≡◌, ℕ, ◌+◌, ◌<◌, ◌^◌, nat_lt, cond, All, List, [], ◌∷◌, ◌++◌, length, Option, None, Some}
+use Rattle.std.specs.Prelude.{◌≡◌, IsTrue, ℕ, ◌+◌, ◌<◌, ◌^◌, nat_lt, cond, List, [], ◌∷◌, ◌++◌, length, Option, None, Some}
 use Rattle.std.specs.Int.{to_le_bytes, w64}
 use Rattle.std.specs.Str.{IsUtf8}
+use Rattle.model.specs.declared.names.Mark.{Mark}
+use Rattle.model.specs.declared.names.Quota.{Quota}
+use Rattle.model.specs.declared.names.Row.{Row}
+use Rattle.model.specs.declared.names.Seat.{Seat}
+use Rattle.model.specs.declared.names.Source.{Source}
+use Rattle.model.specs.declared.names.Source.TheVariants.{Outside, Unit as FromUnit}
+use Rattle.model.specs.declared.records.Record.{Record}
+use Rattle.model.specs.Names.{is_tenant_name}
 
 -- The bytes of a value, with what follows behind them. So the bytes of values one behind the other are one call in the
 -- other.
@@ -40,8 +48,12 @@ each_code code (x ∷ xs) rest = code x (each_code code xs rest)
 abbrev pub list_code : {A : Type 0} → Code A → Code (List A)
 list_code code xs rest = number_code (length xs) (each_code code xs rest)
 
+abbrev pub AllFit : {A : Type 0} → (A → Type 0) → List A → Type 0
+AllFit fits [] = Unit {0}
+AllFit fits (x ∷ xs) = fits x × AllFit fits xs
+
 abbrev pub FitEach : {A : Type 0} → (A → Type 0) → List A → Type 0
-FitEach fits xs = All fits xs × (length xs < 2 ^ 64)
+FitEach fits xs = AllFit fits xs × (length xs < 2 ^ 64)
 
 -- 0, or 1 and the value
 abbrev pub option_code : {A : Type 0} → Code A → Code (Option A)
@@ -67,8 +79,72 @@ FitsText bytes = IsUtf8 bytes × (length bytes < 2 ^ 64)
 -- the same of so many values one behind the other
 abbrev pub DecodesEach : {A : Type 0} → Code A → (A → Type 0) → ℕ → List ℕ → List A → List ℕ → Type 0
 DecodesEach {A} code fits count old xs new = (vs : List A) (rest : List ℕ)
-    → length vs ≡ count → All fits vs → old ≡ each_code code vs rest → (vs ≡ xs) × (rest ≡ new)
+    → length vs ≡ count → AllFit fits vs → old ≡ each_code code vs rest → (vs ≡ xs) × (rest ≡ new)
 
 abbrev pub UnlessEach : {A : Type 0} → Code A → (A → Type 0) → ℕ → List ℕ → Type 0 → Type 0
 UnlessEach {A} code fits count old P = (vs : List A) (rest : List ℕ)
-    → length vs ≡ count → All fits vs → old ≡ each_code code vs rest → P
+    → length vs ≡ count → AllFit fits vs → old ≡ each_code code vs rest → P
+
+-- ---- names
+
+abbrev pub mark_code : Code Mark
+mark_code m rest = number_code m.incarnation (number_code m.index rest)
+
+abbrev pub FitsMark : Mark → Type 0
+FitsMark m = (m.incarnation < 2 ^ 32) × (m.index < 2 ^ 32)
+
+abbrev pub row_code : Code Row
+row_code r rest = byte_code r.unit (number_code r.incarnation (number_code r.start rest))
+
+abbrev pub FitsRow : Row → Type 0
+FitsRow r = (r.unit < 256) × (r.incarnation < 2 ^ 32) × (r.start < 2 ^ 64)
+
+abbrev pub seat_code : Code Seat
+seat_code s rest = byte_code s.unit (byte_code s.kind (byte_code s.home rest))
+
+abbrev pub FitsSeat : Seat → Type 0
+FitsSeat s = (s.unit < 256) × (s.kind < 256) × (s.home < 256)
+
+abbrev pub quota_code : Code Quota
+quota_code q rest = number_code q.volatile (number_code q.held (number_code q.letters rest))
+
+abbrev pub FitsQuota : Quota → Type 0
+FitsQuota q = (q.volatile < 2 ^ 32) × (q.held < 2 ^ 32) × (q.letters < 2 ^ 32)
+
+-- the outside is no unit
+abbrev pub unit_of : Source → Option ℕ
+unit_of Outside = None
+unit_of (FromUnit u) = Some u
+
+abbrev pub source_code : Code Source
+source_code s rest = option_code byte_code (unit_of s) rest
+
+abbrev pub FitsSource : Source → Type 0
+FitsSource s = FitsSome (λ u. u < 256) (unit_of s)
+
+-- a tenant's name
+abbrev pub FitsName : List ℕ → Type 0
+FitsName name = IsTrue (is_tenant_name name) × FitsText name
+
+-- ---- records
+
+abbrev pub marks_code : Code (List Mark)
+marks_code marks rest = list_code mark_code marks rest
+
+abbrev pub FitMarks : List Mark → Type 0
+FitMarks marks = FitEach FitsMark marks
+
+abbrev pub record_code : Code Record
+record_code r rest =
+    bytes_code r.tenant (byte_code r.unit (mark_code r.mark (source_code r.source (option_code number_code r.letter
+    (number_code r.number (bytes_code r.text (marks_code r.vector rest)))))))
+
+pub record FitsRecord (r : Record) : Type 0 where
+  pub tenant : FitsName r.tenant
+  pub unit : r.unit < 256
+  pub mark : FitsMark r.mark
+  pub source : FitsSource r.source
+  pub letter : FitsSome (λ l. l < 2 ^ 32) r.letter
+  pub number : r.number < 2 ^ 64
+  pub text : FitsText r.text
+  pub vector : FitMarks r.vector

@@ -1,7 +1,7 @@
 //! Several values.
 
-ghost use Rattle.std.specs.Prelude.{◌≡◌, ◌<◌, ◌^◌, ◌×◌, All, IfErr, IfOk, List, length};
-ghost use Rattle.snapshot.specs.Codes.{each_code, list_code, option_code, pair_code, Decodes, DecodesEach, Encodes};
+ghost use Rattle.std.specs.Prelude.{◌≡◌, ◌<◌, ◌^◌, ◌++◌, ◌∷◌, [], IfErr, IfOk, List, length};
+ghost use Rattle.snapshot.specs.Codes.{AllFit, each_code, list_code, option_code, pair_code, Decodes, DecodesEach, Encodes};
 ghost use Rattle.snapshot.specs.Codes.{FitEach, FitsSome, Unless, UnlessEach};
 ghost use Rattle.snapshot.specs.declared.fault.DecodeFault.{DecodeFault as FaultOf};
 
@@ -14,11 +14,28 @@ use std::alloc::Global;
 /// Appends the bytes of each item.
 fn encode_each<T: Coded>(items: &[T], out: &mut Vec<u8>) -> Result<(), NoMemory>
     ensures code { IfOk result (λ _. Encodes (each_code T.code) items.now out.old.items out.new.items) }
-    ensures fits { IfOk result (λ _. All T.fits items.now) }
+    ensures fits { IfOk result (λ _. AllFit T.fits items.now) }
 {
     for item in items {
         item.encode(out)?;
     }
+    Ok(())
+}
+
+/// Appends the bytes of a list: how many items there are, and each.
+pub(crate) fn encode_list<T: Coded>(items: &[T], out: &mut Vec<u8>) -> Result<(), NoMemory>
+    ensures code { IfOk result (λ _. Encodes (list_code T.code) items.now out.old.items out.new.items) }
+    ensures fits { IfOk result (λ _. FitEach T.fits items.now) }
+{
+    items.len().encode(out)?;
+    encode_each(items, out)
+}
+
+/// Adds an item at the end.
+fn put<T: Drop>(items: &mut Vec<T>, item: T) -> Result<(), NoMemory>
+    ensures { IfOk result (λ _. items.new.items ≡ items.old.items ++ item ∷ []) }
+{
+    items.push(item)?;
     Ok(())
 }
 
@@ -34,25 +51,21 @@ fn decode_each<T: Coded>(
     let mut items = Vec::new(alloc);
     for _ in 0..count {
         let item = T::decode(alloc, input)?;
-        items.push(item)?;
+        put(&mut items, item)?;
     }
     Ok(items)
 }
 
-impl<T: Coded> Coded for Vec<T> {
-    ghost code = { λ v rest. list_code T.code v.items rest };
-
-    ghost fits = { λ v. FitEach T.fits v.items };
-
-    fn encode(&self, out: &mut Vec<u8>) -> Result<(), NoMemory> {
-        self.len().encode(out)?;
-        encode_each(self.as_slice(), out)
-    }
-
-    fn decode(alloc: Global, input: &mut Input) -> Result<Vec<T>, DecodeFault> {
-        let count = usize::decode(alloc, input)?;
-        decode_each(alloc, input, count)
-    }
+/// Takes the bytes of a list off the input: how many items there are, and each.
+pub(crate) fn decode_list<T: Coded>(
+    alloc: Global,
+    input: &mut Input,
+) -> Result<Vec<T>, DecodeFault>
+    ensures ok { IfOk result (λ xs. Decodes (list_code T.code) (FitEach T.fits) input.old xs.items input.new) }
+    ensures err { IfErr result (λ e. Unless (list_code T.code) (FitEach T.fits) input.old (e ≡ FaultOf.NoMemory)) }
+{
+    let count = usize::decode(alloc, input)?;
+    decode_each(alloc, input, count)
 }
 
 impl<T: Coded> Coded for Option<T> {

@@ -5,7 +5,9 @@ mod coded;
 mod containers;
 mod fault;
 mod input;
+mod names;
 mod numbers;
+mod records;
 mod texts;
 
 pub use coded::Coded;

@@ -1,14 +1,14 @@
 //! Texts and lists that have a type of their own.
 
-ghost use Rattle.std.specs.Prelude.{◌≡◌, ◌<◌, ◌^◌, ◌×◌, IfErr, IfOk, length};
+ghost use Rattle.std.specs.Prelude.{◌≡◌, ◌<◌, ◌^◌, IfErr, IfOk, length};
 ghost use Rattle.std.specs.Str.{IsUtf8};
-ghost use Rattle.snapshot.specs.Codes.{bytes_code, Decodes, Encodes, FitsText, Unless};
+ghost use Rattle.snapshot.specs.Codes.{bytes_code, Decodes, Encodes, FitsName, FitsText, Unless};
 ghost use Rattle.snapshot.specs.declared.fault.DecodeFault.{DecodeFault as FaultOf};
 
 use crate::coded::Coded;
 use crate::fault::DecodeFault;
 use crate::input::Input;
-use model::{NoMemory, Text};
+use model::{NoMemory, TenantName, Text};
 use std::alloc::Global;
 
 /// Appends the length of the bytes, and the bytes.
@@ -46,5 +46,23 @@ impl Coded for Text {
         let text = decode_str(alloc, input)?;
         let text = Text::of(alloc, text)?;
         Ok(text)
+    }
+}
+
+impl Coded for TenantName {
+    ghost code = { bytes_code };
+
+    ghost fits = { FitsName };
+
+    fn encode(&self, out: &mut Vec<u8>) -> Result<(), NoMemory> {
+        encode_bytes(self.as_str().as_bytes(), out)
+    }
+
+    fn decode(alloc: Global, input: &mut Input) -> Result<TenantName, DecodeFault> {
+        let text = decode_str(alloc, input)?;
+        match TenantName::new(text) {
+            Some(name) => Ok(name),
+            None => Err(DecodeFault::Damaged),
+        }
     }
 }
