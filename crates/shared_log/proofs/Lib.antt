@@ -1,3 +1,4 @@
+pub mod FilledLaws
 pub mod LeftLaws
 mod Lists
 pub mod PlacesLaws

@@ -1,7 +1,8 @@
 //! The places of each unit's live records.
 
 ghost use Rattle.std.specs.Prelude.{◌≡◌, ◌<◌, ◌++◌, ◌∷◌, [], ℕ, List, IfOk, OnOk, OnErr, None, take, drop, bytes_eq};
-ghost use Rattle.indexmap.specs.IndexMap.{get};
+ghost use Rattle.std.specs.List.{IsDistinct};
+ghost use Rattle.indexmap.specs.IndexMap.{get, keys};
 ghost use Rattle.shared_log.specs.Index.{of_unit, listed, OtherUnits, SameLists, OtherLists};
 
 use indexmap::IndexMap;
@@ -154,6 +155,14 @@ pub(crate) fn of<'a>(index: &'a Index, tenant: &TenantName, unit: Unit) -> &'a [
         Some(units) => units.of(unit),
         None => &[],
     }
+}
+
+/// The tenants that have lists, each once. All lists of one of them may be empty.
+pub(crate) fn tenants(index: &Index) -> &[TenantName]
+    ensures names { result.now ≡ keys index.now }
+    ensures once { IsDistinct bytes_eq result.now }
+{
+    index.keys().as_slice()
 }
 
 /// Puts a tenant in that is not there, with no places.
