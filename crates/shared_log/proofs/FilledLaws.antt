@@ -15,7 +15,7 @@ use Rattle.indexmap.specs.IndexMap.{IndexMap, get, keys}
 use Rattle.model.specs.declared.records.Record.{Record}
 use Rattle.shared_log.specs.Filled.{filled_in, AreLiveIn, Refills, NamesAllTenants, IsPast}
 use Rattle.shared_log.specs.Index.{listed, of_tenant, IsIndexOf}
-use Rattle.shared_log.specs.Logged.{Logged, is_of, is_owner, owner_of, places_from, places_of, IsHeld}
+use Rattle.shared_log.specs.Logged.{Logged, is_of, places_from, places_of, IsHeld}
 use Rattle.shared_log.proofs.PlacesLaws.{Differs, Lists, Indexes, place_if, one_owner, owner_self, everywhere}
 use Rattle.shared_log.proofs.PlacesLaws.{places_are, list_is}
 

@@ -1,6 +1,5 @@
-use Rattle.std.proofs.Common.{refl, ap, subst, sym, ◌∙◌, ◌<◌, List, ℕ, slice_get, slice_set, Some}
-use Rattle.std.specs.Prelude.{All, Option}
-use Rattle.std.proofs.lemmas.Result.{on_ok_weaker}
+use Rattle.std.proofs.Common.{refl, ap, subst, sym, ◌∙◌, ◌<◌, List, ℕ, slice_get}
+use Rattle.std.specs.Prelude.{All}
 use Rattle.shared_log.specs.Index.{listed}
 use Rattle.shared_log.specs.Logged.{Logged}
 use Rattle.shared_log.proofs.FilledLaws.{fill_lists, fill_count, fill_own, fill_past}
