@@ -1,7 +1,7 @@
 //! The log of all tenants.
 
-ghost use Rattle.std.specs.Prelude.{◌≡◌, ◌≢◌, ◌<◌, ◌≤◌, ◌+◌, ◌++◌, ◌∷◌, [], All, IfOk, OnOk, OnErr, Some, length};
-ghost use Rattle.std.specs.Prelude.{None, bytes_eq, replicate, slice_get, slice_set, take, drop, true};
+ghost use Rattle.std.specs.Prelude.{◌≡◌, ◌≢◌, ◌<◌, ◌≤◌, ◌+◌, ◌++◌, ◌∷◌, [], ℕ, All, IfOk, OnOk, OnErr, Some};
+ghost use Rattle.std.specs.Prelude.{None, bytes_eq, length, replicate, slice_get, slice_set, take, drop, true};
 ghost use Rattle.std.specs.List.{IsDistinct};
 ghost use Rattle.model.specs.Failures.{HasRisen};
 ghost use Rattle.shared_log.specs.Filled.{IsPast, NamesAllTenants};
@@ -92,8 +92,17 @@ impl<S: Store> SharedLog<S> {
         self.count
     }
 
-    /// The tenants that may have live records, each once. So who asks `of` for each of these names and each number of
-    /// a unit meets each live record. It takes no memory.
+    /// How many units of a tenant may have live records, by their numbers: none of this number or a greater one has any.
+    /// It takes no memory.
+    pub fn unit_count(&self, tenant: &TenantName) -> usize
+        ensures most { result ≤ 256 }
+        ensures rest { (unit : ℕ) → result ≤ unit → places_of tenant.now unit self.now ≡ [] }
+    {
+        index::unit_count(&self.index, tenant)
+    }
+
+    /// The tenants that may have live records, each once. So who asks `of` for each of these names and each number
+    /// below its `unit_count` meets each live record. It takes no memory.
     pub fn tenants(&self) -> &[TenantName]
         ensures all { NamesAllTenants self.now.records result.now }
         ensures once { IsDistinct bytes_eq result.now }
