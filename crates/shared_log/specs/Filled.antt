@@ -1,6 +1,6 @@
 -- A log that is made anew of its live records.
-use Rattle.std.specs.Prelude.{◌≡◌, ◌<◌, ◌-◌, ℕ, List, [], ◌∷◌, Option, None, Some, All, Contains, length, replicate}
-use Rattle.std.specs.Prelude.{slice_get, slice_set}
+use Rattle.std.specs.Prelude.{◌≡◌, ◌<◌, ◌-◌, ℕ, List, [], ◌∷◌, ◌++◌, Option, None, Some, All, Contains, length}
+use Rattle.std.specs.Prelude.{replicate, slice_get, slice_set}
 use Rattle.model.specs.declared.records.Record.{Record}
 
 -- the records with each of these put into its place, in order
@@ -20,6 +20,22 @@ AreLiveIn records pairs = All (λ pair. slice_get records pair.0 ≡ Some (Some 
 abbrev pub HaveAllLive : List (Option Record) → List (ℕ × Record) → Type 0
 HaveAllLive records pairs = (place : ℕ) (r : Record) → slice_get records place ≡ Some (Some r)
     → Contains pairs (place, r)
+
+-- the place with its record, or nothing where it has none
+abbrev pub pair_at : ℕ → Option (Option Record) → List (ℕ × Record)
+pair_at place None = []
+pair_at place (Some None) = []
+pair_at place (Some (Some r)) = (place, r) ∷ []
+
+-- these places, each with its record, but for those that have none
+abbrev pub pairs_at : List (Option Record) → List ℕ → List (ℕ × Record)
+pairs_at records [] = []
+pairs_at records (place ∷ places) = pair_at place (slice_get records place) ++ pairs_at records places
+
+-- each place of a live record of the list is among these
+abbrev pub HaveAllLivePlaces : List (Option Record) → List ℕ → Type 0
+HaveAllLivePlaces records places = (place : ℕ) (r : Record) → slice_get records place ≡ Some (Some r)
+    → Contains places place
 
 -- putting all live records of a list into as many empty places, in any order, gives the list
 abbrev pub Refills : Type 0
