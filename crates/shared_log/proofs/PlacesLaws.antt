@@ -30,14 +30,16 @@ owner_is tenant unit owner e =
     let h = both (bytes_eq owner.0 tenant) (owner.1 == unit) e in
     (sym ((bytes_eq-Decides owner.0 tenant).0 h.0), sym ((Decides-eqb owner.1 unit).0 h.1))
 
-owner_self : (tenant : List ℕ) (unit : ℕ) → is_owner tenant unit (tenant, unit) ≡ true
+-- the unit of a tenant is its own owner
+pub owner_self : (tenant : List ℕ) (unit : ℕ) → is_owner tenant unit (tenant, unit) ≡ true
 owner_self tenant unit = rw ((bytes_eq-Decides tenant tenant).1 refl, (Decides-eqb unit unit).1 refl) refl
 
-abbrev Differs : List ℕ → ℕ → List ℕ → ℕ → Type 0
+-- it is another unit, or a unit of another tenant
+abbrev pub Differs : List ℕ → ℕ → List ℕ → ℕ → Type 0
 Differs tenant unit own_tenant own_unit = (tenant ≡ own_tenant) × (unit ≡ own_unit) → ⊥
 
 -- a record of one unit is of no other
-one_owner : (tenant own_tenant : List ℕ) (unit own_unit : ℕ) (r : Option Record)
+pub one_owner : (tenant own_tenant : List ℕ) (unit own_unit : ℕ) (r : Option Record)
     → Differs tenant unit own_tenant own_unit
     → is_of own_tenant own_unit r ≡ true → is_of tenant unit r ≡ false
 one_owner tenant own_tenant unit own_unit None other own = refl
@@ -52,7 +54,8 @@ one_owner tenant own_tenant unit own_unit (Some r) other own = go (is_owner tena
 
 -- ---- one more record
 
-abbrev place_if : Bool → ℕ → List ℕ
+-- the place alone, or none
+abbrev pub place_if : Bool → ℕ → List ℕ
 place_if b place = if b then place ∷ [] else []
 
 places_append : (tenant : List ℕ) (unit place : ℕ) (records : List (Option Record)) (r : Option Record)
@@ -250,7 +253,8 @@ emptied_lost tenant unit first count before (r ∷ records) =
 
 -- ---- lists of all units
 
-abbrev Lists : Type 0
+-- the places of each unit of each tenant
+abbrev pub Lists : Type 0
 Lists = List ℕ → ℕ → List ℕ
 
 -- the lists are those that a walk of the records gives
@@ -258,7 +262,7 @@ abbrev pub Indexes : Lists → List (Option Record) → Type 0
 Indexes lists records = (tenant : List ℕ) (unit : ℕ) → lists tenant unit ≡ places_from tenant unit 0 records
 
 -- what is so of this unit and of all others is so of all
-everywhere : (P : List ℕ → ℕ → Type 0) (own_tenant : List ℕ) (own_unit : ℕ) → P own_tenant own_unit
+pub everywhere : (P : List ℕ → ℕ → Type 0) (own_tenant : List ℕ) (own_unit : ℕ) → P own_tenant own_unit
     → ((tenant : List ℕ) (unit : ℕ) → Differs tenant unit own_tenant own_unit → P tenant unit)
     → (tenant : List ℕ) (unit : ℕ) → P tenant unit
 everywhere P own_tenant own_unit own others tenant unit = go (is_owner tenant unit (own_tenant, own_unit)) refl

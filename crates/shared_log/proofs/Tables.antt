@@ -1,8 +1,9 @@
 -- Laws of lists of values by place.
-use Rattle.std.proofs.Common.{◌≡◌, refl, sym, ◌∙◌, ap, ℕ, zero, suc, ◌+◌, ◌-◌, List, [], ◌∷◌, ◌++◌, length}
-use Rattle.std.proofs.Common.{length-append, take, arith, slice_get, slice_set}
+use Rattle.std.proofs.Common.{◌≡◌, refl, sym, ◌∙◌, ap, subst, ℕ, zero, suc, ◌+◌, ◌-◌, List, [], ◌∷◌, ◌++◌, length}
+use Rattle.std.proofs.Common.{length-append, take, replicate, arith, slice_get, slice_set}
 use Rattle.std.proofs.Math.Seq.{take-append_seam}
-use Rattle.std.specs.Prelude.{◌<◌, ◌≤◌, Option, Some, None}
+use Rattle.std.proofs.lemmas.Option.{same_Some}
+use Rattle.std.specs.Prelude.{◌<◌, ◌≤◌, Option, Some, None, Bool, true, false, IsSome, is_some}
 use Rattle.shared_log.specs.Records.{tabled, tabled_from}
 
 tabled_same : {X : Type 0} (f g : ℕ → X) (at n : ℕ)
@@ -102,3 +103,38 @@ found_at {X = X} f n place now x y e held found =
     ∙ (tabled_at f n place (tabled_within f n place (Some x)
     (ap (λ (xs : List (Option X)). slice_get xs place) e ∙ held))
     ∙ ap (λ (o : Option X). Some o) found)
+
+-- one value at each place
+pub tabled_one : {X : Type 0} (f : ℕ → X) (n : ℕ) (x : X) → ((i : ℕ) → f i ≡ x) → tabled f n ≡ replicate n x
+tabled_one f n x h = go f 0 n x h
+  where
+    go : {X : Type 0} (f : ℕ → X) (at n : ℕ) (x : X) → ((i : ℕ) → f i ≡ x) → tabled_from f at n ≡ replicate n x
+    go f at zero x h = refl
+    go {X = X} f at (suc n) x h =
+        ap (λ (y : X). y ∷ tabled_from f (at + 1) n) (h at)
+        ∙ ap (λ (ys : List X). x ∷ ys) (go f (at + 1) n x h)
+
+-- the same values at each place
+pub tabled_all : {X : Type 0} (f g : ℕ → X) (n : ℕ) (now : List X)
+    → ((i : ℕ) → g i ≡ f i) → tabled f n ≡ now → tabled g n ≡ now
+tabled_all f g n now h e = tabled_same g f 0 n (λ i a b. h i) ∙ e
+
+-- what is found at a place, where it is there
+pub tabled_found : {X : Type 0} (f : ℕ → X) (n place : ℕ) (now : List X) (x : X)
+    → tabled f n ≡ now → place < n → f place ≡ x → slice_get now place ≡ Some x
+tabled_found {X = X} f n place now x e h is =
+    ap (λ (xs : List X). slice_get xs place) (sym e)
+    ∙ (tabled_at f n place h ∙ ap (λ (y : X). Some y) is)
+
+-- what is found is what the place has, which is there
+pub tabled_has : {X : Type 0} (f : ℕ → X) (n place : ℕ) (now : List X) (x : X)
+    → tabled f n ≡ now → slice_get now place ≡ Some x → (place < n) × (f place ≡ x)
+tabled_has {X = X} f n place now x e found =
+    let at = ap (λ (xs : List X). slice_get xs place) e ∙ found in
+    let h = tabled_within f n place x at in
+    (h, same_Some (f place) x (sym (tabled_at f n place h) ∙ at))
+
+-- a test that is false only where there is something is true where there is nothing
+pub none_there : {X : Type 0} (b : Bool) (o : Option X) → (b ≡ false → IsSome o) → o ≡ None → b ≡ true
+none_there true o h e = refl
+none_there {X = X} false o h e = subst (λ (p : Option X). is_some p ≡ true) e (h refl)

@@ -1,7 +1,9 @@
 //! The places of each unit's live records.
 
-ghost use Rattle.std.specs.Prelude.{◌≡◌, ◌<◌, ◌++◌, ◌∷◌, [], ℕ, List, IfOk, OnOk, OnErr, None, take, drop, bytes_eq};
-ghost use Rattle.indexmap.specs.IndexMap.{get};
+ghost use Rattle.std.specs.Prelude.{◌≡◌, ◌<◌, ◌≤◌, ◌++◌, ◌∷◌, [], ℕ, List, IfOk, OnOk, OnErr, None, take, drop};
+ghost use Rattle.std.specs.Prelude.{bytes_eq};
+ghost use Rattle.std.specs.List.{IsDistinct};
+ghost use Rattle.indexmap.specs.IndexMap.{get, keys};
 ghost use Rattle.shared_log.specs.Index.{of_unit, listed, OtherUnits, SameLists, OtherLists};
 
 use indexmap::IndexMap;
@@ -67,18 +69,20 @@ impl Places {
     }
 }
 
-/// The places of each unit of a tenant, by the unit's number. A unit past the end has none.
+/// The places of each unit of a tenant, by the unit's number, of which there are 256. A unit past the end has none.
 #[derive(Debug, Drop)]
 pub(crate) struct Units {
     units: Vec<Places>,
 }
 
 impl Model for Units {
-    ghost use Rattle.std.specs.Prelude.{List, ℕ};
+    ghost use Rattle.std.specs.Prelude.{◌≤◌, List, ℕ, length};
 
     ghost Value = { List (List ℕ) };
 
     ghost view = { λ u. u.units.items };
+
+    ghost invariant = { λ u. length u.units.items ≤ 256 };
 }
 
 impl Units {
@@ -99,11 +103,20 @@ impl Units {
         }
     }
 
+    /// How many units have lists: none of this number or a greater one has places.
+    fn count(&self) -> usize
+        ensures most { result ≤ 256 }
+        ensures rest { (unit : ℕ) → result ≤ unit → of_unit self.now unit ≡ [] }
+    {
+        self.units.len()
+    }
+
     /// Makes lists for the units up to this one.
     fn widen(&mut self, alloc: Global, unit: Unit) -> Result<(), NoMemory>
         ensures { (u : ℕ) → of_unit self.new u ≡ of_unit self.old u }
     {
-        for _ in self.units.len()..usize::from(unit.number()) + 1 {
+        let count = usize::from(unit.number()) + 1;
+        while self.units.len() < count {
             self.units.push(Places::new(alloc))?;
         }
         Ok(())
@@ -154,6 +167,25 @@ pub(crate) fn of<'a>(index: &'a Index, tenant: &TenantName, unit: Unit) -> &'a [
         Some(units) => units.of(unit),
         None => &[],
     }
+}
+
+/// How many units of a tenant have lists: none of this number or a greater one has places.
+pub(crate) fn unit_count(index: &Index, tenant: &TenantName) -> usize
+    ensures most { result ≤ 256 }
+    ensures rest { (unit : ℕ) → result ≤ unit → listed index.now tenant.now unit ≡ [] }
+{
+    match index.get(tenant) {
+        Some(units) => units.count(),
+        None => 0,
+    }
+}
+
+/// The tenants that have lists, each once. All lists of one of them may be empty.
+pub(crate) fn tenants(index: &Index) -> &[TenantName]
+    ensures names { result.now ≡ keys index.now }
+    ensures once { IsDistinct bytes_eq result.now }
+{
+    index.keys().as_slice()
 }
 
 /// Puts a tenant in that is not there, with no places.

@@ -1,7 +1,7 @@
 //! Records by place.
 
 ghost use Rattle.std.specs.Prelude.{◌≡◌, ◌<◌, ◌-◌, ◌/◌, ◌%◌, ◌++◌, ◌∷◌, [], ℕ, IfOk, IfErr, OnOk, OnErr, MatchOption};
-ghost use Rattle.std.specs.Prelude.{Some, None, length, slice_get, slice_set, take, true};
+ghost use Rattle.std.specs.Prelude.{IsSome, Some, None, length, replicate, slice_get, slice_set, take, true, false};
 ghost use Rattle.indexmap.specs.IndexMap.{IsUnchanged};
 ghost use Rattle.shared_log.specs.Logged.{IsHeld};
 ghost use Rattle.shared_log.specs.Records.{OtherPlaces, in_block, in_numbered, in_blocks};
@@ -78,6 +78,7 @@ impl Block {
         requires { at < BLOCK_PLACES }
         ensures own { OnOk result (in_block self.new at ≡ slot) }
         ensures rest { (other : ℕ) → (other ≡ at → ⊥) → in_block self.new other ≡ in_block self.old other }
+        ensures err { OnErr result ((any : ℕ) → in_block self.new any ≡ in_block self.old any) }
     {
         self.make_room()?;
         self.widen(at)?;
@@ -226,7 +227,9 @@ struct Blocks {
 }
 
 impl Blocks {
-    fn new(alloc: Global) -> Blocks {
+    fn new(alloc: Global) -> Blocks
+        ensures { (place : ℕ) → in_blocks result place ≡ None }
+    {
         Blocks {
             number: 0,
             current: Block::new(alloc),
@@ -243,6 +246,16 @@ impl Blocks {
         match self.others.get(&number_of(place)) {
             Some(block) => block.slot(index_of(place)),
             None => None,
+        }
+    }
+
+    fn is_vacant(&self, place: u64) -> bool
+        ensures vacant { result ≡ true → in_blocks self.now place ≡ None }
+        ensures held { result ≡ false → IsSome (in_blocks self.now place) }
+    {
+        match self.slot(place) {
+            Some(slot) => slot.is_empty(),
+            None => true,
         }
     }
 
@@ -274,6 +287,7 @@ impl Blocks {
     fn put(&mut self, place: u64, slot: Slot) -> Result<(), NoMemory>
         ensures own { OnOk result (in_blocks self.new place ≡ slot) }
         ensures rest { (other : ℕ) → (other ≡ place → ⊥) → in_blocks self.new other ≡ in_blocks self.old other }
+        ensures err { OnErr result ((any : ℕ) → in_blocks self.new any ≡ in_blocks self.old any) }
     {
         self.turn_to(number_of(place))?;
         self.current.put(index_of(place), slot)
@@ -328,6 +342,17 @@ impl Records {
         }
     }
 
+    /// So many empty places. It takes no memory, and no time by their number.
+    pub fn vacant(alloc: Global, count: u64) -> Records
+        ensures { result ≡ replicate count None }
+    {
+        Records {
+            count,
+            names: LastName::new(alloc),
+            blocks: Blocks::new(alloc),
+        }
+    }
+
     /// Keeps a record in the next place.
     pub fn keep(&mut self, logged: Record) -> Result<(), NoMemory>
         ensures ok { OnOk result (self.new ≡ self.old ++ Some logged ∷ []) }
@@ -351,6 +376,32 @@ impl Records {
             self.blocks.empty(last);
             self.count = last;
         }
+    }
+
+    /// Whether a place is there and is empty.
+    pub fn is_vacant(&self, place: u64) -> bool
+        ensures vacant { result ≡ true → slice_get self.now place ≡ Some None }
+        ensures found { slice_get self.now place ≡ Some None → result ≡ true }
+    {
+        if place >= self.count {
+            return false;
+        }
+        self.blocks.is_vacant(place)
+    }
+
+    /// Puts a record into a place that is there, whatever it has. Records of one tenant that are put in one after the
+    /// other share its name, as those that are kept do.
+    ///
+    /// # Errors
+    ///
+    /// `NoMemory` where the record finds no room. No place changes then.
+    pub fn fill(&mut self, place: u64, logged: Record) -> Result<(), NoMemory>
+        requires { place < length self.old }
+        ensures ok { OnOk result (self.new ≡ slice_set self.old place (Some logged)) }
+        ensures err { OnErr result (self.new ≡ self.old) }
+    {
+        let name = self.names.place_of(&logged.tenant)?;
+        self.blocks.put(place, Slot::of(logged, name))
     }
 
     /// An equal record to that of a place, which must not be forgotten.

@@ -1,17 +1,41 @@
 //! The log of all tenants.
 
-ghost use Rattle.std.specs.Prelude.{◌≡◌, ◌≢◌, ◌<◌, ◌≤◌, ◌+◌, ◌++◌, ◌∷◌, [], All, IfOk, OnOk, OnErr, Some, length};
-ghost use Rattle.std.specs.Prelude.{slice_get, take, drop};
+ghost use Rattle.std.specs.Prelude.{◌≡◌, ◌≢◌, ◌<◌, ◌≤◌, ◌+◌, ◌++◌, ◌∷◌, [], ℕ, All, IfOk, OnOk, OnErr, Some};
+ghost use Rattle.std.specs.Prelude.{None, bytes_eq, length, replicate, slice_get, slice_set, take, drop, true};
+ghost use Rattle.std.specs.List.{IsDistinct};
 ghost use Rattle.model.specs.Failures.{HasRisen};
+ghost use Rattle.shared_log.specs.Filled.{IsPast, NamesAllTenants};
 ghost use Rattle.shared_log.specs.Index.{listed, OtherLists, SameLists};
 ghost use Rattle.shared_log.specs.Logged.{places_of, AllKept, OthersKept, IsHeld, Grows, KeepsContents, emptied};
 
 use crate::index::{self, Index};
+use crate::memory_store::MemoryStore;
 use crate::store::{Store, StoreFault};
 use indexmap::IndexMap;
-use model::{Record, TenantName, Unit};
+use model::{NoMemory, Record, TenantName, Unit};
 use std::alloc::Global;
 use std::marker::Model;
+use thiserror::Error;
+
+/// Why a place was not filled.
+#[derive(Clone, Copy, Debug, PartialEq, Eq, Error)]
+pub enum FillFault {
+    /// The place isn't there, or isn't empty, or the record's unit has a place that isn't below it.
+    #[error("the record can't have this place")]
+    Misplaced,
+    #[error("no memory")]
+    NoMemory,
+}
+
+impl From<NoMemory> for FillFault {
+    ghost use Rattle.shared_log.specs.declared.shared_log.FillFault.TheVariants.{NoMemory};
+
+    ghost from_gives = { λ _ e. e ≡ NoMemory };
+
+    fn from(_error: NoMemory) -> FillFault {
+        FillFault::NoMemory
+    }
+}
 
 /// The one log of all tenants over a store, seen as the records that were acknowledged, with empty
 /// places for those that were forgotten, and the count of the device's failures. A record has its
@@ -52,6 +76,38 @@ impl<S: Store> SharedLog<S> {
             count: 0,
             index: IndexMap::new(alloc),
         }
+    }
+
+    /// The store under the log.
+    pub fn store(&self) -> &S
+        ensures { S.log result.now ≡ self.now.records }
+    {
+        &self.store
+    }
+
+    /// How many records were acknowledged, with those that were forgotten: the place of the next one.
+    pub fn len(&self) -> u64
+        ensures { result ≡ length self.now.records }
+    {
+        self.count
+    }
+
+    /// How many units of a tenant may have live records, by their numbers: none of this number or a greater one has any.
+    /// It takes no memory.
+    pub fn unit_count(&self, tenant: &TenantName) -> usize
+        ensures most { result ≤ 256 }
+        ensures rest { (unit : ℕ) → result ≤ unit → places_of tenant.now unit self.now ≡ [] }
+    {
+        index::unit_count(&self.index, tenant)
+    }
+
+    /// The tenants that may have live records, each once. So who asks `of` for each of these names and each number
+    /// below its `unit_count` meets each live record. It takes no memory.
+    pub fn tenants(&self) -> &[TenantName]
+        ensures all { NamesAllTenants self.now.records result.now }
+        ensures once { IsDistinct bytes_eq result.now }
+    {
+        index::tenants(&self.index)
     }
 
     /// Logs a record, which is live then. The index grows before the store is asked, so that what
@@ -135,6 +191,44 @@ impl<S: Store> SharedLog<S> {
         ensures failures { self.new.failures ≡ self.old.failures }
     {
         forget_in(&mut self.store, &mut self.index, tenant, unit, count);
+    }
+}
+
+impl SharedLog<MemoryStore> {
+    /// A log in memory of so many records that are all forgotten. Those that are live in another log can be put into
+    /// it by `fill`. It takes no memory, and no time by their number.
+    pub fn vacant(alloc: Global, count: u64) -> SharedLog<MemoryStore>
+        ensures { result ≡ record { records = replicate count None; failures = 0 } }
+    {
+        SharedLog {
+            alloc,
+            store: MemoryStore::vacant(alloc, count),
+            count,
+            index: IndexMap::new(alloc),
+        }
+    }
+
+    /// Puts a record into an empty place that is past all those that its unit has. It is live then.
+    ///
+    /// # Errors
+    ///
+    /// `Misplaced` where the place isn't there, isn't empty, or isn't past those of the record's unit; `NoMemory` where
+    /// the record finds no room. The records and the live ones are as they were then.
+    pub fn fill(&mut self, place: u64, logged: Record) -> Result<(), FillFault>
+        ensures ok { OnOk result (self.new.records ≡ slice_set self.old.records place (Some logged)) }
+        ensures empty { OnOk result (slice_get self.old.records place ≡ Some None) }
+        ensures past { OnOk result (All (λ p. p < place) (places_of logged.tenant logged.unit self.old)) }
+        ensures err { OnErr result (self.new.records ≡ self.old.records) }
+        ensures own { OnOk result (places_of logged.tenant logged.unit self.new
+            ≡ places_of logged.tenant logged.unit self.old ++ place ∷ []) }
+        ensures others { OthersKept logged.tenant logged.unit self.old self.new }
+        ensures kept { OnErr result (AllKept self.old self.new) }
+        ensures failures { self.new.failures ≡ self.old.failures }
+        ensures succeeds { slice_get self.old.records place ≡ Some None
+            → All (λ p. p < place) (places_of logged.tenant logged.unit self.old)
+            → result ≢ Err FillFault.Misplaced }
+    {
+        fill_in(self.alloc, &mut self.store, &mut self.index, place, logged)
     }
 }
 
@@ -239,4 +333,86 @@ fn forget_in<S: Store>(
     }
     forget_all(store, first(index::of(index, tenant, unit), count));
     index::forget(index, tenant, unit, count);
+}
+
+/// Whether a place is past the last of these.
+fn is_past(places: &[u64], place: u64) -> bool
+    ensures past { result ≡ true → IsPast place places.now }
+    ensures found { All (λ p. p < place) places.now → result ≡ true }
+{
+    match places.last() {
+        Some(last) => *last < place,
+        None => true,
+    }
+}
+
+/// Puts a record into a place of the store and lists the place. The index grows before the store is asked; where the
+/// store finds no room, the place is taken off the list again.
+fn put_in(
+    alloc: Global,
+    store: &mut MemoryStore,
+    index: &mut Index,
+    place: u64,
+    logged: Record,
+) -> Result<(), NoMemory>
+    requires { place < length (⟦<MemoryStore as Store>⟧.log store.old) }
+    ensures ok { OnOk result (⟦<MemoryStore as Store>⟧.log store.new
+        ≡ slice_set (⟦<MemoryStore as Store>⟧.log store.old) place (Some logged)) }
+    ensures err { OnErr result (⟦<MemoryStore as Store>⟧.log store.new ≡ ⟦<MemoryStore as Store>⟧.log store.old) }
+    ensures own { OnOk result (listed index.new logged.tenant logged.unit
+        ≡ listed index.old logged.tenant logged.unit ++ place ∷ []) }
+    ensures others { OtherLists logged.tenant logged.unit index.old index.new }
+    ensures same { OnErr result (SameLists index.old index.new) }
+{
+    let tenant = logged.tenant.copy();
+    let unit = logged.unit;
+    index::add(alloc, index, &tenant, unit, place)?;
+    match store.fill(place, logged) {
+        Ok(()) => Ok(()),
+        Err(fault) => {
+            let had = index::of(index, &tenant, unit).len() - 1;
+            index::cut(index, &tenant, unit, had);
+            Err(fault)
+        }
+    }
+}
+
+/// Whether a place of the store is empty and past all those that the index lists for the record's unit.
+fn may_fill(store: &MemoryStore, index: &Index, place: u64, logged: &Record) -> bool
+    ensures empty { result ≡ true → slice_get (⟦<MemoryStore as Store>⟧.log store.now) place ≡ Some None }
+    ensures past { result ≡ true → IsPast place (listed index.now logged.now.tenant logged.now.unit) }
+    ensures found { slice_get (⟦<MemoryStore as Store>⟧.log store.now) place ≡ Some None
+        → All (λ p. p < place) (listed index.now logged.now.tenant logged.now.unit) → result ≡ true }
+{
+    if !store.is_vacant(place) {
+        return false;
+    }
+    is_past(index::of(index, &logged.tenant, logged.unit), place)
+}
+
+/// Puts a record into a place of the store and lists the place, where it is empty and past those of the record's unit.
+fn fill_in(
+    alloc: Global,
+    store: &mut MemoryStore,
+    index: &mut Index,
+    place: u64,
+    logged: Record,
+) -> Result<(), FillFault>
+    ensures ok { OnOk result (⟦<MemoryStore as Store>⟧.log store.new
+        ≡ slice_set (⟦<MemoryStore as Store>⟧.log store.old) place (Some logged)) }
+    ensures err { OnErr result (⟦<MemoryStore as Store>⟧.log store.new ≡ ⟦<MemoryStore as Store>⟧.log store.old) }
+    ensures empty { OnOk result (slice_get (⟦<MemoryStore as Store>⟧.log store.old) place ≡ Some None) }
+    ensures past { OnOk result (IsPast place (listed index.old logged.tenant logged.unit)) }
+    ensures own { OnOk result (listed index.new logged.tenant logged.unit
+        ≡ listed index.old logged.tenant logged.unit ++ place ∷ []) }
+    ensures others { OtherLists logged.tenant logged.unit index.old index.new }
+    ensures same { OnErr result (SameLists index.old index.new) }
+    ensures succeeds { slice_get (⟦<MemoryStore as Store>⟧.log store.old) place ≡ Some None
+        → All (λ p. p < place) (listed index.old logged.tenant logged.unit) → result ≢ Err FillFault.Misplaced }
+{
+    if !may_fill(store, index, place, &logged) {
+        return Err(FillFault::Misplaced);
+    }
+    put_in(alloc, store, index, place, logged)?;
+    Ok(())
 }
