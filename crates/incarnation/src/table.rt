@@ -1,7 +1,7 @@
 //! The table and its look-ups.
 
-ghost use Rattle.std.specs.Prelude.{◌≡◌, ◌+◌, ◌<◌, ◌≤◌, ℕ, ◌∷◌, [], ◌++◌, IfOk, MatchOption, OnErr, Some, length};
-ghost use Rattle.std.specs.Prelude.{slice_get, take};
+ghost use Rattle.std.specs.Prelude.{◌≡◌, ◌+◌, ◌<◌, ◌≤◌, ℕ, ◌∷◌, [], ◌++◌, IfOk, IfSome, IsSome, IsTrue, MatchOption, OnErr, Some};
+ghost use Rattle.std.specs.Prelude.{◌↔◌, length, slice_get, take};
 ghost use Rattle.model.specs.World.{incarnation_of, mark_told, mark_lost};
 ghost use Rattle.incarnation.specs.Filed.{filed_at, filed_of, nothing_filed, with_row, Ordered};
 ghost use Rattle.incarnation.specs.Rows.{rows_of as rows_of_unit, incarnation_at as incarnation_by};
@@ -45,6 +45,41 @@ impl StartTable {
             rows: Vec::new(alloc),
             files: Vec::new(alloc),
         }
+    }
+
+    /// The table of these rows, if they are those of a table: a unit's rows begin its incarnations 1, 2 and so on.
+    ///
+    /// # Errors
+    ///
+    /// `NoMemory` where the rows find no memory.
+    #[tactic(auto, using(crate::proofs::Orders::next_at))]
+    pub fn of(alloc: Global, rows: &[Row]) -> Result<Option<StartTable>, NoMemory>
+        ensures made { IfOk result (λ o. IfSome o (λ t. t ≡ rows.now)) }
+        ensures ordered { Ordered rows.now → IfOk result (λ o. IsSome o) }
+    {
+        let mut table = StartTable::new(alloc);
+        for row in rows {
+            if !table.is_next(*row) {
+                return Ok(None);
+            }
+            table.add(*row)?;
+        }
+        Ok(Some(table))
+    }
+
+    /// Its rows, in the order of adding.
+    pub fn rows(&self) -> &[Row]
+        ensures rows { result.now ≡ self.now }
+        ensures ordered { Ordered self.now }
+    {
+        self.rows.as_slice()
+    }
+
+    /// Whether the row begins its unit's next incarnation.
+    fn is_next(&self, row: Row) -> bool
+        ensures { IsTrue result ↔ (row.incarnation ≡ incarnation_of self.now row.unit + 1) }
+    {
+        u64::from(row.incarnation) == u64::from(self.latest(row.unit)) + 1
     }
 
     /// How many rows there are.
@@ -138,10 +173,19 @@ impl StartTable {
     /// # Errors
     ///
     /// `NoMemory` where the row finds no memory; the table stays as it was.
-    #[tactic(auto, using(crate::proofs::FilesLaws::files_same, crate::proofs::FilesLaws::files_append))]
     pub fn append(&mut self, row: Row) -> Result<(), NoMemory>
         requires next { row.incarnation ≡ incarnation_of self.old row.unit + 1 }
         requires limit { row.incarnation ≤ MAX_INCARNATION }
+        ensures ok { IfOk result (λ _. self.new ≡ self.old ++ row ∷ []) }
+        ensures err { OnErr result (self.new ≡ self.old) }
+    {
+        self.add(row)
+    }
+
+    /// Adds a row that begins its unit's next incarnation. Where that finds no memory, the table stays.
+    #[tactic(auto, using(crate::proofs::FilesLaws::files_same, crate::proofs::FilesLaws::files_append))]
+    fn add(&mut self, row: Row) -> Result<(), NoMemory>
+        requires { row.incarnation ≡ incarnation_of self.old row.unit + 1 }
         ensures ok { IfOk result (λ _. self.new ≡ self.old ++ row ∷ []) }
         ensures err { OnErr result (self.new ≡ self.old) }
     {
