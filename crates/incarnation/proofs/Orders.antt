@@ -55,17 +55,17 @@ next_at rows i r o e =
     let unit : ℕ = r.unit in
     let before : List Row = rows_of (take i rows) unit in
     let here : rows_of (r ∷ drop (suc i) rows) unit ≡ r ∷ rows_of (drop (suc i) rows) unit =
-        ap (λ b. cond b (r ∷ rows_of (drop (suc i) rows) unit) (rows_of (drop (suc i) rows) unit))
-        (true_eq unit unit refl) in
+    ap (λ b. cond b (r ∷ rows_of (drop (suc i) rows) unit) (rows_of (drop (suc i) rows) unit))
+    (true_eq unit unit refl) in
     let all : rows_of rows unit ≡ before ++ r ∷ rows_of (drop (suc i) rows) unit =
-        ap (λ xs. rows_of xs unit) (split rows i r e)
-        ∙ filter-append (λ q. q.unit == unit) (take i rows) (r ∷ drop (suc i) rows)
-        ∙ ap (λ xs. before ++ xs) here in
+    ap (λ xs. rows_of xs unit) (split rows i r e)
+    ∙ filter-append (λ q. q.unit == unit) (take i rows) (r ∷ drop (suc i) rows)
+    ∙ ap (λ xs. before ++ xs) here in
     let own : r.incarnation ≡ length before + 1 = o.in_order unit (length before) r
-        (ap (λ xs. slice_get xs (length before)) all ∙ behind before r (rows_of (drop (suc i) rows) unit)) in
+    (ap (λ xs. slice_get xs (length before)) all ∙ behind before r (rows_of (drop (suc i) rows) unit)) in
     let count = counted_from (take i rows) unit 0 (λ j q f.
-        let a : q.incarnation ≡ j + 1 = o.in_order unit j q (ap (λ xs. slice_get xs j) all
-        ∙ append_get before (r ∷ rows_of (drop (suc i) rows) unit) j q f) in omega (arith, a)) in
+    let a : q.incarnation ≡ j + 1 = o.in_order unit j q (ap (λ xs. slice_get xs j) all
+    ∙ append_get before (r ∷ rows_of (drop (suc i) rows) unit) j q f) in omega (arith, a)) in
     elim count [
       | inl h ↦ let a = h.0 in let b = h.1 in omega (arith, own, a, b)
       | inr h ↦ let b = h.1 in omega (arith, own, b)

@@ -97,12 +97,7 @@ impl<H: Handler> Member<H> {
 
     /// The member that keeps this of its unit, these outputs, knows so many rows, and had a checkpoint of its beginning
     /// or not. Takes no memory.
-    pub fn of(
-        unit_state: RecoveryUnit<H>,
-        hold: Hold,
-        known: usize,
-        first_put: bool,
-    ) -> Member<H>
+    pub fn of(unit_state: RecoveryUnit<H>, hold: Hold, known: usize, first_put: bool) -> Member<H>
         ensures { result ≡ record {
           unit_state = unit_state;
           unit = hold.unit;
