@@ -32,7 +32,7 @@ pub(crate) fn encode_list<T: Coded>(items: &[T], out: &mut Vec<u8>) -> Result<()
 }
 
 /// Adds an item at the end.
-fn put<T: Drop>(items: &mut Vec<T>, item: T) -> Result<(), NoMemory>
+pub(crate) fn put<T: Drop>(items: &mut Vec<T>, item: T) -> Result<(), NoMemory>
     ensures { IfOk result (λ _. items.new.items ≡ items.old.items ++ item ∷ []) }
 {
     items.push(item)?;

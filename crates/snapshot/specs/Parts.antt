@@ -1,0 +1,119 @@
+-- How the parts of a tenant are written as bytes.
+use Rattle.std.specs.Prelude.{◌≡◌, ℕ, ◌+◌, ◌≤◌, ◌<◌, ◌^◌, Bool, true, false, cond, List, ◌++◌, length, Option}
+use Rattle.model.specs.declared.names.Mark.{Mark}
+use Rattle.model.specs.declared.names.Row.{Row}
+use Rattle.session.specs.declared.exchange.Exchange.{Exchange}
+use Rattle.session.specs.Counts.{Counts}
+use Rattle.checkpoint.specs.declared.snapshot.Snapshot.{Snapshot}
+use Rattle.checkpoint.specs.Shelves.{Rises, Shelved}
+use Rattle.output_commit.specs.declared.held.Held.{Held}
+use Rattle.incarnation.specs.Filed.{Ordered}
+use Rattle.compact.specs.Compact.{Content, Interval, Letter, Progress}
+use Rattle.rollback.specs.Units.{IsKept, Recovering}
+use Rattle.tenant.specs.Kept.{Member, TenantState}
+use Rattle.snapshot.specs.Codes.{Code, FitEach, FitMarks, FitsMark, FitsQuota, FitsRecord, FitsRow, FitsSeat, FitsSome}
+use Rattle.snapshot.specs.Codes.{FitsText, byte_code, bytes_code, list_code, mark_code, marks_code, number_code}
+use Rattle.snapshot.specs.Codes.{option_code, quota_code, record_code, row_code, seat_code}
+
+-- ---- counts
+
+abbrev pub exchange_code : Code Exchange
+exchange_code x rest = number_code x.taken (number_code x.sent rest)
+
+abbrev pub FitsExchange : Exchange → Type 0
+FitsExchange x = (x.taken < 2 ^ 64) × (x.sent < 2 ^ 64)
+
+abbrev pub counts_code : Code Counts
+counts_code c rest = number_code c.outside (list_code exchange_code c.units rest)
+
+abbrev pub FitCounts : Counts → Type 0
+FitCounts c = (c.outside < 2 ^ 64) × FitEach FitsExchange c.units
+
+-- ---- intervals, outputs and letters
+
+abbrev pub FitsVector : List Mark → Type 0
+FitsVector v = FitMarks v × (length v ≤ 256)
+
+abbrev pub interval_code : Code Interval
+interval_code i rest = marks_code i.vector (option_code number_code i.letter rest)
+
+abbrev pub FitsInterval : Interval → Type 0
+FitsInterval i = FitsVector i.vector × FitsSome (λ l. l < 2 ^ 32) i.letter
+
+abbrev pub held_code : Code Held
+held_code h rest = mark_code h.mark (bytes_code h.text rest)
+
+abbrev pub FitsHeld : Held → Type 0
+FitsHeld h = FitsMark h.mark × FitsText h.text
+
+abbrev pub content_code : Code Content
+content_code c rest = bytes_code c.text (marks_code c.vector rest)
+
+abbrev pub FitsContent : Content → Type 0
+FitsContent c = FitsText c.text × FitsVector c.vector
+
+abbrev pub letter_code : Code Letter
+letter_code l rest =
+    byte_code l.source (byte_code l.receiver (number_code l.number (option_code content_code l.content rest)))
+
+abbrev pub FitsLetter : Letter → Type 0
+FitsLetter l = (l.source < 256) × (l.receiver < 256) × (l.number < 2 ^ 64) × FitsSome FitsContent l.content
+
+-- ---- a unit, where its states have these bytes
+
+abbrev pub progress_code : {S : Type 0} → Code S → Code (Progress S)
+progress_code state p rest = state p.state (counts_code p.sessions rest)
+
+abbrev pub FitsProgress : {S : Type 0} → (S → Type 0) → Progress S → Type 0
+FitsProgress fits p = fits p.state × FitCounts p.sessions
+
+abbrev pub snapshot_code : {S : Type 0} → Code S → Code (Snapshot (Progress S))
+snapshot_code state s rest = number_code s.index (progress_code state s.state rest)
+
+abbrev pub FitsSnapshot : {S : Type 0} → (S → Type 0) → Snapshot (Progress S) → Type 0
+FitsSnapshot fits s = (s.index < 2 ^ 32) × FitsProgress fits s.state
+
+abbrev pub shelf_code : {S : Type 0} → Code S → Code (Shelved (Progress S))
+shelf_code state s rest =
+    option_code (snapshot_code state) s.base (list_code (snapshot_code state) s.others rest)
+
+abbrev pub FitsShelf : {S : Type 0} → (S → Type 0) → Shelved (Progress S) → Type 0
+FitsShelf fits s = FitsSome (FitsSnapshot fits) s.base × FitEach (FitsSnapshot fits) s.others × Rises s.base s.others
+
+abbrev pub unit_code : {S : Type 0} → Code S → Code (Recovering S)
+unit_code state u rest =
+    seat_code u.seat (option_code (progress_code state) u.progress (number_code u.base (number_code u.outside
+    (list_code interval_code u.intervals (list_code record_code u.volatile (shelf_code state u.shelf rest))))))
+
+pub record FitsUnit {S : Type 0} (fits : S → Type 0) (u : Recovering S) : Type 0 where
+  pub seat : FitsSeat u.seat
+  pub progress : FitsSome (FitsProgress fits) u.progress
+  pub base : u.base < 2 ^ 32
+  pub outside : u.outside < 2 ^ 64
+  pub intervals : FitEach FitsInterval u.intervals
+  pub volatile : FitEach FitsRecord u.volatile
+  pub shelf : FitsShelf fits u.shelf
+  pub kept : IsKept u
+
+-- ---- a tenant
+
+abbrev pub member_code : {S : Type 0} → Code S → Code (Member S)
+member_code state m rest =
+    unit_code state m.unit_state (byte_code m.unit (list_code held_code m.outputs (number_code m.known
+    (byte_code (cond m.first_put 1 0) rest))))
+
+pub record FitsMember {S : Type 0} (fits : S → Type 0) (m : Member S) : Type 0 where
+  pub unit_state : FitsUnit fits m.unit_state
+  pub unit : m.unit < 256
+  pub outputs : FitEach FitsHeld m.outputs
+  pub known : m.known < 2 ^ 64
+
+abbrev pub texts_code : Code (List (List ℕ))
+texts_code texts rest = list_code bytes_code texts rest
+
+-- what a unit released: how many texts were given up, and those behind them
+abbrev pub line_code : Code (ℕ × List (List ℕ))
+line_code line rest = number_code line.0 (texts_code line.1 rest)
+
+abbrev pub FitsLine : ℕ × List (List ℕ) → Type 0
+FitsLine line = FitEach FitsText line.1 × (line.0 + length line.1 < 2 ^ 64)
