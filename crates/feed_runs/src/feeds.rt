@@ -1,4 +1,4 @@
-//! `feeds`: the files are feeds that run at once.
+//! `feeds`: inputs are feeds that run at once.
 
 use crate::budget::{Budgeted, MOST};
 use handler::Handler;
@@ -10,19 +10,19 @@ use shared_log::MemoryStore;
 use std::alloc::Global;
 use std::cell::Cell;
 use std::fs::{File, Files};
-use std::io::{self, BufReader, BufWriter, Read, Write};
+use std::io::{BufReader, BufWriter, Read, Write};
 use std::mem;
 use std::sync::Wait;
 use std::thread::Threads;
 use std::time::Clock;
-use terminal::{BLOCK, Bar, Patient, Plural};
+use terminal::{BLOCK, Bar, Plural};
 use words::FeedsWords;
 use workers::{Closed, Gate, RunFault, run_feeds};
 
 /// The lines of a feed: none where a line is a step, or why it is not.
 type Faults = Vec<Option<LineFault>>;
 
-/// The feeds of the files, in the order of the words: their steps, and which lines are none.
+/// The feeds of the inputs, in their order: their steps, and which lines are none.
 #[derive(Drop)]
 struct Feeds {
     steps: Vec<Vec<Step>>,
@@ -41,18 +41,28 @@ impl<'a, R: Eprint + Clock> Gate for Counting<'a, R> {
     }
 }
 
-/// Runs each file as a feed, all at once over a store in memory, and then writes the reply lines to standard output,
-/// feed by feed in the order of the words. Tells the status to end with: 0 where all lines are answered, 1 after a
-/// fault of input, output, memory or threads; where the feeds can't be read or run, nothing is written. Where it is
-/// asked for, it audits each open tenant after the last reply; 1 too where an audit doesn't say yes. Where it
-/// `shows`, a bar tells how far the steps are.
+/// Runs each input as a feed, all at once over a store in memory, and then writes the reply lines to the output, feed
+/// by feed in their order. An input comes with the name that it is told by. Tells the status to end with: 0 where all
+/// lines are answered, 1 after a fault of input, output, memory or threads; where the feeds can't be read or run,
+/// nothing is written. Where it is asked for, it audits each open tenant after the last reply; 1 too where an audit
+/// doesn't say yes. Where it `shows`, a bar tells how far the steps are.
 pub fn feeds_on<
-    R: Threads + Wait + Sync + Files<File = File> + Print + Eprint + Clock + AllocGlobal,
+    R: Threads + Wait + Sync + Eprint + Clock + AllocGlobal,
     L: Log,
+    I: Read + Drop,
+    W: Write + Drop,
     H: Handler + Copy + Send + Sync,
->(rt: &R, told: &L, handler: H, asked: &FeedsWords<'_>, shows: bool) -> u8 {
+>(
+    rt: &R,
+    told: &L,
+    handler: H,
+    inputs: Vec<(&str, I)>,
+    output: W,
+    asked: &FeedsWords<'_>,
+    shows: bool,
+) -> u8 {
     let alloc = rt.alloc();
-    let Some(read) = read_all(rt, told, alloc, asked.files.as_slice()) else {
+    let Some(read) = read_all(told, alloc, inputs) else {
         return 1;
     };
     let Feeds { steps, faults } = read;
@@ -67,7 +77,6 @@ pub fn feeds_on<
     bar.clear();
     match ran {
         Ok(closed) => {
-            let output = Patient::new(rt, io::writer(rt));
             let status = write_all(
                 told,
                 alloc,
@@ -97,14 +106,12 @@ fn count_steps(feeds: &[Vec<Step>]) -> u64 {
     count
 }
 
-/// Opens all files, in order, and then reads them, in order. None where one can't be, which is told.
-fn read_all<R: Files<File = File>, L: Log>(
-    rt: &R,
+/// Reads all inputs, in order. None where one can't be read, which is told.
+fn read_all<L: Log, I: Read + Drop>(
     told: &L,
     alloc: Global,
-    paths: &[&str],
+    inputs: Vec<(&str, I)>,
 ) -> Option<Feeds> {
-    let inputs = open_all(rt, told, alloc, paths)?;
     let left = Cell::new(MOST);
     let mut steps = Vec::new(alloc);
     let mut faults = Vec::new(alloc);
@@ -125,8 +132,8 @@ fn read_all<R: Files<File = File>, L: Log>(
     Some(Feeds { steps, faults })
 }
 
-/// Opens all files. None where one can't be opened, which is told.
-fn open_all<'a, R: Files<File = File>, L: Log>(
+/// Opens the files of these paths, in order, each with its path. None where one can't be opened, which is told.
+pub fn open_feeds<'a, R: Files<File = File>, L: Log>(
     rt: &R,
     told: &L,
     alloc: Global,

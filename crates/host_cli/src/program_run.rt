@@ -3,7 +3,7 @@
 use crate::journals::journal_as_asked;
 use crate::run_asked::{run_as_asked, shows_bar};
 use drawings::draw_on;
-use feed_runs::feeds_on;
+use feed_runs::{feeds_on, open_feeds};
 use files::fill_descriptors;
 use handler::Handler;
 use images::load_on;
@@ -14,7 +14,7 @@ use std::io::{self, ErrorKind, Input};
 use std::sync::Wait;
 use std::thread::Threads;
 use std::time::Clock;
-use terminal::Diagnostics;
+use terminal::{Diagnostics, Patient};
 use views::{status_on, why_on};
 use words::{Asked, FeedsWords, Pages, Program, read_words};
 
@@ -148,11 +148,10 @@ fn feeds_as_asked<
         bar: None,
     };
     let told = Logged::new(rt, feeds.verbosity.level(), diagnostics);
-    feeds_on(
-        rt,
-        &told,
-        handler,
-        feeds,
-        shows_bar(terminals, feeds.verbosity),
-    )
+    let Some(inputs) = open_feeds(rt, &told, rt.alloc(), feeds.files.as_slice()) else {
+        return 1;
+    };
+    let output = Patient::new(rt, io::writer(rt));
+    let shows = shows_bar(terminals, feeds.verbosity);
+    feeds_on(rt, &told, handler, inputs, output, feeds, shows)
 }

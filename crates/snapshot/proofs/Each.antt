@@ -1,7 +1,8 @@
 -- Values one behind the other, from one of them on.
 use Rattle.std.proofs.Common.{◌≡◌, refl, sym, ◌∙◌, ap, subst, ℕ, zero, suc, ◌+◌, ◌<◌, ◌≤◌, List, [], ◌∷◌, ◌++◌, length}
 use Rattle.std.proofs.Common.{drop, take, arith, slice_index_or}
-use Rattle.snapshot.specs.Codes.{AllFit, Code, each_code}
+use Rattle.std.specs.Prelude.{Some, slice_get}
+use Rattle.std.proofs.lemmas.Option.{same_Some, slice_get_within, get_or_from_slice_get}
 
 more : (i : ℕ) → suc i ≡ i + 1
 more i = omega arith
@@ -23,6 +24,10 @@ pub at_drop : {X : Type 0} (xs : List X) (i : ℕ) (x : X)
     → i < length xs → x ≡ slice_index_or xs i x → drop i xs ≡ x ∷ drop (i + 1) xs
 at_drop xs i x h is =
     suc_drop xs i x h ∙ ap (λ y. y ∷ drop (suc i) xs) (sym is) ∙ ap (λ n. x ∷ drop n xs) (more i)
+
+-- The same where the item is found there.
+pub found_drop : {X : Type 0} (xs : List X) (i : ℕ) (x : X) → slice_get xs i ≡ Some x → drop i xs ≡ x ∷ drop (i + 1) xs
+found_drop xs i x e = at_drop xs i x (slice_get_within xs i x e) (sym (get_or_from_slice_get xs i x x e))
 
 -- A beginning goes on with the item there.
 pub at_take : {X : Type 0} (xs : List X) (i : ℕ) (x : X)

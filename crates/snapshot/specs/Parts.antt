@@ -10,7 +10,6 @@ use Rattle.output_commit.specs.declared.held.Held.{Held}
 use Rattle.incarnation.specs.Filed.{Ordered}
 use Rattle.compact.specs.Compact.{Content, Interval, Letter, Progress}
 use Rattle.rollback.specs.Units.{IsKept, Recovering}
-use Rattle.tenant.specs.Kept.{Member, TenantState}
 use Rattle.snapshot.specs.Codes.{Code, FitEach, FitMarks, FitsMark, FitsQuota, FitsRecord, FitsRow, FitsSeat, FitsSome}
 use Rattle.snapshot.specs.Codes.{FitsText, byte_code, bytes_code, list_code, mark_code, marks_code, number_code}
 use Rattle.snapshot.specs.Codes.{option_code, quota_code, record_code, row_code, seat_code}
@@ -94,26 +93,3 @@ pub record FitsUnit {S : Type 0} (fits : S → Type 0) (u : Recovering S) : Type
   pub volatile : FitEach FitsRecord u.volatile
   pub shelf : FitsShelf fits u.shelf
   pub kept : IsKept u
-
--- ---- a tenant
-
-abbrev pub member_code : {S : Type 0} → Code S → Code (Member S)
-member_code state m rest =
-    unit_code state m.unit_state (byte_code m.unit (list_code held_code m.outputs (number_code m.known
-    (byte_code (cond m.first_put 1 0) rest))))
-
-pub record FitsMember {S : Type 0} (fits : S → Type 0) (m : Member S) : Type 0 where
-  pub unit_state : FitsUnit fits m.unit_state
-  pub unit : m.unit < 256
-  pub outputs : FitEach FitsHeld m.outputs
-  pub known : m.known < 2 ^ 64
-
-abbrev pub texts_code : Code (List (List ℕ))
-texts_code texts rest = list_code bytes_code texts rest
-
--- what a unit released: how many texts were given up, and those behind them
-abbrev pub line_code : Code (ℕ × List (List ℕ))
-line_code line rest = number_code line.0 (texts_code line.1 rest)
-
-abbrev pub FitsLine : ℕ × List (List ℕ) → Type 0
-FitsLine line = FitEach FitsText line.1 × (line.0 + length line.1 < 2 ^ 64)

@@ -3,13 +3,20 @@
 
 mod coded;
 mod containers;
+mod counts;
 mod fault;
 mod input;
 mod names;
 mod numbers;
+mod outputs;
+mod portable;
+mod progress;
 mod records;
 mod texts;
+mod unit;
+mod vectors;
 
 pub use coded::Coded;
 pub use fault::DecodeFault;
 pub use input::Input;
+pub use portable::Portable;

@@ -12,39 +12,68 @@ use crate::fault::DecodeFault;
 use crate::input::Input;
 use crate::portable::Portable;
 use crate::progress::{decode_shelf, decode_some, encode_shelf, encode_some};
+use handler::Handler;
 use model::{NoMemory, Record, Seat};
 use rollback::{Interval, RecoveryUnit, UnitParts};
 use std::alloc::Global;
 use std::collections::VecDeque;
 use volatile_log::VolatileLog;
 
-/// Appends the bytes of the intervals that are kept.
-fn encode_intervals<H: Portable>(unit: &RecoveryUnit<H>, out: &mut Vec<u8>) -> Result<(), NoMemory>
+/// Appends the bytes of each interval that is kept.
+fn encode_each_interval<H: Handler>(
+    unit: &RecoveryUnit<H>,
+    count: usize,
+    out: &mut Vec<u8>,
+) -> Result<(), NoMemory>
+    requires { count ≡ length unit.now.intervals }
     ensures code { IfOk result (λ _.
-        Encodes (list_code interval_code) unit.now.intervals out.old.items out.new.items) }
-    ensures fits { IfOk result (λ _. FitEach FitsInterval unit.now.intervals) }
+        Encodes (each_code interval_code) unit.now.intervals out.old.items out.new.items) }
+    ensures fits { IfOk result (λ _. AllFit FitsInterval unit.now.intervals) }
 {
     let base = unit.base();
-    let count = unit.interval_count();
-    count.encode(out)?;
     for place in 0..count {
         unit.interval(base + place as u32).encode(out)?;
     }
     Ok(())
 }
 
+/// Appends the bytes of the intervals that are kept.
+fn encode_intervals<H: Handler>(unit: &RecoveryUnit<H>, out: &mut Vec<u8>) -> Result<(), NoMemory>
+    ensures code { IfOk result (λ _.
+        Encodes (list_code interval_code) unit.now.intervals out.old.items out.new.items) }
+    ensures fits { IfOk result (λ _. FitEach FitsInterval unit.now.intervals) }
+{
+    let count = (unit.last_index() - unit.base()) as usize + 1;
+    count.encode(out)?;
+    encode_each_interval(unit, count, out)
+}
+
+/// Appends the bytes of each record that is volatile.
+fn encode_each_record<H: Handler>(
+    unit: &RecoveryUnit<H>,
+    count: usize,
+    out: &mut Vec<u8>,
+) -> Result<(), NoMemory>
+    requires { count ≡ length unit.now.volatile }
+    ensures code { IfOk result (λ _.
+        Encodes (each_code record_code) unit.now.volatile out.old.items out.new.items) }
+    ensures fits { IfOk result (λ _. AllFit FitsRecord unit.now.volatile) }
+{
+    for place in 0..count {
+        unit.volatile_record(place).encode(out)?;
+    }
+    Ok(())
+}
+
 /// Appends the bytes of the records that are volatile.
-fn encode_volatile<H: Portable>(unit: &RecoveryUnit<H>, out: &mut Vec<u8>) -> Result<(), NoMemory>
+fn encode_volatile<H: Handler>(unit: &RecoveryUnit<H>, out: &mut Vec<u8>) -> Result<(), NoMemory>
     ensures code { IfOk result (λ _.
         Encodes (list_code record_code) unit.now.volatile out.old.items out.new.items) }
     ensures fits { IfOk result (λ _. FitEach FitsRecord unit.now.volatile) }
 {
     let count = unit.volatile_count();
     count.encode(out)?;
-    for place in 0..count {
-        unit.volatile_record(place).encode(out)?;
-    }
-    Ok(())
+    encode_each_record(unit, count, out)
 }
 
 /// The intervals in a queue.

@@ -8,9 +8,12 @@ use crate::containers::encode_list;
 use crate::fault::DecodeFault;
 use crate::input::Input;
 use depvector::SharedVector;
-use model::{Letter, MAX_UNITS, Marks, NoMemory};
+use model::{Letter, Marks, NoMemory};
 use rollback::Interval;
 use std::alloc::Global;
+
+/// How many entries a vector has at most: units have numbers of 8 bits.
+const MAX_ENTRIES: usize = 256;
 
 impl Coded for SharedVector {
     ghost code = { marks_code };
@@ -23,7 +26,7 @@ impl Coded for SharedVector {
 
     fn decode(alloc: Global, input: &mut Input) -> Result<SharedVector, DecodeFault> {
         let marks = Marks::decode(alloc, input)?;
-        if marks.as_slice().len() > MAX_UNITS {
+        if marks.as_slice().len() > MAX_ENTRIES {
             return Err(DecodeFault::Damaged);
         }
         let vector = SharedVector::of(alloc, &marks)?;
