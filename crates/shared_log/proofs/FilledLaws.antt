@@ -301,7 +301,8 @@ get_set [] (suc at) x h = absurd (omega arith)
 get_set (y ∷ records) zero x h = refl
 get_set (y ∷ records) (suc at) x h = get_set records at x (omega arith)
 
-get_set_other : (records : List (Option Record)) (at place : ℕ) (x : Option Record) → (at ≡ place → ⊥)
+-- another place has what it had
+pub get_set_other : (records : List (Option Record)) (at place : ℕ) (x : Option Record) → (at ≡ place → ⊥)
     → slice_get (slice_set records at x) place ≡ slice_get records place
 get_set_other [] zero place x other = refl
 get_set_other [] (suc at) place x other = refl

@@ -24,7 +24,8 @@ both : (a b : Bool) → a && b ≡ true → (a ≡ true) × (b ≡ true)
 both true b e = (refl, e)
 both false b e = absurd (let t : false ≡ true = e in cc)
 
-owner_is : (tenant : List ℕ) (unit : ℕ) (owner : List ℕ × ℕ)
+-- the owner that passes the test is this unit of this tenant
+pub owner_is : (tenant : List ℕ) (unit : ℕ) (owner : List ℕ × ℕ)
     → is_owner tenant unit owner ≡ true → (tenant ≡ owner.0) × (unit ≡ owner.1)
 owner_is tenant unit owner e =
     let h = both (bytes_eq owner.0 tenant) (owner.1 == unit) e in

@@ -42,6 +42,12 @@ abbrev pub Refills : Type 0
 Refills = (records : List (Option Record)) (pairs : List (ℕ × Record)) → AreLiveIn records pairs
     → HaveAllLive records pairs → filled (length records) pairs ≡ records
 
+-- the record of the pair leaves this place to this record: it has another place, and a lower one where both are of one
+-- unit
+abbrev pub LeavesRoom : ℕ → Record → ℕ × Record → Type 0
+LeavesRoom place r pair = (pair.0 ≡ place → ⊥)
+    × (pair.1.tenant ≡ r.tenant → pair.1.unit ≡ r.unit → pair.0 < place)
+
 -- the tenant of each live record of the list is among these
 abbrev pub NamesAllTenants : List (Option Record) → List (List ℕ) → Type 0
 NamesAllTenants records names = (place : ℕ) (r : Record) → slice_get records place ≡ Some (Some r)
