@@ -166,23 +166,24 @@ module _ {S : Type 0} (r : Recovering S) (first : Bool) where
       at_base None e = absurd (cc e)
       at_base (Some b) e = ap (λ m. (m == n) || list_any (is_at n) others) (same_Some b.index r.base e)
 
+  -- whether one was put at the beginning once one is put at this index
+  abbrev marks : ℕ → Bool
+  marks index = first || (index == 0)
+
   -- A shelf on which a snapshot is put has, by its indices, the snapshot's index put.
   pub put_is : IsKept r → (index : ℕ) (p : Progress S)
       → shelf_of (first || (index == 0)) (record r { shelf = put_on r.shelf (record { index = index; state = p }) })
       ≡ put index (shelf_of first r)
   put_is k index p = go (has_index r.shelf index)
-      ∙ ap (λ b. cond b (shelf_of marks r) (shelf marks r.base (room_of (indices others) ++ index ∷ []))) (has_is k index)
+      ∙ ap (λ b. cond b (shelf_of (marks index) r) (shelf (marks index) r.base (room_of (indices others) ++ index ∷ []))) (has_is k index)
     where
-      abbrev marks : Bool
-      marks = first || (index == 0)
-
-      go : (b : Bool) → shelf_of marks (record r {
+      go : (b : Bool) → shelf_of (marks index) (record r {
         shelf =
             cond b r.shelf (record r.shelf { others = making_room others ++ snapshot index p ∷ [] });
       })
-          ≡ cond b (shelf_of marks r) (shelf marks r.base (room_of (indices others) ++ index ∷ []))
+          ≡ cond b (shelf_of (marks index) r) (shelf (marks index) r.base (room_of (indices others) ++ index ∷ []))
       go true = refl
-      go false = ap (shelf marks r.base) (map-append index_of (making_room others) (snapshot index p ∷ [])
+      go false = ap (shelf (marks index) r.base) (map-append index_of (making_room others) (snapshot index p ∷ [])
           ∙ ap (λ is. is ++ index ∷ []) (room_is others))
 
   -- ---- a path is cut
