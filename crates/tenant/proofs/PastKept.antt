@@ -1,7 +1,7 @@
 -- What each step makes of the checkpoints, and that the tenant then keeps what the rules leave.
 use Rattle.std.proofs.Common.{◌≡◌, ◌⊎◌, inl, inr, refl, sym, ◌∙◌, ap, subst, ℕ, zero, suc, ◌+◌, ◌-◌, true, false, List}
-use Rattle.std.proofs.Common.{[], ◌∷◌, ◌++◌, length, arith, map, append-nil, append_assoc, length-set}
-use Rattle.std.specs.Prelude.{IfOk, IfSome, Option, Some, None, Result, Ok, Err, slice_get, slice_set, is_none}
+use Rattle.std.proofs.Common.{◌||◌, [], ◌∷◌, ◌++◌, length, arith, map, append-nil, append_assoc, length-set}
+use Rattle.std.specs.Prelude.{◌==◌, IfOk, IfSome, Option, Some, None, Result, Ok, Err, slice_get, slice_set, is_none}
 use Rattle.std.specs.Prelude.{replicate}
 use Rattle.std.specs.List.{fold}
 use Rattle.std.specs.Option.{is_some}

@@ -175,7 +175,8 @@ module _ {S : Type 0} (r : Recovering S) (first : Bool) where
       → shelf_of (first || (index == 0)) (record r { shelf = put_on r.shelf (record { index = index; state = p }) })
       ≡ put index (shelf_of first r)
   put_is k index p = go (has_index r.shelf index)
-      ∙ ap (λ b. cond b (shelf_of (marks index) r) (shelf (marks index) r.base (room_of (indices others) ++ index ∷ []))) (has_is k index)
+      ∙ ap (λ b. cond b (shelf_of (marks index) r)
+      (shelf (marks index) r.base (room_of (indices others) ++ index ∷ []))) (has_is k index)
     where
       go : (b : Bool) → shelf_of (marks index) (record r {
         shelf =
@@ -228,8 +229,8 @@ module _ {S : Type 0} (r : Recovering S) (first : Bool) where
           same_shelf first r.base base (indices others) (filter (nat_lt base) (indices others)) (sym is)
           (sym (all_above base others (λ i x e. let h = above_base r.shelf.base others r.base k.base k.rises i x e in
           omega (arith, is, h))))
-      go false t = ap (shelf base) (behind_is base
-          others (λ i j x y lt f g. k.rises.rising i j x y lt f g) (others_have r.shelf first r.base base k.base t there))
+      go false t = ap (shelf first base) (behind_is base
+          others (λ i j x y lt f g. k.rises.rising i j x y lt f g) (others_have r.shelf r.base base k.base t there))
 
   -- A unit that forgets up to its next base has, by its indices, a shelf that is based at the frontier.
   pub based_is : IsKept r → (f : ℕ)
