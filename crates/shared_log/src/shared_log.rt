@@ -92,8 +92,8 @@ impl<S: Store> SharedLog<S> {
         self.count
     }
 
-    /// How many units of a tenant may have live records, by their numbers: none of this number or a greater one has any.
-    /// It takes no memory.
+    /// How many units of a tenant may have live records: none whose number is this or a greater one has any. It takes
+    /// no memory.
     pub fn unit_count(&self, tenant: &TenantName) -> usize
         ensures most { result ≤ 256 }
         ensures rest { (unit : ℕ) → result ≤ unit → places_of tenant.now unit self.now ≡ [] }
