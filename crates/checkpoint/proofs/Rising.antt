@@ -1,11 +1,13 @@
 -- A shelf rises after each call.
-use Rattle.std.proofs.Common.{◌≡◌, ◌≢◌, inl, inr, refl, ◌∙◌, ap, ℕ, suc, ◌+◌, ◌<◌, Bool, true, false, cond, ◌||◌, ◌&&◌, zero, subst, List}
+use Rattle.std.proofs.Common.{◌≡◌, ◌≢◌, inl, inr, refl, ◌∙◌, ap, ℕ, suc, ◌+◌, ◌<◌, Bool, true, false, cond, ◌||◌, ◌&&◌}
+use Rattle.std.proofs.Common.{zero, subst, List}
 use Rattle.std.proofs.Common.{[], ◌∷◌, ◌++◌, length, take, drop, arith, length-append}
 use Rattle.std.specs.Prelude.{Option, Some, None, option_map, slice_get, nat_lt}
 use Rattle.std.specs.List.{list_any, remove}
 use Rattle.std.specs.Option.{option_map_or}
 use Rattle.std.proofs.lemmas.Option.{slice_get_within, same_Some}
-use Rattle.theory.proofs.ListLaws.{get_append, get_drop, get_take, at_any, true_eq, and_both, both_and, lt_true, true_lt}
+use Rattle.theory.proofs.ListLaws.{get_append, get_drop, get_take, at_any, true_eq, and_both, both_and, lt_true}
+use Rattle.theory.proofs.ListLaws.{true_lt}
 use Rattle.checkpoint.specs.declared.snapshot.Snapshot.{Snapshot}
 use Rattle.checkpoint.specs.Shelves.{Shelved, Rises, IsShelved, IsTop, is_at, has_index, making_room, are_rising}
 use Rattle.checkpoint.specs.Shelves.{is_index_behind}

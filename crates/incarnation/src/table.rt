@@ -1,6 +1,7 @@
 //! The table and its look-ups.
 
-ghost use Rattle.std.specs.Prelude.{◌≡◌, ◌+◌, ◌<◌, ◌≤◌, ℕ, ◌∷◌, [], ◌++◌, IfOk, IfSome, IsSome, IsTrue, MatchOption, OnErr, Some};
+ghost use Rattle.std.specs.Prelude.{◌≡◌, ◌+◌, ◌<◌, ◌≤◌, ℕ, ◌∷◌, [], ◌++◌, IfOk, IfSome, IsSome, IsTrue, MatchOption};
+ghost use Rattle.std.specs.Prelude.{OnErr, Some};
 ghost use Rattle.std.specs.Prelude.{◌↔◌, length, slice_get, take};
 ghost use Rattle.model.specs.World.{incarnation_of, mark_told, mark_lost};
 ghost use Rattle.incarnation.specs.Filed.{filed_at, filed_of, nothing_filed, with_row, Ordered};

@@ -18,8 +18,8 @@ use Rattle.model.specs.World.{Member, World, executed, is_firm}
 
 -- ---- the checkpoints of a unit
 
--- Their indices: the base, which is firm, and the others in the order of putting. The base is the beginning, at 0, until
--- a checkpoint behind it takes its place. The beginning is a checkpoint once one was put there.
+-- Their indices: the base, which is firm, and the others in the order of putting. Until a checkpoint behind it takes
+-- its place the base is the beginning, at 0, which is a checkpoint once one was put there.
 pub record Shelf : Type 0 where
   pub base : ℕ
   pub first_put : Bool

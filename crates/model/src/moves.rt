@@ -2,6 +2,7 @@
 
 use crate::names::{Kind, Unit};
 use crate::text::Text;
+use thiserror::Error;
 
 /// One move of a run without failures.
 #[derive(Debug, Drop)]
@@ -15,14 +16,18 @@ pub enum Move {
 }
 
 /// Why a list of moves is no run, or not one with these outputs.
-#[derive(Clone, Copy, Debug, PartialEq, Eq)]
+#[derive(Clone, Copy, Debug, PartialEq, Eq, Error)]
 pub enum Flaw {
     /// A move names this unit, which is not there.
+    #[error("a move names a unit that is not there")]
     NoUnit(Unit),
     /// The unit takes a letter where none is on its way.
+    #[error("a unit takes a letter where none is on its way")]
     NothingToReceive(Unit),
     /// The unit's outputs do not begin with its list.
+    #[error("a unit's outputs do not begin with its list")]
     OutputsDiffer(Unit),
     /// There was no memory to tell.
+    #[error("no memory")]
     NoMemory,
 }

@@ -1,6 +1,7 @@
 //! The unit and its calls.
 
-ghost use Rattle.std.specs.Prelude.{◌≡◌, ◌+◌, ◌<◌, ◌≤◌, ◌^◌, ◌∷◌, [], ◌++◌, ◌-◌, IfOk, IfSome, IsSome, IsTrue, OnErr, Some};
+ghost use Rattle.std.specs.Prelude.{◌≡◌, ◌+◌, ◌<◌, ◌≤◌, ◌^◌, ◌∷◌, [], ◌++◌, ◌-◌, IfOk, IfSome, IsSome, IsTrue, OnErr};
+ghost use Rattle.std.specs.Prelude.{Some};
 ghost use Rattle.std.specs.Prelude.{None, option_map, ℕ, List, length, drop, take, slice_get, slice_index_or, false};
 ghost use Rattle.std.specs.List.{position};
 ghost use Rattle.std.specs.Option.{is_some, option_copied};

@@ -156,7 +156,8 @@ module _ {S : Type 0} (M : Meaning S) (name : List ℕ) (t : TenantState S) (w :
       let all = places_are_seen M r x.unit x.kept.kept x.kept.seen in
       let kept_there = ap (λ ss. slice_get ss u) (sym keeping.shelved)
       ∙ at_map (λ (z : MemberOf S). shelf_of z.first_put z.unit_state) t.members u x.member x.found in
-      let shelf : shelf_of x.member.first_put r ≡ q = same_Some (shelf_of x.member.first_put r) q (sym kept_there ∙ there) in
+      let shelf : shelf_of x.member.first_put r ≡ q = same_Some (shelf_of x.member.first_put r) q (sym kept_there
+      ∙ there) in
       let base : r.base ≡ q.base = ap (λ (z : Shelf). z.base) shelf in
       let path : length x.unit.intervals ≡ length m.path - x.unit.base.index =
       ap length x.stands.intervals

@@ -251,7 +251,8 @@ module _ {S : Type 0} (M : Meaning S) (name : List ℕ) (t : TenantState S) (w :
     not_lower = not_back r x.is.kept f base next
 
     own_letter : (l : ℕ) (c : Letter) → Was t.letters l c (list_any (λ (i : Interval). is_of l i.letter) given)
-        → c.receiver ≡ u → (z : Shelf) → z ≡ based f (shelf_of m.first_put r) → is_none c.content ≡ received_for_good w q z l
+        → c.receiver ≡ u → (z : Shelf) → z ≡ based f (shelf_of m.first_put r)
+        → is_none c.content ≡ received_for_good w q z l
     own_letter l c was to z same =
         let to_unit : was.was.receiver ≡ u = sym was.receiver ∙ to in
         let before = kept.letters l was.was q (shelf_of m.first_put r) was.at (ap (slice_get w.members) to_unit
@@ -265,7 +266,8 @@ module _ {S : Type 0} (M : Meaning S) (name : List ℕ) (t : TenantState S) (w :
     pub moved_keeping : IsKeeping v w moved_shelves
     moved_keeping = record {
       shelved =
-          map-set (λ (n : MemberOf S). shelf_of n.first_put n.unit_state) t.members u (record m { unit_state = forgotten r base })
+          map-set (λ (n : MemberOf S). shelf_of n.first_put n.unit_state) t.members u
+          (record m { unit_state = forgotten r base })
           ∙ (λ j. slice_set (kept.shelved j) u (based_to j));
       letters = λ l c n z at after own.
           let was = was_all t.letters given l c at in
@@ -273,7 +275,8 @@ module _ {S : Type 0} (M : Meaning S) (name : List ℕ) (t : TenantState S) (w :
             | yes to ↦
                 let same_unit : q ≡ n = same_Some q n (sym world_unit.1 ∙ ap (slice_get w.members) (sym to) ∙ after) in
                 let own_shelf : z ≡ based f (shelf_of m.first_put r) =
-                sym (same_Some (based f (shelf_of m.first_put r)) z (sym (set_get_same shelves u (based f (shelf_of m.first_put r))
+                sym (same_Some (based f (shelf_of m.first_put r)) z (sym (set_get_same shelves u (based f
+                (shelf_of m.first_put r))
                 (shelf_of m.first_put r) shelved) ∙ ap (slice_get moved_shelves) (sym to) ∙ own)) in
                 own_letter l c was to z own_shelf ∙ ap (λ (y : Member). received_for_good w y z l) same_unit
             | no other ↦
@@ -297,7 +300,8 @@ module _ {S : Type 0} (M : Meaning S) (name : List ℕ) (t : TenantState S) (w :
   pub moved_keeps : (v : TenantState S)
       → v ≡ moved_kept t u m (next_base r f) → IsKeeping v w (changed (based (firm_length w q)) u shelves)
   moved_keeps v same =
-      subst (λ (ss : List Shelf). IsKeeping v w ss) ((λ j. slice_set shelves u (based (front_is j) (shelf_of m.first_put r)))
+      subst (λ (ss : List Shelf). IsKeeping v w ss) ((λ j. slice_set shelves u (based (front_is j)
+      (shelf_of m.first_put r)))
       ∙ ap (changed_if (based (firm_length w q)) u shelves) (sym shelved))
       (subst (λ (z : TenantState S). IsKeeping z w (slice_set shelves u (based f (shelf_of m.first_put r))))
       (sym same) (moved_to (next_base r f) refl))

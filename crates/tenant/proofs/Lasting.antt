@@ -171,7 +171,8 @@ module _ {S : Type 0} (M : Meaning S) (name : List ℕ)
   of_shelf u s at =
       let m = get_below w.members u (let a = slice_get_within shelves u s at in let b = width in omega (arith, a, b)) in
       let x = stands_at M name (live_in name records) t w standing.whole standing.stands u m.0 m.1 in
-      let own : shelf_of x.member.first_put x.member.unit_state ≡ s = same_Some (shelf_of x.member.first_put x.member.unit_state) s
+      let own : shelf_of x.member.first_put x.member.unit_state
+      ≡ s = same_Some (shelf_of x.member.first_put x.member.unit_state) s
       (sym (at_map (λ (n : MemberOf S). shelf_of n.first_put n.unit_state) t.members u x.member x.found)
       ∙ ap (λ ss. slice_get ss u) keeping.shelved ∙ at) in
       let base : x.member.unit_state.base ≡ s.base = ap (λ (r : Shelf). r.base) own in
@@ -271,7 +272,8 @@ pub put_base : (index : ℕ) (s : Shelf) → (put index s).base ≡ s.base
 put_base index s = go ((s.base == index) || has s.others index)
   where
     go : (b : Bool)
-        → (cond b (marked index s) (record (marked index s) { others = with_room s.others ++ index ∷ [] })).base ≡ s.base
+        → (cond b (marked index s) (record (marked index s) { others = with_room s.others ++ index ∷ [] })).base
+        ≡ s.base
     go true = refl
     go false = refl
 

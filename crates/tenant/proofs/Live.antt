@@ -256,7 +256,10 @@ module _ {S : Type 0} (M : Meaning S) (name : List ℕ) where
   shelves_width t w records shelves s k =
       let a = (opened s).stands.1.width in
       let b = (opened s).stands.2.represents.width in
-      ap length (sym (past_opened k).shelved) ∙ length-map t.members (λ (m : MemberOf S). shelf_of m.first_put m.unit_state) ∙ a ∙ b
+      ap length (sym (past_opened k).shelved)
+      ∙ length-map t.members (λ (m : MemberOf S). shelf_of m.first_put m.unit_state)
+      ∙ a
+      ∙ b
 
   module _ (t v : TenantState S) (step : TenantStep) (log : Logged)
       (stable : (w z : World) (said : Said) → (step_open M w step said).world ≡ Some z → StaysStable w z)
@@ -502,7 +505,8 @@ module _ {S : Type 0} (M : Meaning S) (name : List ℕ) (t : TenantState S) (w :
       let here = o.stands.2.represents.units u m x.unit at x.at in
       let ready = units_are_ready M name o.stands.0 w o.whole o.stands.2 u x.unit x.at r x.is.kept x.is.seen in
       let base = (places_are_seen M r x.unit x.is.kept x.is.seen).base in
-      let shelf : slice_get shelves u ≡ Some (shelf_of n.0.first_put r) = ap (λ ss. slice_get ss u) (sym (past_opened k).shelved)
+      let shelf : slice_get shelves u ≡ Some (shelf_of n.0.first_put r) =
+      ap (λ ss. slice_get ss u) (sym (past_opened k).shelved)
       ∙ at_map (λ (z : MemberOf S). shelf_of z.first_put z.unit_state) t.members u n.0 n.1 in
       let own : length x.unit.live ≡ live_count r = ready.live ∙ (λ i. x.is.seen.stable i - 1 - base i) in
       let all : length (live_in name records u) ≡ live_count r =

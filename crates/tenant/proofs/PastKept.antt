@@ -120,7 +120,8 @@ pub one_back : {S : Type 0} (t v : TenantState S) (u : ℕ) (m : Member S)
     → v ≡ returned_kept t u m target incarnation progress → Shelves (changed (cut (target + 1)) u) t v
 one_back {S} t v u m found target incarnation progress e =
     one_changed t u m found _ v (ap (λ (z : TenantState S). z.members) e)
-    (cut (target + 1)) (cut_is m.unit_state m.first_put (target + 1)) (no_letters t v (ap (λ (z : TenantState S). z.letters) e))
+    (cut (target + 1)) (cut_is m.unit_state m.first_put (target + 1))
+    (no_letters t v (ap (λ (z : TenantState S). z.letters) e))
 
 -- ---- what the rules leave
 

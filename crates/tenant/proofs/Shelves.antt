@@ -219,7 +219,8 @@ module _ {S : Type 0} (r : Recovering S) (first : Bool) where
 
   -- those above the new base stay
   forgotten_is : IsKept r → (base : ℕ)
-      → has_index r.shelf base ≡ true → shelf_of first (forgotten r base) ≡ shelf first base (filter (nat_lt base) (indices others))
+      → has_index r.shelf base ≡ true → shelf_of first (forgotten r base)
+      ≡ shelf first base (filter (nat_lt base) (indices others))
   forgotten_is k base there = go (base == r.base) refl
     where
       go : (q : Bool) → (base == r.base) ≡ q
@@ -234,7 +235,9 @@ module _ {S : Type 0} (r : Recovering S) (first : Bool) where
 
   -- A unit that forgets up to its next base has, by its indices, a shelf that is based at the frontier.
   pub based_is : IsKept r → (f : ℕ)
-      → r.base < f → (base : ℕ) → next_base r f ≡ Some base → shelf_of first (forgotten r base) ≡ based f (shelf_of first r)
+      → r.base < f → (base : ℕ) → next_base r f ≡ Some base → shelf_of first (forgotten r base)
+      ≡ based f (shelf_of first r)
   based_is k f low base e =
       forgotten_is k base (next_is r f base e).0
-      ∙ ap (λ n. shelf first n (filter (nat_lt n) (indices others))) (same_Some base (last f) (sym e ∙ next_last k f low))
+      ∙ ap (λ n. shelf first n (filter (nat_lt n) (indices others))) (same_Some base (last f) (sym e
+      ∙ next_last k f low))
