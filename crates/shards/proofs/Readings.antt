@@ -1,9 +1,11 @@
 -- What is kept of lines, and what is read of that.
-use Rattle.std.proofs.Common.{◌≡◌, ◌≤◌, ◌+◌, ℕ, suc, List, [], ◌∷◌, ◌++◌, length, cond, Bool, true, false, Option}
+use Rattle.std.proofs.Common.{◌≡◌, ◌<◌, ◌≤◌, ◌+◌, ◌-◌, ℕ, suc, List, [], ◌∷◌, ◌++◌, length, map, get_or, take, drop, All, cond, Bool}
+use Rattle.std.proofs.Common.{true, false, Option}
 use Rattle.std.proofs.Common.{refl, sym, ap, subst, ◌∙◌, inl, inr, arith}
-use Rattle.std.specs.Prelude.{Some, Result, Ok, Err, slice_get}
-use Rattle.std.proofs.lemmas.List.{nil_from_length}
-use Rattle.std.proofs.lemmas.Option.{same_Some}
+use Rattle.std.specs.Prelude.{Some, Result, Ok, Err, is_err, is_ok, slice_get, option_map}
+use Rattle.std.proofs.lemmas.List.{drop-append-le, length-drop, length-map, map-append, nil_from_length, take-append-le}
+use Rattle.std.proofs.lemmas.List.Elements.{All-head, All-tail}
+use Rattle.std.proofs.lemmas.Option.{same_Some, slice_get-get_or, slice_get-map}
 use Rattle.model.specs.declared.steps.Step.{Step}
 use Rattle.forms.specs.Reading.{Gives, step_of_line}
 use Rattle.forms.specs.declared.fault.LineFault.{LineFault}
@@ -15,7 +17,9 @@ use Rattle.lines.specs.Serving.{line_step}
 use Rattle.lines.specs.declared.input.LineRead.TheVariants.{Line, Long}
 use Rattle.lines.proofs.Runs.{line_step-held, line_step-long}
 use Rattle.shards.specs.Blocks.{IsReadOr}
-use Rattle.shards.specs.Kept.{AreKept, AreReadFrom, IsKept, IsReadAt, IsReadingOf}
+use Rattle.shards.specs.Kept.{AreKept, AreReadFrom, IsKept, IsReadAt, IsReadingOf, StandsIn, kept_in}
+use Rattle.shards.specs.declared.span.Span.{Span}
+use Rattle.shards.specs.declared.span.Span.TheVariants.{Text, Not}
 
 -- Of one line more something is kept, whose readings are readings of the line.
 pub AreKept-more : (lines : List (List ℕ)) (kept : List (Result (List ℕ) LineFault)) (line : List ℕ)
@@ -105,3 +109,82 @@ pub reading_or : (lines : List (Result (List ℕ) LineFault)) (at : ℕ) (read r
 reading_or lines at read reading is (inl e) = subst (IsReadAt lines at) (sym e) is
 reading_or lines at read reading is (inr (step, was, none)) =
     (is.0, is.1, lost is.0 read reading step was none is.2)
+
+-- ---- where texts stand
+
+-- What may be read of a line's text, or of why it has none, may be read of the line at its place.
+pub read_at : (bytes : List ℕ) (spans : List Span) (lines : List (Result (List ℕ) LineFault)) (at : ℕ) (span : Span)
+    (reading : Result Step LineFault) → map (kept_in bytes) spans ≡ lines → at < length lines
+    → span ≡ get_or spans at span → IsReadingOf (kept_in bytes span) reading → IsReadAt lines at reading
+read_at bytes spans lines at span reading is within own of =
+    let there : at < length spans = subst (λ n. at < n)
+    (ap length (sym is) ∙ length-map spans (kept_in bytes)) within in
+    let here : slice_get spans at ≡ Some span = slice_get-get_or spans at span there ∙ ap Some (sym own) in (
+      kept_in bytes span,
+      ap (λ (l : List (Result (List ℕ) LineFault)). slice_get l at) (sym is)
+          ∙ slice_get-map (kept_in bytes) spans at ∙ ap (option_map (kept_in bytes)) here,
+      of,
+    )
+
+-- A line of which there is no more memory for what is read gives what is told of it.
+pub unread_at : (bytes : List ℕ) (spans : List Span) (lines : List (Result (List ℕ) LineFault)) (at : ℕ) (span : Span)
+    (from to : ℕ) → map (kept_in bytes) spans ≡ lines → at < length lines
+    → span ≡ get_or spans at span → span ≡ Text from to → IsReadAt lines at (Err NoMemory)
+unread_at bytes spans lines at span from to is within own text =
+    read_at bytes spans lines at span (Err NoMemory) is within own
+    (subst (λ s. IsReadingOf (kept_in bytes s) (Err NoMemory)) (sym text) tt)
+
+-- A line that gives no step gives its fault.
+pub fault_at : (bytes : List ℕ) (spans : List Span) (lines : List (Result (List ℕ) LineFault)) (at : ℕ) (span : Span)
+    (fault : LineFault) → map (kept_in bytes) spans ≡ lines → at < length lines
+    → span ≡ get_or spans at span → span ≡ Not fault → IsReadAt lines at (Err fault)
+fault_at bytes spans lines at span fault is within own not =
+    read_at bytes spans lines at span (Err fault) is within own
+    (subst (λ s. IsReadingOf (kept_in bytes s) (Err fault)) (sym not) refl)
+
+-- more bytes behind those where lines stand
+kept_same : (bytes more : List ℕ) (spans : List Span) → All (StandsIn (length bytes)) spans
+    → map (kept_in (bytes ++ more)) spans ≡ map (kept_in bytes) spans
+kept_same bytes more [] all = refl
+kept_same bytes more (Not fault ∷ spans) all =
+    ap (λ (l : List (Result (List ℕ) LineFault)). Err fault ∷ l)
+    (kept_same bytes more spans (All-tail (StandsIn (length bytes)) (Not fault) spans all))
+kept_same bytes more (Text from to ∷ spans) all =
+    let within = All-head (StandsIn (length bytes)) (Text from to) spans all in
+    let dropped : drop from (bytes ++ more) ≡ drop from bytes ++ more =
+    drop-append-le from bytes more (omega (arith, within.0, within.1)) in
+    let taken : take (to - from) (drop from bytes ++ more) ≡ take (to - from) (drop from bytes) =
+    take-append-le (to - from) (drop from bytes) more
+    (omega (arith, within.0, within.1, length-drop from bytes)) in
+    let text : kept_in (bytes ++ more) (Text from to) ≡ kept_in bytes (Text from to) =
+    ap (λ (b : List ℕ). Ok (take (to - from) b)) dropped ∙ ap (λ (b : List ℕ). Ok b) taken in
+    ap (λ (k : Result (List ℕ) LineFault). k ∷ map (kept_in (bytes ++ more)) spans) text
+    ∙ ap (λ (l : List (Result (List ℕ) LineFault)). kept_in bytes (Text from to) ∷ l)
+    (kept_same bytes more spans (All-tail (StandsIn (length bytes)) (Text from to) spans all))
+
+-- A line that is kept goes behind the others.
+pub kept_more : (bytes bytes' more : List ℕ) (spans spans' : List Span) (span : Span)
+    (lines : List (Result (List ℕ) LineFault)) → bytes' ≡ bytes ++ more → All (StandsIn (length bytes)) spans
+    → spans' ≡ spans ++ span ∷ [] → map (kept_in bytes) spans ≡ lines
+    → map (kept_in bytes') spans' ≡ lines ++ kept_in bytes' span ∷ []
+kept_more bytes bytes' more spans spans' span lines grown all pushed is =
+    ap (map (kept_in bytes')) pushed
+    ∙ map-append (kept_in bytes') spans (span ∷ [])
+    ∙ ap (λ (l : List (Result (List ℕ) LineFault)). l ++ kept_in bytes' span ∷ [])
+    (ap (λ (b : List ℕ). map (kept_in b) spans) grown ∙ kept_same bytes more spans all ∙ is)
+
+-- ---- one reading after the other
+
+-- What is read of a line is added where there is memory for it.
+pub added : {E : Type 0} (r : Result Unit E) (found found' : List (Result Step LineFault)) (read : Result Step LineFault)
+    → found' ≡ cond (is_ok r) (found ++ read ∷ []) found → is_err r ≡ false → found' ≡ found ++ read ∷ []
+added (Ok x) found found' read is good = is
+added (Err e) found found' read is good = absurd cc
+
+-- What was read of the lines up to a place goes on with what is read of the line there.
+pub read_more : (lines : List (Result (List ℕ) LineFault)) (from at : ℕ)
+    (found found' : List (Result Step LineFault)) (read : Result Step LineFault)
+    → AreReadFrom lines from found → from + length found ≡ at → IsReadAt lines at read → found' ≡ found ++ read ∷ []
+    → AreReadFrom lines from found'
+read_more lines from at found found' read so count is grown =
+    subst (AreReadFrom lines from) (sym grown) (AreReadFrom-more lines from at found read so count is)
