@@ -27,7 +27,7 @@ dealt_more n m lines at places places' steps steps' read reading place same so i
     subst (λ (l : List Place). AreDealtTo (dealt n) lines (at + 1) l steps') (sym grown)
     (record {
       readings = so.readings ++ reading ∷ [];
-      are_read = AreReadFrom-more lines 0 at so.readings reading so.are_read so.counted
+      are_read = AreReadFrom-more lines 0 at so.readings reading so.are_read (omega (arith, so.counted))
           (reading_or lines at read reading is or);
       counted = length-append so.readings (reading ∷ []) ∙ ap (λ k. k + 1) so.counted;
       are_dealt = subst (λ k. DealsMore (dealt k) reading place steps steps') same deals so.readings places so.are_dealt;
@@ -55,9 +55,20 @@ shares_rise size at count =
 pub shares_all : (count readers : ℕ) → 0 < readers → count ≤ readers * (count / readers + 1)
 shares_all count readers some =
     let whole : count / readers * readers + count % readers ≡ count = div-add-mod' count readers in
-    let rest : count % readers < readers = mod-lt count readers some in
+    let rest : count % readers < readers = mod-lt count some in
     let more : readers * (count / readers + 1) ≡ readers * (count / readers) + readers * 1 =
     mul-add readers (count / readers) 1 in
     let turned : readers * (count / readers) ≡ count / readers * readers = mul_comm readers (count / readers) in
     let one : readers * 1 ≡ readers = mul-one readers in
     omega arith
+
+-- Where all shares are dealt, all lines are.
+pub shares_end : (at readers size count : ℕ) → at ≡ readers → count ≤ readers * size → min (at * size) count ≡ count
+shares_end at readers size count all enough =
+    let whole : min (readers * size) count ≡ count = omega (arith, enough) in
+    subst (λ k. min (k * size) count ≡ count) (sym all) whole
+
+-- What is dealt up to a place is dealt up to as far.
+pub dealt_upto : (deal : List ℕ → ℕ) (lines : List (Result (List ℕ) LineFault)) (at to : ℕ) (places : List Place)
+    (steps : List (List Step)) → at ≡ to → AreDealtTo deal lines at places steps → AreDealtTo deal lines to places steps
+dealt_upto deal lines at to places steps same so = subst (λ n. AreDealtTo deal lines n places steps) same so

@@ -389,6 +389,18 @@ module _ {S : Type 0} (M : Meaning S) (deal : List ℕ → ℕ) (start now : End
   turned_end false e turned = absurd cc
   turned_end true e turned = turned
 
+-- ---- the same number of shards
+
+module _ {S : Type 0} (M : Meaning S) (n m : ℕ) (same : m ≡ n) (start now : Ends S) (waiting : Waiting) where
+  -- Serving that is under way among some shards is so among as many.
+  pub under_same : Underway M (dealt n) start now waiting → Underway M (dealt m) start now waiting
+  under_same under = subst (λ k. Underway M (dealt k) start now waiting) (sym same) under
+
+  -- What a turn comes to among some shards it comes to among as many.
+  pub turns_same : (result : Result Bool ServeFault)
+      → Turns M (dealt m) result start now waiting → Turns M (dealt n) result start now waiting
+  turns_same result turned = subst (λ k. Turns M (dealt k) result start now waiting) same turned
+
 -- ---- faults
 
 -- Where a call failed whose only fault is a failed write, the count of failures has risen.
