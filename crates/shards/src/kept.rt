@@ -86,7 +86,12 @@ impl Lines {
         ensures { IsReadAt self.now at result }
     {
         match self.spans[at] {
-            Span::Text(from, to) => read_heard(alloc, scratch, LineRead::Line, &self.bytes[from..to]),
+            Span::Text(from, to) => read_heard(
+                alloc,
+                scratch,
+                LineRead::Line,
+                &self.bytes[from..to],
+            ),
             Span::Not(fault) => Err(fault),
         }
     }

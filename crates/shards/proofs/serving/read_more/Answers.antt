@@ -1,5 +1,6 @@
-use Rattle.std.proofs.Common.{◌∙◌, length, map, ap, refl, subst}
+use Rattle.std.proofs.Common.{◌≡◌, ◌∙◌, length, map, ap, refl, subst}
 use Rattle.std.specs.Prelude.{Ok, Err}
+use Rattle.lines.specs.declared.fault.ServeFault.TheVariants.{Write}
 use Rattle.dealing.specs.Dealing.{dealt}
 use Rattle.shards.specs.Blocks.{merged}
 use Rattle.shards.specs.Kept.{AreReadFrom}
@@ -45,3 +46,59 @@ returns-in-Err-clause-write g c e = let f = c.in-Err.ensures.fault.0 in absurd c
 pub returns-then-not-is_end-clause-goes : goal.returns-then-not-is_end-clause-goes
 returns-then-not-is_end-clause-goes g c e =
     (c.take_part.ensures.held, c.in-Ok.ensures.within, c.in-Ok.ensures.fewer)
+
+pub returns-in-Ok-answer_block-clause-turns : goal.returns-in-Ok-answer_block-clause-turns
+returns-in-Ok-answer_block-clause-turns g c start under =
+    let end = c.in-Ok.ensures.end (ap Ok c.if-not-is_end.false) in
+    let on = hears g.H.Handler.meaning (dealt (length c.args.shards.now)) start
+    (g.R.Read.remaining c.args.reader.now.inner) (g.W.Write.contents c.args.writer.now.inner)
+    (map (λ s. s.host) c.args.shards.now) _ under (g.R.Read.remaining c.take_part.new.reader.inner)
+    (record {
+      held = c.take_part.new.block.held.items;
+      is_long = c.take_part.new.block.is_long;
+      lines = c.take_part.new.block.lines;
+      count = c.take_part.new.block.count;
+    })
+    c.in-Ok.ensures.ok in
+    let at_end = ended start.input (g.R.Read.remaining c.args.reader.now.inner) under.answered _ under.heard
+    (g.R.Read.remaining c.take_part.new.reader.inner) end.0 end.1 in
+    ends_well g.H.Handler.meaning (dealt (length c.args.shards.now)) start
+    (g.R.Read.remaining c.take_part.new.reader.inner) (g.W.Write.contents c.answer_block.new.writer.inner)
+    (map (λ s. s.host) c.answer_block.new.shards)
+    (record {
+      held = c.answer_block.new.block.held.items;
+      is_long = c.answer_block.new.block.is_long;
+      lines = c.answer_block.new.block.lines;
+      count = c.answer_block.new.block.count;
+    })
+    (c.in-Ok-answer_block.ensures.ok start (g.R.Read.remaining c.take_part.new.reader.inner) on)
+    c.in-Ok-answer_block.ensures.empty at_end (ap (λ v. v.items) c.answer_block.ensures.held ∙ end.2)
+    (c.answer_block.ensures.long ∙ end.3)
+
+pub returns-in-Err-answer_block-clause-turns : goal.returns-in-Err-answer_block-clause-turns
+returns-in-Err-answer_block-clause-turns g c start under =
+    let on = hears g.H.Handler.meaning (dealt (length c.args.shards.now)) start
+    (g.R.Read.remaining c.args.reader.now.inner) (g.W.Write.contents c.args.writer.now.inner)
+    (map (λ s. s.host) c.args.shards.now) _ under (g.R.Read.remaining c.take_part.new.reader.inner)
+    (record {
+      held = c.take_part.new.block.held.items;
+      is_long = c.take_part.new.block.is_long;
+      lines = c.take_part.new.block.lines;
+      count = c.take_part.new.block.count;
+    })
+    c.in-Ok.ensures.ok in
+    c.in-Err-answer_block.ensures.err start (g.R.Read.remaining c.take_part.new.reader.inner) on
+
+pub returns-in-Ok-answer_block-clause-write_same : goal.returns-in-Ok-answer_block-clause-write_same
+returns-in-Ok-answer_block-clause-write_same g c apart = c.in-Ok-answer_block.ensures.same (λ q. cc)
+
+pub returns-in-Err-answer_block-clause-write : goal.returns-in-Err-answer_block-clause-write
+returns-in-Err-answer_block-clause-write g c e =
+    let f : c.in-Err-answer_block.fault ≡ Write = cc in
+    c.in-Err-answer_block.ensures.write (ap Err f)
+
+pub returns-in-Err-answer_block-clause-write_same : goal.returns-in-Err-answer_block-clause-write_same
+returns-in-Err-answer_block-clause-write_same g c apart =
+    c.in-Err-answer_block.ensures.same (λ q.
+    let f : c.in-Err-answer_block.fault ≡ Write = cc in
+    apart (ap Err f))
