@@ -62,7 +62,7 @@ pub(crate) fn answer<T: Threads + Sync, W: Write, H: Handler + Send, S: Store + 
         writer,
         shards,
         desk.places.as_slice(),
-        &mut desk.text,
+        &desk.faults,
     )
 }
 

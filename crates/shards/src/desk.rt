@@ -3,18 +3,19 @@
 ghost use Rattle.std.specs.Prelude.{◌≡◌, ◌<◌, ◌≤◌, IfOk, length, vec_capacity};
 ghost use Rattle.shards.specs.declared.kept.TheConstants.{MOST_LINES};
 
+use crate::faults::FaultLines;
 use crate::kept::MOST_LINES;
 use crate::place::Place;
 use crate::reading::Reader;
 use model::NoMemory;
 use std::alloc::Global;
 
-/// What the lines of a block are answered with: who reads them, where each is answered, and room for a reply's text.
+/// What the lines of a block are answered with: who reads them, where each is answered, and the reply lines of faults.
 #[derive(Drop)]
 pub(crate) struct Desk {
     pub readers: Vec<Reader>,
     pub places: Vec<Place>,
-    pub text: Vec<u8>,
+    pub faults: FaultLines,
     pub ghost some: { 0 < length readers.items },
     pub ghost room: { MOST_LINES ≤ vec_capacity places },
 }
@@ -26,10 +27,11 @@ impl Desk {
     {
         let places = Vec::with_capacity(alloc, MOST_LINES)?;
         let readers = some_readers(alloc, readers)?;
+        let faults = FaultLines::new(alloc)?;
         Ok(Desk {
             readers,
             places,
-            text: Vec::new(alloc),
+            faults,
         })
     }
 }

@@ -25,6 +25,7 @@ mod answering;
 mod block;
 mod deal;
 mod desk;
+mod faults;
 mod kept;
 mod place;
 mod reading;
