@@ -57,13 +57,7 @@ pub(crate) fn answer<T: Threads + Sync, W: Write, H: Handler + Send, S: Store + 
     ensures same { result ≢ Err ServeFault.Write → writer.new.failed ≡ writer.old.failed }
 {
     step_lines(rt, shards, lines, desk);
-    write_all(
-        alloc,
-        writer,
-        shards,
-        desk.places.as_slice(),
-        &desk.faults,
-    )
+    write_all(alloc, writer, shards, desk.places.as_slice(), &desk.faults)
 }
 
 /// Reads these lines and does their steps, and writes no reply. Where there are enough of them, they are read in threads,
