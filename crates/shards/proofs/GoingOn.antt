@@ -1,5 +1,5 @@
 -- Serving goes on, a block after the other.
-use Rattle.std.proofs.Common.{◌≡◌, ◌≢◌, ◌+◌, ℕ, List, [], ◌∷◌, ◌++◌, length, map, cond, eqb, Bool, true}
+use Rattle.std.proofs.Common.{◌≡◌, ◌≢◌, ◌+◌, ℕ, List, [], ◌∷◌, ◌++◌, length, cond, eqb, Bool, true}
 use Rattle.std.proofs.Common.{false, refl, sym, ap, subst, ◌∙◌, inl, inr, arith, append_assoc, append-nil}
 use Rattle.std.proofs.Common.{length-append}
 use Rattle.std.specs.Prelude.{Option, Some, None, Result, Ok, Err, OnOk, OnErr, IfErr, IfOk, flat_map, IfSome}
@@ -13,7 +13,7 @@ use Rattle.model.specs.declared.steps.Step.{Step}
 use Rattle.book.specs.Standing.{HostState}
 use Rattle.forms.specs.declared.fault.LineFault.{LineFault}
 use Rattle.forms.specs.declared.fault.LineFault.TheVariants.{Bad, NoMemory}
-use Rattle.lines.specs.Feeds.{AreReadings, IsReading, ReadingOf}
+use Rattle.lines.specs.Feeds.{AreReadings, ReadingOf}
 use Rattle.lines.specs.Lines.{Holds, IsPart, LinesRead, lines_of}
 use Rattle.lines.specs.Parts.{IsLineRead, LineGoesOn, Takes}
 use Rattle.lines.specs.Serving.{AnsweredLineBy, AnsweredStepBy, IsUnread, ServedAllBy, ServedSomeBy, ServesBy}
@@ -23,14 +23,14 @@ use Rattle.lines.specs.declared.fault.ServeFault.TheVariants.{Write}
 use Rattle.lines.specs.declared.input.LineRead.{LineRead}
 use Rattle.lines.specs.declared.input.LineRead.TheVariants.{Line, Long, End}
 use Rattle.lines.specs.declared.part.Part.TheVariants.{Ended, AtEnd}
-use Rattle.lines.proofs.Feeds.{AreReadings-more, heard_reading}
 use Rattle.lines.proofs.Parts.{IsAtEnd-unread, IsPart-append, IsPart-nil, LinesRead-all, LinesRead-ended}
 use Rattle.lines.proofs.Parts.{LinesRead-more, LinesRead-nil, heard_last, heard_line}
 use Rattle.written.specs.Beginnings.{AppendsBeginning}
-use Rattle.shards.specs.Blocks.{AnswersBy, AnswersEachBy, AreDealt, AreIdle, DealsMore, IsReadOr, place_of}
+use Rattle.shards.specs.Blocks.{AnswersBy, AnswersEachBy, AnswersLines}
+use Rattle.shards.specs.Kept.{AreKept, IsKept}
 use Rattle.dealing.specs.Dealing.{HostsDo, ShardsServe, dealt}
-use Rattle.shards.specs.Underway.{Ends, Stopped, Turns, Underway, Waiting}
-use Rattle.shards.specs.declared.place.Place.{Place}
+use Rattle.shards.specs.Underway.{Ends, Heard, Stopped, Turns, Underway, Waiting}
+use Rattle.shards.proofs.Readings.{AreKept-more, heard_kept, readings_are}
 use Rattle.dealing.proofs.Serving.{dealt_lines_serve}
 
 -- ---- lines, by what was read of them
@@ -102,16 +102,6 @@ module _ {S : Type 0} (M : Meaning S)
   some_of (Ok count) input input' out out' p = tt
   some_of (Err fault) input input' out out' p = some_served input input' out out' p
 
--- ---- what was read of a line
-
--- Where memory for a line's step was missing, that counts as a reading of what was heard too.
-pub reading_is : (kind : LineRead) (held : List ℕ) (read reading : Result Step LineFault)
-    → IsReading kind held read → IsReadOr read reading → IsReading kind held reading
-reading_is kind held read reading is (inl e) = subst (IsReading kind held) (sym e) is
-reading_is Line held read reading is (inr (step, was, none)) = subst (IsReading Line held) (sym none) tt
-reading_is Long held read reading is (inr (step, was, none)) = let no : Ok step ≡ Err Bad = sym was ∙ is in absurd cc
-reading_is End held read reading is (inr (step, was, none)) = let no : Ok step ≡ Err Bad = sym was ∙ is in absurd cc
-
 -- ---- the end of the input
 
 ended_from : (a b c d : Option (List ℕ)) (ls : List (List ℕ)) (text : List ℕ)
@@ -127,300 +117,264 @@ read_all : (a b c : Option (List ℕ)) (ls : List (List ℕ))
 read_all None b c ls p q e = tt
 read_all (Some x) b c ls p q e = LinesRead-all (Some x) b ls p (IsAtEnd-unread b c q e)
 
-kind_ended : (is_long : Bool) → cond is_long Long Line ≢ End
-kind_ended true e = absurd cc
-kind_ended false e = absurd cc
+-- no lines are kept of none
+none_queued : (queued : List (List ℕ)) (kept : List (Result (List ℕ) LineFault))
+    → AreKept queued kept → kept ≡ [] → queued ≡ []
+none_queued [] kept are none = refl
+none_queued (l ∷ queued) kept are none = absurd (subst (AreKept (l ∷ queued)) none are)
 
--- ---- a block
+-- What stands before the end of the input and isn't nothing is heard as a line that ended.
+pub last_kind : (is_long empty : Bool) (kind : LineRead)
+    → kind ≡ cond is_long Long (cond empty End Line) → kind ≢ End → kind ≡ cond is_long Long Line
+last_kind true empty kind is some = is
+last_kind false true kind is some = absurd (some is)
+last_kind false false kind is some = is
 
-module _ {S : Type 0} (M : Meaning S)
-    (deal : List ℕ → ℕ) (start now : Ends S) (waiting : Waiting) (under : Underway M deal start now waiting) where
-  -- its lines are answered
-  module _ (out : Option (List ℕ)) (hosts : List (HostState S))
-      (replies : List Reply) (answered : AnswersEachBy (HostsDo M deal) under.readings now.hosts replies hosts) where
-    all_answered : ServesBy (HostsDo M deal) (under.lines ++ under.queued) start.hosts (under.replies ++ replies) hosts
-    all_answered =
-        serves-append (HostsDo M deal)
-        under.lines under.queued start.hosts now.hosts hosts under.replies replies under.served
-        (lines_answered (HostsDo M deal)
-        under.queued under.readings now.hosts replies hosts under.are_readings answered)
+-- ---- what is heard
 
-    lines_are : flat_map reply_line (under.replies ++ replies) ≡ flat_map reply_line under.replies
-        ++ flat_map reply_line replies
-    lines_are = flat_map-append reply_line under.replies replies
-
-    pub goes_on : (places : List Place) (steps : List (List Step))
-        → places ≡ [] → AreIdle steps → Appends now.out out (flat_map reply_line replies)
-        → Underway M deal start (record { input = now.input; out = out; hosts = hosts })
-        (record {
-          held = waiting.held;
-          is_long = waiting.is_long;
-          places = places;
-          steps = steps;
-          count = waiting.count;
-        })
-    goes_on places steps none idle grown = record {
-      lines = under.lines ++ under.queued;
-      replies = under.replies ++ replies;
-      queued = [];
-      readings = [];
-      rest = under.rest;
-      text = under.text;
-      served = all_answered;
-      written = subst (Appends start.out out) (sym lines_are) (Appends-trans _ _ _ _ _ under.written grown);
-      read = subst (λ (l : List (List ℕ)). LinesRead start.input under.rest l)
-          (sym (append-nil (under.lines ++ under.queued))) under.read;
-      are_readings = refl;
-      are_dealt = record { places_are = none; steps_are = idle };
-      part = under.part;
-      taken = under.taken;
-      holds = under.holds;
-      counted = ap length (append-nil (under.lines ++ under.queued)) ∙ under.counted;
-    }
-
-    pub stops : AppendsBeginning now.out out (flat_map reply_line replies)
-        → Stopped M deal start (record { input = now.input; out = out; hosts = hosts })
-    stops begun = (
-      under.lines ++ under.queued,
-      under.replies ++ replies,
-      under.rest,
-      under.read,
-      (under.text, under.part, under.taken),
-      all_answered,
-      (
-        flat_map reply_line under.replies ++ begun.0,
-        Appends-trans _ _ _ _ _ under.written begun.1,
-        (
-          begun.2.0,
-          lines_are ∙ ap (λ l. flat_map reply_line under.replies ++ l) begun.2.1
-              ∙ sym (append_assoc (flat_map reply_line under.replies) begun.0 begun.2.0),
-        ),
-      ),
-    )
-
-  -- ---- where none waits
-
-  none_read : (readings : List (Result Step LineFault)) → [] ≡ map (place_of deal) readings → readings ≡ []
-  none_read [] e = refl
-  none_read (r ∷ readings) e = absurd cc
-
-  none_queued : (queued : List (List ℕ)) → AreReadings queued [] → queued ≡ []
-  none_queued [] are = refl
-  none_queued (l ∷ queued) are = absurd are
-
-  pub queue_empty : waiting.places ≡ [] → under.queued ≡ []
-  queue_empty none =
-      let no_readings = none_read under.readings (sym none ∙ under.are_dealt.places_are) in
-      none_queued under.queued (subst (AreReadings under.queued) no_readings under.are_readings)
-
-  lines_alone : waiting.places ≡ [] → under.lines ++ under.queued ≡ under.lines
-  lines_alone none = ap (λ l. under.lines ++ l) (queue_empty none) ∙ append-nil under.lines
-
-  pub ends_here : waiting.places ≡ [] → Stopped M deal start now
-  ends_here none = (
-    under.lines,
-    under.replies,
-    under.rest,
-    subst (LinesRead start.input under.rest) (lines_alone none) under.read,
-    (under.text, under.part, under.taken),
-    under.served,
-    (flat_map reply_line under.replies, under.written, ([], sym (append-nil _))),
-  )
+module _ (begin now : Option (List ℕ)) (answered : List (List ℕ))
+    (waiting : Waiting) (heard : Heard begin now answered waiting) where
+  -- the input is as it was
+  pub kept_so : (input : Option (List ℕ)) → Keeps now input → Heard begin input answered waiting
+  kept_so input same = record {
+    queued = heard.queued;
+    rest = heard.rest;
+    text = heard.text;
+    read = heard.read;
+    are_kept = heard.are_kept;
+    part = heard.part;
+    taken = Consumes-kept _ _ _ _ heard.taken same;
+    holds = heard.holds;
+    counted = heard.counted;
+  }
 
   -- the input is at its end, where it is known
-  pub ended : (input : Option (List ℕ))
-      → IsAtEnd now.input → Keeps now.input input → IfSome start.input (λ _. IsAtEnd input)
-  ended input e k = ended_from
-      start.input under.rest now.input input (under.lines ++ under.queued) under.text under.read under.taken e k
-
-  pub ends_well : waiting.places ≡ []
-      → IfSome start.input (λ _. IsAtEnd now.input) → waiting.held ≡ [] → waiting.is_long ≡ false
-      → ServedAllBy (ServesBy (HostsDo M deal)) start.input start.out now.out start.hosts now.hosts waiting.count
-  ends_well none at_end empty short =
-      let holds = subst (λ b. Holds waiting.held b under.text) short under.holds in
-      let no_text : under.text ≡ [] = sym holds.0 ∙ empty in (
-        under.lines,
-        under.replies,
-        read_all start.input under.rest
-            now.input under.lines (subst (LinesRead start.input under.rest) (lines_alone none) under.read)
-            (subst (Consumes under.rest now.input) no_text under.taken) at_end,
-        under.served,
-        under.written,
-        sym (ap length (lines_alone none)) ∙ under.counted,
-      )
-
-  -- ---- one line more
-
-  -- the input is as it was
-  pub kept : (input : Option (List ℕ)) → Keeps now.input input
-      → Underway M deal start (record { input = input; out = now.out; hosts = now.hosts }) waiting
-  kept input same = record {
-    lines = under.lines;
-    replies = under.replies;
-    queued = under.queued;
-    readings = under.readings;
-    rest = under.rest;
-    text = under.text;
-    served = under.served;
-    written = under.written;
-    read = under.read;
-    are_readings = under.are_readings;
-    are_dealt = under.are_dealt;
-    part = under.part;
-    taken = Consumes-kept _ _ _ _ under.taken same;
-    holds = under.holds;
-    counted = under.counted;
-  }
+  pub ended : (input : Option (List ℕ)) → IsAtEnd now → Keeps now input → IfSome begin (λ _. IsAtEnd input)
+  ended input e k =
+      ended_from begin heard.rest now input (answered ++ heard.queued) heard.text heard.read heard.taken e k
 
   -- a part of a line
   pub part_more : (input : Option (List ℕ)) (bytes held : List ℕ) (is_long : Bool)
-      → IsPart bytes → Consumes now.input input bytes → LineGoesOn waiting.held waiting.is_long held is_long bytes
-      → Underway M deal start (record { input = input; out = now.out; hosts = now.hosts })
-      (record { held = held; is_long = is_long; places = waiting.places; steps = waiting.steps; count = waiting.count })
+      → IsPart bytes → Consumes now input bytes → LineGoesOn waiting.held waiting.is_long held is_long bytes
+      → Heard begin input answered
+      (record { held = held; is_long = is_long; lines = waiting.lines; count = waiting.count })
   part_more input bytes held is_long part took goes = record {
-    lines = under.lines;
-    replies = under.replies;
-    queued = under.queued;
-    readings = under.readings;
-    rest = under.rest;
-    text = under.text ++ bytes;
-    served = under.served;
-    written = under.written;
-    read = under.read;
-    are_readings = under.are_readings;
-    are_dealt = under.are_dealt;
-    part = IsPart-append under.text bytes under.part part;
-    taken = Consumes-trans _ _ _ _ _ under.taken took;
-    holds = goes under.text under.holds;
-    counted = under.counted;
+    queued = heard.queued;
+    rest = heard.rest;
+    text = heard.text ++ bytes;
+    read = heard.read;
+    are_kept = heard.are_kept;
+    part = IsPart-append heard.text bytes heard.part part;
+    taken = Consumes-trans _ _ _ _ _ heard.taken took;
+    holds = goes heard.text heard.holds;
+    counted = heard.counted;
   }
 
   -- a line
-  pub line_more : (input : Option (List ℕ))
-      (kind : LineRead) (heard : List ℕ) (reading : Result Step LineFault) (place : Place) (steps : List (List Step))
-      → kind ≢ End → IsLineRead kind heard under.rest input
-      → IsReading kind heard reading → DealsMore deal reading place waiting.steps steps
-      → Underway M deal start (record { input = input; out = now.out; hosts = now.hosts })
-      (record {
-        held = [];
-        is_long = false;
-        places = waiting.places ++ place ∷ [];
-        steps = steps;
-        count = waiting.count + 1;
-      })
-  line_more input kind heard reading place steps more is read deals =
-      let line = heard_reading kind heard reading under.rest input more is read in
+  line_more : (input : Option (List ℕ)) (held : List ℕ) (is_long : Bool) (kept : Result (List ℕ) LineFault)
+      (lines : List (Result (List ℕ) LineFault))
+      → IsLineRead (cond is_long Long Line) held heard.rest input → IsKept is_long held kept
+      → lines ≡ waiting.lines ++ kept ∷ []
+      → Heard begin input answered (record { held = []; is_long = false; lines = lines; count = waiting.count + 1 })
+  line_more input held is_long kept lines is so grown =
+      let line = heard_kept is_long held kept heard.rest input is so in
       record {
-        lines = under.lines;
-        replies = under.replies;
-        queued = under.queued ++ line.0 ∷ [];
-        readings = under.readings ++ reading ∷ [];
+        queued = heard.queued ++ line.0 ∷ [];
         rest = input;
         text = [];
-        served = under.served;
-        written = under.written;
-        read = subst (LinesRead start.input input) (append_assoc under.lines under.queued (line.0 ∷ []))
-            (LinesRead-more _ _ _ (under.lines ++ under.queued) line.0 under.read line.1);
-        are_readings = AreReadings-more under.queued under.readings line.0 reading under.are_readings line.2;
-        are_dealt = deals under.readings waiting.places under.are_dealt;
+        read = subst (LinesRead begin input) (append_assoc answered heard.queued (line.0 ∷ []))
+            (LinesRead-more _ _ _ (answered ++ heard.queued) line.0 heard.read line.1);
+        are_kept = subst (AreKept (heard.queued ++ line.0 ∷ [])) (sym grown)
+            (AreKept-more heard.queued waiting.lines line.0 kept heard.are_kept line.2);
         part = IsPart-nil;
         taken = Consumes-nil input;
         holds = (refl, omega arith);
         counted =
-            ap length (sym (append_assoc under.lines under.queued (line.0 ∷ [])))
-            ∙ length-append (under.lines ++ under.queued) (line.0 ∷ [])
-            ∙ ap (λ n. n + 1) under.counted;
+            ap length (sym (append_assoc answered heard.queued (line.0 ∷ [])))
+            ∙ length-append (answered ++ heard.queued) (line.0 ∷ [])
+            ∙ ap (λ n. n + 1) heard.counted;
       }
 
   -- a line that ended
-  pub line_ended : (input : Option (List ℕ)) (more : Bool) (held : List ℕ) (is_long : Bool) (kind : LineRead)
-      (reading : Result Step LineFault) (place : Place) (places : List Place) (steps : List (List Step))
-      → Takes (Ended more) now.input input waiting.held waiting.is_long held is_long
-      → kind ≡ cond is_long Long Line → IsReading kind held reading
-      → places ≡ waiting.places ++ place ∷ [] → DealsMore deal reading place waiting.steps steps
-      → Underway M deal start (record { input = input; out = now.out; hosts = now.hosts })
-      (record { held = []; is_long = false; places = places; steps = steps; count = waiting.count + 1 })
-  line_ended input more held is_long kind reading place places steps took is read grown deals =
-      let part = IsPart-append under.text took.0 under.part took.1 in
-      let taken = subst (Consumes under.rest input)
-      (sym (append_assoc under.text took.0 (10 ∷ []))) (Consumes-trans _ _ _ _ _ under.taken took.2) in
-      let heard = heard_line is_long held (under.text ++ took.0) under.rest
-      input (took.3 under.text under.holds) (LinesRead-ended under.rest input (under.text ++ took.0) part taken) in
-      subst (λ l. Underway M deal start (record { input = input; out = now.out; hosts = now.hosts })
-      (record { held = []; is_long = false; places = l; steps = steps; count = waiting.count + 1 })) (sym grown)
-      (line_more input kind held reading place steps (λ e. kind_ended is_long (sym is ∙ e))
-      (subst (λ k. IsLineRead k held under.rest input) (sym is) heard) read deals)
+  pub line_ended : (input : Option (List ℕ)) (more : Bool) (held : List ℕ) (is_long : Bool)
+      (kept : Result (List ℕ) LineFault) (lines : List (Result (List ℕ) LineFault))
+      → Takes (Ended more) now input waiting.held waiting.is_long held is_long → IsKept is_long held kept
+      → lines ≡ waiting.lines ++ kept ∷ []
+      → Heard begin input answered (record { held = []; is_long = false; lines = lines; count = waiting.count + 1 })
+  line_ended input more held is_long kept lines took so grown =
+      let part = IsPart-append heard.text took.0 heard.part took.1 in
+      let taken = subst (Consumes heard.rest input)
+      (sym (append_assoc heard.text took.0 (10 ∷ []))) (Consumes-trans _ _ _ _ _ heard.taken took.2) in
+      let is = heard_line is_long held (heard.text ++ took.0) heard.rest
+      input (took.3 heard.text heard.holds) (LinesRead-ended heard.rest input (heard.text ++ took.0) part taken) in
+      line_more input held is_long kept lines is so grown
 
   -- a line without a line feed
   pub line_last : (input : Option (List ℕ)) (held : List ℕ) (is_long : Bool) (kind : LineRead)
-      (reading : Result Step LineFault) (place : Place) (places : List Place) (steps : List (List Step))
-      → Takes AtEnd now.input input waiting.held waiting.is_long held is_long
-      → kind ≡ cond is_long Long (cond (eqb (length held) 0) End Line) → kind ≢ End → IsReading kind held reading
-      → places ≡ waiting.places ++ place ∷ [] → DealsMore deal reading place waiting.steps steps
-      → Underway M deal start (record { input = input; out = now.out; hosts = now.hosts })
-      (record { held = []; is_long = false; places = places; steps = steps; count = waiting.count + 1 })
-  line_last input held is_long kind reading place places steps took is some read grown deals =
-      let held_so : Holds held is_long under.text =
-      subst (λ h. Holds h is_long under.text)
-      (sym took.2) (subst (λ b. Holds waiting.held b under.text) (sym took.3) under.holds) in
-      let heard =
-      heard_last is_long held under.text under.rest now.input input held_so under.part under.taken took.0 took.1 in
-      subst (λ l. Underway M deal start (record { input = input; out = now.out; hosts = now.hosts })
-      (record { held = []; is_long = false; places = l; steps = steps; count = waiting.count + 1 })) (sym grown)
-      (line_more input kind held
-      reading place steps some (subst (λ k. IsLineRead k held under.rest input) (sym is) heard) read deals)
+      (kept : Result (List ℕ) LineFault) (lines : List (Result (List ℕ) LineFault))
+      → Takes AtEnd now input waiting.held waiting.is_long held is_long
+      → kind ≡ cond is_long Long (cond (eqb (length held) 0) End Line) → kind ≢ End → IsKept is_long held kept
+      → lines ≡ waiting.lines ++ kept ∷ []
+      → Heard begin input answered (record { held = []; is_long = false; lines = lines; count = waiting.count + 1 })
+  line_last input held is_long kind kept lines took is some so grown =
+      let held_so : Holds held is_long heard.text =
+      subst (λ h. Holds h is_long heard.text)
+      (sym took.2) (subst (λ b. Holds waiting.held b heard.text) (sym took.3) heard.holds) in
+      let last =
+      heard_last is_long held heard.text heard.rest now input held_so heard.part heard.taken took.0 took.1 in
+      line_more input held is_long kept lines
+      (subst (λ k. IsLineRead k held heard.rest input) (sym is ∙ last_kind is_long _ kind is some) last) so grown
 
   -- no line
   pub line_none : (input : Option (List ℕ)) (held : List ℕ) (is_long : Bool)
-      → Takes AtEnd now.input input waiting.held waiting.is_long held is_long
-      → Underway M deal start (record { input = input; out = now.out; hosts = now.hosts })
-      (record { held = held; is_long = is_long; places = waiting.places; steps = waiting.steps; count = waiting.count })
+      → Takes AtEnd now input waiting.held waiting.is_long held is_long
+      → Heard begin input answered
+      (record { held = held; is_long = is_long; lines = waiting.lines; count = waiting.count })
   line_none input held is_long took = record {
-    lines = under.lines;
-    replies = under.replies;
-    queued = under.queued;
-    readings = under.readings;
-    rest = under.rest;
-    text = under.text;
-    served = under.served;
-    written = under.written;
-    read = under.read;
-    are_readings = under.are_readings;
-    are_dealt = under.are_dealt;
-    part = under.part;
-    taken = Consumes-kept _ _ _ _ under.taken took.1;
-    holds = subst (λ h. Holds h is_long under.text)
-        (sym took.2) (subst (λ b. Holds waiting.held b under.text) (sym took.3) under.holds);
-    counted = under.counted;
+    queued = heard.queued;
+    rest = heard.rest;
+    text = heard.text;
+    read = heard.read;
+    are_kept = heard.are_kept;
+    part = heard.part;
+    taken = Consumes-kept _ _ _ _ heard.taken took.1;
+    holds = subst (λ h. Holds h is_long heard.text)
+        (sym took.2) (subst (λ b. Holds waiting.held b heard.text) (sym took.3) heard.holds);
+    counted = heard.counted;
   }
 
-  -- the same places in another list
-  pub places_same : (places : List Place) → places ≡ waiting.places
-      → Underway M deal start now (record {
-        held = waiting.held;
-        is_long = waiting.is_long;
-        places = places;
-        steps = waiting.steps;
-        count = waiting.count;
-      })
-  places_same places same =
-      subst (λ l. Underway M deal start now (record {
-        held = waiting.held;
-        is_long = waiting.is_long;
-        places = l;
-        steps = waiting.steps;
-        count = waiting.count;
-      })) (sym same) under
+-- What is heard is as told.
+pub line_so : (begin input : Option (List ℕ)) (answered : List (List ℕ)) (held : List ℕ) (is_long : Bool)
+    (lines : List (Result (List ℕ) LineFault)) (n count : ℕ) → held ≡ [] → is_long ≡ false → count ≡ n
+    → Heard begin input answered (record { held = []; is_long = false; lines = lines; count = n })
+    → Heard begin input answered (record { held = held; is_long = is_long; lines = lines; count = count })
+line_so begin input answered held is_long lines n count empty short counted heard =
+    subst (λ l. Heard begin input answered
+    (record { held = l; is_long = is_long; lines = lines; count = count })) (sym empty)
+    (subst (λ b. Heard begin input answered
+    (record { held = []; is_long = b; lines = lines; count = count })) (sym short)
+    (subst (λ m. Heard begin input answered
+    (record { held = []; is_long = false; lines = lines; count = m })) (sym counted) heard))
 
-  -- ---- a turn
+-- ---- a block
 
-  -- Where no line waits, a turn's result holds, if nothing is left of the input where it says the end.
-  pub turns_end : (result : Result Bool ServeFault) → waiting.places ≡ []
-      → (result ≡ Ok true → IfSome start.input (λ _. IsAtEnd now.input)
-      × (waiting.held ≡ []) × (waiting.is_long ≡ false)) → Turns M deal result start now waiting
-  turns_end (Ok false) none end = under
-  turns_end (Ok true) none end = let e = end refl in ends_well none e.0 e.1 e.2
-  turns_end (Err fault) none end = ends_here none
+module _ {S : Type 0} (M : Meaning S) (deal : List ℕ → ℕ) (start : Ends S) (input out : Option (List ℕ))
+    (hosts : List (HostState S)) (waiting : Waiting)
+    (under : Underway M deal start (record { input = input; out = out; hosts = hosts }) waiting) where
+  -- Where more is heard, serving goes on.
+  pub hears : (input' : Option (List ℕ)) (waiting' : Waiting)
+      → ((begin : Option (List ℕ)) (answered : List (List ℕ))
+      → Heard begin input answered waiting → Heard begin input' answered waiting')
+      → Underway M deal start (record { input = input'; out = out; hosts = hosts }) waiting'
+  hears input' waiting' more = record {
+    answered = under.answered;
+    replies = under.replies;
+    served = under.served;
+    written = under.written;
+    heard = more start.input under.answered under.heard;
+  }
+
+  -- its lines are answered
+  module _ (hosts' : List (HostState S)) (IsWritten : List ℕ → Type 0)
+      (answers : AnswersLines M deal waiting.lines hosts hosts' IsWritten) where
+    all_answered : ServesBy (HostsDo M deal)
+        (under.answered ++ under.heard.queued) start.hosts (under.replies ++ answers.1) hosts'
+    all_answered =
+        serves-append (HostsDo M deal)
+        under.answered under.heard.queued start.hosts hosts hosts' under.replies answers.1 under.served
+        (lines_answered (HostsDo M deal) under.heard.queued answers.0 hosts answers.1 hosts'
+        (readings_are under.heard.queued waiting.lines answers.0 under.heard.are_kept answers.2 answers.3) answers.4)
+
+    lines_are : flat_map reply_line (under.replies ++ answers.1) ≡ flat_map reply_line under.replies
+        ++ flat_map reply_line answers.1
+    lines_are = flat_map-append reply_line under.replies answers.1
+
+  -- Behind a block whose lines are answered and whose replies are all written serving goes on.
+  pub goes_on : (mid out' : Option (List ℕ)) (hosts' : List (HostState S)) (lines : List (Result (List ℕ) LineFault))
+      → AnswersLines M deal waiting.lines hosts hosts' (Appends out mid) → Keeps mid out' → lines ≡ []
+      → Underway M deal start (record { input = input; out = out'; hosts = hosts' })
+      (record { held = waiting.held; is_long = waiting.is_long; lines = lines; count = waiting.count })
+  goes_on mid out' hosts' lines answers same none = record {
+    answered = under.answered ++ under.heard.queued;
+    replies = under.replies ++ answers.1;
+    served = all_answered hosts' (Appends out mid) answers;
+    written = subst (Appends start.out out') (sym (lines_are hosts' (Appends out mid) answers))
+        (Appends-kept _ _ _ _ (Appends-trans _ _ _ _ _ under.written answers.5) same);
+    heard = record {
+      queued = [];
+      rest = under.heard.rest;
+      text = under.heard.text;
+      read = subst (λ (l : List (List ℕ)). LinesRead start.input under.heard.rest l)
+          (sym (append-nil (under.answered ++ under.heard.queued))) under.heard.read;
+      are_kept = none;
+      part = under.heard.part;
+      taken = under.heard.taken;
+      holds = under.heard.holds;
+      counted = ap length (append-nil (under.answered ++ under.heard.queued)) ∙ under.heard.counted;
+    };
+  }
+
+  -- Serving stopped where a block is answered and a beginning of its replies is written.
+  pub stops : (out' : Option (List ℕ)) (hosts' : List (HostState S))
+      → AnswersLines M deal waiting.lines hosts hosts' (AppendsBeginning out out')
+      → Stopped M deal start (record { input = input; out = out'; hosts = hosts' })
+  stops out' hosts' answers = (
+    under.answered ++ under.heard.queued,
+    under.replies ++ answers.1,
+    under.heard.rest,
+    under.heard.read,
+    (under.heard.text, under.heard.part, under.heard.taken),
+    all_answered hosts' (AppendsBeginning out out') answers,
+    (
+      flat_map reply_line under.replies ++ answers.5.0,
+      Appends-trans _ _ _ _ _ under.written answers.5.1,
+      (
+        answers.5.2.0,
+        lines_are hosts' (AppendsBeginning out out') answers
+            ∙ ap (λ l. flat_map reply_line under.replies ++ l) answers.5.2.1
+            ∙ sym (append_assoc (flat_map reply_line under.replies) answers.5.0 answers.5.2.0),
+      ),
+    ),
+  )
+
+  -- Serving may stop behind a block whose lines are answered and whose replies are all written.
+  pub stops_after : (mid out' : Option (List ℕ)) (hosts' : List (HostState S))
+      → AnswersLines M deal waiting.lines hosts hosts' (Appends out mid) → Keeps mid out'
+      → Stopped M deal start (record { input = input; out = out'; hosts = hosts' })
+  stops_after mid out' hosts' answers same =
+      stops out' hosts' (
+        answers.0,
+        answers.1,
+        answers.2,
+        answers.3,
+        answers.4,
+        (flat_map reply_line answers.1, Appends-kept _ _ _ _ answers.5 same, ([], sym (append-nil _))),
+      )
+
+  -- ---- where none waits
+
+  lines_alone : waiting.lines ≡ [] → under.answered ++ under.heard.queued ≡ under.answered
+  lines_alone none = ap (λ l. under.answered ++ l) (none_queued under.heard.queued waiting.lines
+      under.heard.are_kept none) ∙ append-nil under.answered
+
+  -- At the end of the input, where no line waits, all lines are served.
+  pub ends_well : waiting.lines ≡ []
+      → IfSome start.input (λ _. IsAtEnd input) → waiting.held ≡ [] → waiting.is_long ≡ false
+      → ServedAllBy (ServesBy (HostsDo M deal)) start.input start.out out start.hosts hosts waiting.count
+  ends_well none at_end empty short =
+      let holds = subst (λ b. Holds waiting.held b under.heard.text) short under.heard.holds in
+      let no_text : under.heard.text ≡ [] = sym holds.0 ∙ empty in (
+        under.answered,
+        under.replies,
+        read_all start.input under.heard.rest
+            input under.answered (subst (LinesRead start.input under.heard.rest) (lines_alone none) under.heard.read)
+            (subst (Consumes under.heard.rest input) no_text under.heard.taken) at_end,
+        under.served,
+        under.written,
+        sym (ap length (lines_alone none)) ∙ under.heard.counted,
+      )
+
+-- ---- a turn
 
 module _ {S : Type 0} (M : Meaning S) (deal : List ℕ → ℕ) (start now : Ends S) (waiting : Waiting) where
   -- Behind a turn that isn't the end serving is under way.
@@ -435,64 +389,17 @@ module _ {S : Type 0} (M : Meaning S) (deal : List ℕ → ℕ) (start now : End
   turned_end false e turned = absurd cc
   turned_end true e turned = turned
 
--- a block of which all is answered
-module _ {S : Type 0} (M : Meaning S) (deal : List ℕ → ℕ)
-    (places : List Place) (steps : List (List Step)) (hosts hosts' : List (HostState S)) (out : Option (List ℕ)) where
-  abbrev pub Answers : (List ℕ → Type 0) → Type 0
-  Answers IsWritten =
-      (readings : List (Result Step LineFault)) → AreDealt deal readings places steps
-      → (replies : List Reply)
-      × AnswersEachBy (HostsDo M deal) readings hosts replies hosts' × IsWritten (flat_map reply_line replies)
+-- ---- the same number of shards
 
-  module _ (start : Ends S) (input : Option (List ℕ)) (held : List ℕ) (is_long : Bool) (count : ℕ)
-      (under : Underway M deal start (record { input = input; out = out; hosts = hosts })
-      (record { held = held; is_long = is_long; places = places; steps = steps; count = count })) where
-    -- Serving is under way behind a block whose lines are answered and whose replies are all written.
-    pub goes_on_by : (mid out' : Option (List ℕ)) (places' : List Place) (steps' : List (List Step))
-        → Answers (Appends out mid) → Keeps mid out' → places' ≡ [] → AreIdle steps'
-        → Underway M deal start (record { input = input; out = out'; hosts = hosts' })
-        (record { held = held; is_long = is_long; places = places'; steps = steps'; count = count })
-    goes_on_by mid out' places' steps' answers kept none idle =
-        let one = answers under.readings under.are_dealt in
-        goes_on M deal start _
-        _ under out' hosts' one.0 one.1 places' steps' none idle (Appends-kept _ _ _ _ one.2 kept)
+module _ {S : Type 0} (M : Meaning S) (n m : ℕ) (same : m ≡ n) (start now : Ends S) (waiting : Waiting) where
+  -- Serving that is under way among some shards is so among as many.
+  pub under_same : Underway M (dealt n) start now waiting → Underway M (dealt m) start now waiting
+  under_same under = subst (λ k. Underway M (dealt k) start now waiting) (sym same) under
 
-    -- Serving stopped where a block is answered and a beginning of its replies is written.
-    pub stops_by : (out' : Option (List ℕ)) → Answers (AppendsBeginning out out')
-        → Stopped M deal start (record { input = input; out = out'; hosts = hosts' })
-    stops_by out' answers =
-        let one = answers under.readings under.are_dealt in
-        stops M deal start _ _ under out' hosts' one.0 one.1 one.2
-
-    -- Serving may stop behind a block whose lines are answered and whose replies are all written.
-    pub stops_after : (mid out' : Option (List ℕ)) → Answers (Appends out mid)
-        → Keeps mid out' → Stopped M deal start (record { input = input; out = out'; hosts = hosts' })
-    stops_after mid out' answers kept =
-        let one = answers under.readings under.are_dealt in
-        stops M deal start _ _ under out' hosts' one.0 one.1 (
-          flat_map reply_line one.0,
-          Appends-kept _ _ _ _ one.2 kept,
-          ([], sym (append-nil _)),
-        )
-
--- what was read of a line is as told
-pub line_so : {S : Type 0} (M : Meaning S)
-    (deal : List ℕ → ℕ) (start : Ends S) (input out : Option (List ℕ)) (hosts hosts' : List (HostState S))
-    (held : List ℕ) (is_long : Bool) (places : List Place) (steps : List (List Step)) (n count : ℕ)
-    → hosts' ≡ hosts → held ≡ [] → is_long ≡ false → count ≡ n
-    → Underway M deal start (record { input = input; out = out; hosts = hosts })
-    (record { held = []; is_long = false; places = places; steps = steps; count = n })
-    → Underway M deal start (record { input = input; out = out; hosts = hosts' })
-    (record { held = held; is_long = is_long; places = places; steps = steps; count = count })
-line_so {S} M deal start input out hosts hosts' held is_long places steps n count same empty short counted under =
-    subst (λ (h : List (HostState S)). Underway M deal start (record { input = input; out = out; hosts = h })
-    (record { held = held; is_long = is_long; places = places; steps = steps; count = count })) (sym same)
-    (subst (λ l. Underway M deal start (record { input = input; out = out; hosts = hosts })
-    (record { held = l; is_long = is_long; places = places; steps = steps; count = count })) (sym empty)
-    (subst (λ b. Underway M deal start (record { input = input; out = out; hosts = hosts })
-    (record { held = []; is_long = b; places = places; steps = steps; count = count })) (sym short)
-    (subst (λ m. Underway M deal start (record { input = input; out = out; hosts = hosts })
-    (record { held = []; is_long = false; places = places; steps = steps; count = m })) (sym counted) under)))
+  -- What a turn comes to among some shards it comes to among as many.
+  pub turns_same : (result : Result Bool ServeFault)
+      → Turns M (dealt m) result start now waiting → Turns M (dealt n) result start now waiting
+  turns_same result turned = subst (λ k. Turns M (dealt k) result start now waiting) same turned
 
 -- ---- faults
 
@@ -508,51 +415,6 @@ pub same_unless : {T : Type 0} (r : Result T ServeFault) (old mid new : ℕ)
 same_unless (Ok x) old mid new same p q apart = q ∙ same
 same_unless (Err f) old mid new same p q apart = absurd (apart (ap Err p.0))
 
--- ---- the same number of shards
-
-module _ {S : Type 0} (M : Meaning S) (n m : ℕ) (same : m ≡ n) (start now : Ends S) (waiting : Waiting) where
-  -- Serving that is under way among some shards is so among as many.
-  pub under_same : Underway M (dealt n) start now waiting → Underway M (dealt m) start now waiting
-  under_same under = subst (λ k. Underway M (dealt k) start now waiting) (sym same) under
-
-  -- What a turn comes to among some shards it comes to among as many.
-  pub turns_same : (result : Result Bool ServeFault)
-      → Turns M (dealt m) result start now waiting → Turns M (dealt n) result start now waiting
-  turns_same result turned = subst (λ k. Turns M (dealt k) result start now waiting) same turned
-
--- the reader failed, and the steps that wait are done
-module _ {S X : Type 0} (M : Meaning S)
-    (host : X → HostState S) (steps : X → List Step) (n m : ℕ) (among : m ≡ n) (shards shards' shards'' : List X)
-    (same : shards' ≡ shards) (places places' : List Place) (same' : places' ≡ places)
-    (start : Ends S) (input input' out : Option (List ℕ)) (held : List ℕ) (is_long : Bool) (count : ℕ) where
-  -- Where the reader failed and kept its input, serving stops once the steps that wait are done.
-  pub breaks_off : Keeps input input'
-      → ((begin : Ends S) (rest written : Option (List ℕ)) (line : List ℕ) (long : Bool) (lines : ℕ)
-      → Underway M (dealt m) begin (record { input = rest; out = written; hosts = map host shards' })
-      (record { held = line; is_long = long; places = places'; steps = map steps shards'; count = lines })
-      → Stopped M (dealt m) begin (record { input = rest; out = written; hosts = map host shards'' }))
-      → Underway M (dealt n) start (record { input = input; out = out; hosts = map host shards })
-      (record { held = held; is_long = is_long; places = places; steps = map steps shards; count = count })
-      → Stopped M (dealt n) start (record { input = input'; out = out; hosts = map host shards'' })
-  breaks_off keeps stops under =
-      let one = kept M (dealt n) start _ _ under input' keeps in
-      let two = subst (λ l. Underway M (dealt n) start (record { input = input'; out = out; hosts = map host shards })
-      (record { held = held; is_long = is_long; places = l; steps = map steps shards; count = count }))
-      (sym same') one in
-      let three = subst (λ (l : List X).
-      Underway M (dealt n) start (record { input = input'; out = out; hosts = map host l }) (record {
-        held = held;
-        is_long = is_long;
-        places = places';
-        steps = map steps l;
-        count = count;
-      })) (sym same) two in
-      let four = subst (λ k. Underway M (dealt k) start (record { input = input'; out = out; hosts = map host shards' })
-      (record { held = held; is_long = is_long; places = places'; steps = map steps shards'; count = count }))
-      (sym among) three in
-      subst (λ k. Stopped M (dealt k) start (record { input = input'; out = out; hosts = map host shards'' }))
-      among (stops start input' out held is_long count four)
-
 -- what holds whatever a call's result is
 pub any_ok : {T E : Type 0} (r : Result T E) (P : Type 0) → P → OnOk r P
 any_ok (Ok x) P p = p
@@ -563,26 +425,25 @@ pub any_err : {T E : Type 0} (r : Result T E) (P : Type 0) → P → OnErr r P
 any_err (Ok x) P p = tt
 any_err (Err e) P p = p
 
--- serving begins
+-- Serving begins with no line heard.
 pub begins : {S : Type 0} (M : Meaning S) (deal : List ℕ → ℕ)
-    (start : Ends S) (places : List Place) (held : List ℕ) (is_long : Bool) (count : ℕ) (steps : List (List Step))
-    → places ≡ [] → held ≡ [] → is_long ≡ false → count ≡ 0 → AreIdle steps
-    → Underway M deal start start
-    (record { held = held; is_long = is_long; places = places; steps = steps; count = count })
-begins M deal start places held is_long count steps none empty short zero idle = record {
-  lines = [];
+    (start : Ends S) (held : List ℕ) (is_long : Bool) (lines : List (Result (List ℕ) LineFault)) (count : ℕ)
+    → lines ≡ [] → held ≡ [] → is_long ≡ false → count ≡ 0
+    → Underway M deal start start (record { held = held; is_long = is_long; lines = lines; count = count })
+begins M deal start held is_long lines count none empty short zero = record {
+  answered = [];
   replies = [];
-  queued = [];
-  readings = [];
-  rest = start.input;
-  text = [];
   served = (refl, refl);
   written = Appends-nil start.out;
-  read = LinesRead-nil start.input;
-  are_readings = refl;
-  are_dealt = record { places_are = none; steps_are = idle };
-  part = IsPart-nil;
-  taken = Consumes-nil start.input;
-  holds = subst (λ b. Holds held b []) (sym short) (empty, omega arith);
-  counted = sym zero;
+  heard = record {
+    queued = [];
+    rest = start.input;
+    text = [];
+    read = LinesRead-nil start.input;
+    are_kept = none;
+    part = IsPart-nil;
+    taken = Consumes-nil start.input;
+    holds = subst (λ b. Holds held b []) (sym short) (empty, omega arith);
+    counted = sym zero;
+  };
 }

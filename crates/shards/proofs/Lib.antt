@@ -1,9 +1,13 @@
 -- What each module is about, and in brackets the lemma to look at first.
+-- Readings: what is kept of lines, and what is read of that (`readings_are`).
+-- Dealt: what was read of lines is dealt, one line after the other (`dealt_more`).
 -- Merging: what each shard does of a block's lines, taken together (`merges`).
 -- Telling: the lines of a shard's replies, behind one another, and all of them in the order of the lines
 --   (`written_all`).
 -- Answered: a block is answered where each shard did its steps (`lent_back`).
 -- GoingOn: serving goes on, a block after the other (`begins`).
+pub mod Readings
+pub mod Dealt
 pub mod Merging
 pub mod Telling
 pub mod Answered

@@ -11,9 +11,10 @@ use Rattle.book.specs.Standing.{HostState}
 use Rattle.forms.specs.declared.fault.LineFault.{LineFault}
 use Rattle.forms.specs.declared.fault.LineFault.TheVariants.{NoMemory}
 use Rattle.lines.specs.Serving.{HostDoes, reply_line, reply_upon}
-use Rattle.dealing.specs.Dealing.{tenant_of}
+use Rattle.dealing.specs.Dealing.{HostsDo, tenant_of}
 use Rattle.shards.specs.declared.place.Place.{Place}
 use Rattle.shards.specs.declared.place.Place.TheVariants.{Here, Dealt}
+use Rattle.shards.specs.Kept.{AreReadFrom}
 
 -- ---- what is read
 
@@ -56,6 +57,22 @@ pub record AreDealt (deal : List ℕ → ℕ) (readings : List (Result Step Line
     (steps : List (List Step)) : Type 0 where
   pub places_are : places ≡ map (place_of deal) readings
   pub steps_are : (i : ℕ) → i < length steps → slice_index_or steps i [] ≡ steps_for deal i readings
+
+-- the first so many of these lines are read, and what was read of them is dealt
+pub record AreDealtTo (deal : List ℕ → ℕ) (lines : List (Result (List ℕ) LineFault)) (count : ℕ) (places : List Place)
+    (steps : List (List Step)) : Type 0 where
+  pub readings : List (Result Step LineFault)
+  pub are_read : AreReadFrom lines 0 readings
+  pub counted : length readings ≡ count
+  pub are_dealt : AreDealt deal readings places steps
+
+-- these lines were read and answered, and this holds of the text of the replies
+abbrev pub AnswersLines : {S : Type 0} → Meaning S → (List ℕ → ℕ) → List (Result (List ℕ) LineFault)
+    → List (HostState S) → List (HostState S) → (List ℕ → Type 0) → Type 0
+AnswersLines M deal lines old new IsWritten =
+    (readings : List (Result Step LineFault)) × (replies : List Reply) × AreReadFrom lines 0 readings
+    × (length readings ≡ length lines) × AnswersEachBy (HostsDo M deal) readings old replies new
+    × IsWritten (flat_map reply_line replies)
 
 -- ---- what is written
 

@@ -1,2 +1,3 @@
+pub mod Kept
 pub mod Blocks
 pub mod Underway

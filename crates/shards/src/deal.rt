@@ -1,6 +1,6 @@
 //! Dealing tenants to shards, by name.
 
-ghost use Rattle.std.specs.Prelude.{◌≡◌, ◌<◌};
+ghost use Rattle.std.specs.Prelude.{◌≡◌, ◌<◌, ◌%◌, ◌^◌};
 ghost use Rattle.dealing.specs.Dealing.{dealt, mixed};
 
 use model::TenantName;
@@ -16,12 +16,24 @@ pub(crate) fn shard_of(tenant: &TenantName, shards: usize) -> usize
 }
 
 /// A number below 65,521 that follows from some bytes.
-fn mix(bytes: &[u8]) -> u32
+fn mix(bytes: &[u8]) -> u64
     ensures { result ≡ mixed 0 bytes.now }
 {
-    let mut mixed = 0u32;
+    let mut mixed = 0u64;
     for byte in bytes {
-        mixed = (mixed * 31 + u32::from(*byte)) % 65521;
+        mixed = folded(mixed) * 31 + u64::from(*byte);
     }
-    mixed
+    mixed % 65521
+}
+
+/// A number with the same remainder, which is small enough to go on from. Names are short: mostly it is the number.
+fn folded(mixed: u64) -> u64
+    ensures same { result % 65521 ≡ mixed % 65521 }
+    ensures small { result < 2 ^ 56 }
+{
+    if mixed < 1 << 56 {
+        mixed
+    } else {
+        mixed % 65521
+    }
 }

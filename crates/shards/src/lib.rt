@@ -1,13 +1,14 @@
-//! Several hosts as one: tenants are dealt to shards by their names, and the lines of a block are stepped in threads.
+//! Several hosts as one: tenants are dealt to shards by their names, and the lines of a block are read and stepped in
+//! threads.
 //!
 //! - `Shards`: some hosts, one for each thread. By isolation no tenant can tell that others stand on another host.
 //! - `serve_shards`: answers each line of a reader, in order, as `lines::serve_host` does. What the reader shows at
-//!   once is a block: its lines are read and dealt, each shard does its own steps in a thread of its own, and the
-//!   replies are written in the order of the lines.
+//!   once is a block: its lines are read in threads and dealt, each shard does its own steps in a thread of its own, and
+//!   the replies are written in the order of the lines.
 //!
 //! `dealing` says which book some hosts stand for together, and its law `shards_run` what a run by them is as a
-//! whole. `specs/Blocks` says what is read of a block and what is written of it, and `specs/Underway` how far serving
-//! is.
+//! whole. `specs/Kept` says what is kept of a line, `specs/Blocks` what is read of a block and what is written of it,
+//! and `specs/Underway` how far serving is.
 //!
 //! For a program that has more than one core. A caller:
 //!
@@ -20,12 +21,18 @@
 //! ```
 #![tactic(auto)]
 
+mod answering;
 mod block;
 mod deal;
+mod desk;
+mod faults;
+mod kept;
 mod place;
+mod reading;
 mod serving;
 mod shard;
 mod shards;
+mod span;
 mod writing;
 
 pub use serving::serve_shards;

@@ -1,19 +1,21 @@
 //! Serving by shards.
 
-ghost use Rattle.std.specs.Prelude.{◌≡◌, ◌≢◌, ◌<◌, ◌≤◌, ◌+◌, ◌^◌, ℕ, List, [], Option, IfOk, IfSome, OnErr, Ok, Err};
-ghost use Rattle.std.specs.Prelude.{false, true, length, map, vec_capacity, vec_len};
-ghost use Rattle.std.specs.Io.KnownBytes.{IsAtEnd};
+ghost use Rattle.std.specs.Prelude.{◌≡◌, ◌≢◌, ◌<◌, ◌≤◌, ◌+◌, ◌^◌, ℕ, List, [], Option, IfOk, OnOk, OnErr, Ok, Err};
+ghost use Rattle.std.specs.Prelude.{false, true, length, map, vec_capacity};
 ghost use Rattle.model.specs.Failures.{HasRisen};
 ghost use Rattle.lines.specs.Serving.{ServedAllBy, ServedSomeBy, ServesBy};
 ghost use Rattle.shards.specs.Blocks.{AreIdle};
 ghost use Rattle.dealing.specs.Dealing.{HostsDo, ShardsServe, dealt};
-ghost use Rattle.shards.specs.Underway.{Ends, Turns, Underway};
+ghost use Rattle.shards.specs.Underway.{Ends, Stopped, Turns, Underway};
 
-use crate::block::{Block, answer_waiting, step_waiting, take_part};
+use crate::answering::{answer, step_lines};
+use crate::block::{Block, take_part};
+use crate::desk::Desk;
+use crate::kept::MOST_LINES;
 use crate::shard::Shard;
 use crate::shards::Shards;
 use handler::Handler;
-use lines::{Counted, ServeFault};
+use lines::{Counted, ServeFault, flush_unless};
 use model::MAX_LINE_BYTES;
 use shared_log::Store;
 use std::alloc::Global;
@@ -24,9 +26,10 @@ use std::thread::Threads;
 /// whichever book the shards stood for before, what is written are the replies of that book, and the shards then
 /// stand for the book after them.
 ///
-/// The lines that the reader shows at once are a block: each shard does its own in a thread, where there are enough
-/// of them and a thread can be started, and then their replies are written in the order of the lines. Before a read
-/// that may wait all lines are answered, and their replies flushed.
+/// The lines that the reader shows at once are a block, as long as they aren't too many. Where there are enough of them
+/// and a thread can be started, they are read in as many threads as there are shards, and each shard does its own steps
+/// in a thread. Then the replies are written in the order of the lines. Before a read that may wait all lines are
+/// answered, and their replies flushed.
 ///
 /// `Read` comes only where the reader failed, `Write` only where the writer failed, and `NoMemory` where there was no
 /// memory for a buffer or for a reply's text. After each the shards hold the steps so far, and what is written is a
@@ -76,13 +79,16 @@ fn serve_on<T: Threads + Sync, R: BufRead, W: Write, H: Handler + Send, S: Store
     ensures read_same { result ≢ Err ServeFault.Read → reader.new.failed ≡ reader.old.failed }
     ensures write_same { result ≢ Err ServeFault.Write → writer.new.failed ≡ writer.old.failed }
 {
-    let Ok(mut block) = Block::new(alloc, shards.len()) else {
+    let Ok(mut block) = Block::new(alloc) else {
+        return Err(ServeFault::NoMemory);
+    };
+    let Ok(mut desk) = Desk::new(alloc, shards.len()) else {
         return Err(ServeFault::NoMemory);
     };
     // Each line takes a call at least, so that the count of lines fits.
     let _most = reader.calls_left();
     loop {
-        let is_end = match turn(rt, alloc, reader, writer, shards, &mut block) {
+        let is_end = match turn(rt, alloc, reader, writer, shards, &mut block, &mut desk) {
             Ok(is_end) => is_end,
             Err(fault) => return Err(fault),
         };
@@ -101,12 +107,13 @@ fn turn<T: Threads + Sync, R: BufRead, W: Write, H: Handler + Send, S: Store + S
     writer: &mut Counted<W>,
     shards: &mut [Shard<H, S>],
     block: &mut Block,
+    desk: &mut Desk,
 ) -> Result<bool, ServeFault>
-    requires some { 0 < block.old.among }
-    requires among { length shards.old ≡ block.old.among }
+    requires some { 0 < length shards.old }
+    requires idle { AreIdle (map (λ s. s.steps.items) shards.old) }
     requires held { MAX_LINE_BYTES ≤ vec_capacity block.old.held }
     requires within { block.old.count + reader.old.left < 2 ^ 64 }
-    requires underway { (start : Ends H.State) × Underway H.meaning (dealt block.old.among) start
+    ensures turns { (start : Ends H.State) → Underway H.meaning (dealt (length shards.old)) start
         (record {
           input = R.remaining reader.old.inner;
           out = W.contents writer.old.inner;
@@ -115,24 +122,10 @@ fn turn<T: Threads + Sync, R: BufRead, W: Write, H: Handler + Send, S: Store + S
         (record {
           held = block.old.held.items;
           is_long = block.old.is_long;
-          places = block.old.places.items;
-          steps = map (λ s. s.steps.items) shards.old;
-          count = block.old.count;
-        }) }
-    ensures turns { (start : Ends H.State) → Underway H.meaning (dealt block.old.among) start
-        (record {
-          input = R.remaining reader.old.inner;
-          out = W.contents writer.old.inner;
-          hosts = map (λ s. s.host) shards.old;
-        })
-        (record {
-          held = block.old.held.items;
-          is_long = block.old.is_long;
-          places = block.old.places.items;
-          steps = map (λ s. s.steps.items) shards.old;
+          lines = block.old.lines;
           count = block.old.count;
         })
-        → Turns H.meaning (dealt block.old.among) result start
+        → Turns H.meaning (dealt (length shards.old)) result start
         (record {
           input = R.remaining reader.new.inner;
           out = W.contents writer.new.inner;
@@ -141,99 +134,20 @@ fn turn<T: Threads + Sync, R: BufRead, W: Write, H: Handler + Send, S: Store + S
         (record {
           held = block.new.held.items;
           is_long = block.new.is_long;
-          places = block.new.places.items;
-          steps = map (λ s. s.steps.items) shards.new;
+          lines = block.new.lines;
           count = block.new.count;
         }) }
-    ensures idle { result ≢ Ok false → AreIdle (map (λ s. s.steps.items) shards.new) }
+    ensures idle { AreIdle (map (λ s. s.steps.items) shards.new) }
     ensures goes { result ≡ Ok false → (MAX_LINE_BYTES ≤ vec_capacity block.new.held)
-        × (block.new.among ≡ block.old.among)
         × (block.new.count + reader.new.left < 2 ^ 64) × (reader.new.left < reader.old.left) }
     ensures read { result ≡ Err ServeFault.Read → HasRisen reader.old.failed reader.new.failed }
     ensures write { result ≡ Err ServeFault.Write → HasRisen writer.old.failed writer.new.failed }
     ensures read_same { result ≢ Err ServeFault.Read → reader.new.failed ≡ reader.old.failed }
     ensures write_same { result ≢ Err ServeFault.Write → writer.new.failed ≡ writer.old.failed }
 {
-    let ahead = block.ahead;
-    match answer_waiting(
-        rt,
-        alloc,
-        writer,
-        shards,
-        block.among,
-        &mut block.places,
-        &mut block.text,
-        ahead,
-    ) {
-        Ok(()) => read_on(rt, alloc, reader, writer, shards, block),
+    match answer_waiting(rt, alloc, writer, shards, block, desk) {
+        Ok(()) => read_more(rt, alloc, reader, writer, shards, block, desk),
         Err(fault) => Err(fault),
-    }
-}
-
-/// Reads on, and answers what waits where the input is at its end, or there is no memory for another line.
-fn read_on<T: Threads + Sync, R: BufRead, W: Write, H: Handler + Send, S: Store + Send>(
-    rt: &T,
-    alloc: Global,
-    reader: &mut Counted<R>,
-    writer: &mut Counted<W>,
-    shards: &mut [Shard<H, S>],
-    block: &mut Block,
-) -> Result<bool, ServeFault>
-    requires some { 0 < block.old.among }
-    requires among { length shards.old ≡ block.old.among }
-    requires held { MAX_LINE_BYTES ≤ vec_capacity block.old.held }
-    requires within { block.old.count + reader.old.left < 2 ^ 64 }
-    requires underway { (start : Ends H.State) × Underway H.meaning (dealt block.old.among) start
-        (record {
-          input = R.remaining reader.old.inner;
-          out = W.contents writer.old.inner;
-          hosts = map (λ s. s.host) shards.old;
-        })
-        (record {
-          held = block.old.held.items;
-          is_long = block.old.is_long;
-          places = block.old.places.items;
-          steps = map (λ s. s.steps.items) shards.old;
-          count = block.old.count;
-        }) }
-    ensures turns { (start : Ends H.State) → Underway H.meaning (dealt block.old.among) start
-        (record {
-          input = R.remaining reader.old.inner;
-          out = W.contents writer.old.inner;
-          hosts = map (λ s. s.host) shards.old;
-        })
-        (record {
-          held = block.old.held.items;
-          is_long = block.old.is_long;
-          places = block.old.places.items;
-          steps = map (λ s. s.steps.items) shards.old;
-          count = block.old.count;
-        })
-        → Turns H.meaning (dealt block.old.among) result start
-        (record {
-          input = R.remaining reader.new.inner;
-          out = W.contents writer.new.inner;
-          hosts = map (λ s. s.host) shards.new;
-        })
-        (record {
-          held = block.new.held.items;
-          is_long = block.new.is_long;
-          places = block.new.places.items;
-          steps = map (λ s. s.steps.items) shards.new;
-          count = block.new.count;
-        }) }
-    ensures idle { result ≢ Ok false → AreIdle (map (λ s. s.steps.items) shards.new) }
-    ensures goes { result ≡ Ok false → (MAX_LINE_BYTES ≤ vec_capacity block.new.held)
-        × (block.new.among ≡ block.old.among)
-        × (block.new.count + reader.new.left < 2 ^ 64) × (reader.new.left < reader.old.left) }
-    ensures read { result ≡ Err ServeFault.Read → HasRisen reader.old.failed reader.new.failed }
-    ensures write { result ≡ Err ServeFault.Write → HasRisen writer.old.failed writer.new.failed }
-    ensures read_same { result ≢ Err ServeFault.Read → reader.new.failed ≡ reader.old.failed }
-    ensures write_same { result ≢ Err ServeFault.Write → writer.new.failed ≡ writer.old.failed }
-{
-    match block.places.reserve(1) {
-        Ok(()) => read_more(rt, alloc, reader, writer, shards, block),
-        Err(_) => finish(rt, alloc, writer, shards, block, false),
     }
 }
 
@@ -245,13 +159,14 @@ fn read_more<T: Threads + Sync, R: BufRead, W: Write, H: Handler + Send, S: Stor
     writer: &mut Counted<W>,
     shards: &mut [Shard<H, S>],
     block: &mut Block,
+    desk: &mut Desk,
 ) -> Result<bool, ServeFault>
-    requires some { 0 < block.old.among }
-    requires among { length shards.old ≡ block.old.among }
-    requires room { vec_len block.old.places < vec_capacity block.old.places }
+    requires some { 0 < length shards.old }
+    requires idle { AreIdle (map (λ s. s.steps.items) shards.old) }
+    requires room { length block.old.lines < MOST_LINES }
     requires held { MAX_LINE_BYTES ≤ vec_capacity block.old.held }
     requires within { block.old.count + reader.old.left < 2 ^ 64 }
-    requires underway { (start : Ends H.State) × Underway H.meaning (dealt block.old.among) start
+    ensures turns { (start : Ends H.State) → Underway H.meaning (dealt (length shards.old)) start
         (record {
           input = R.remaining reader.old.inner;
           out = W.contents writer.old.inner;
@@ -260,24 +175,10 @@ fn read_more<T: Threads + Sync, R: BufRead, W: Write, H: Handler + Send, S: Stor
         (record {
           held = block.old.held.items;
           is_long = block.old.is_long;
-          places = block.old.places.items;
-          steps = map (λ s. s.steps.items) shards.old;
-          count = block.old.count;
-        }) }
-    ensures turns { (start : Ends H.State) → Underway H.meaning (dealt block.old.among) start
-        (record {
-          input = R.remaining reader.old.inner;
-          out = W.contents writer.old.inner;
-          hosts = map (λ s. s.host) shards.old;
-        })
-        (record {
-          held = block.old.held.items;
-          is_long = block.old.is_long;
-          places = block.old.places.items;
-          steps = map (λ s. s.steps.items) shards.old;
+          lines = block.old.lines;
           count = block.old.count;
         })
-        → Turns H.meaning (dealt block.old.among) result start
+        → Turns H.meaning (dealt (length shards.old)) result start
         (record {
           input = R.remaining reader.new.inner;
           out = W.contents writer.new.inner;
@@ -286,105 +187,143 @@ fn read_more<T: Threads + Sync, R: BufRead, W: Write, H: Handler + Send, S: Stor
         (record {
           held = block.new.held.items;
           is_long = block.new.is_long;
-          places = block.new.places.items;
-          steps = map (λ s. s.steps.items) shards.new;
+          lines = block.new.lines;
           count = block.new.count;
         }) }
-    ensures idle { result ≢ Ok false → AreIdle (map (λ s. s.steps.items) shards.new) }
+    ensures idle { AreIdle (map (λ s. s.steps.items) shards.new) }
     ensures goes { result ≡ Ok false → (MAX_LINE_BYTES ≤ vec_capacity block.new.held)
-        × (block.new.among ≡ block.old.among)
         × (block.new.count + reader.new.left < 2 ^ 64) × (reader.new.left < reader.old.left) }
     ensures read { result ≡ Err ServeFault.Read → HasRisen reader.old.failed reader.new.failed }
     ensures write { result ≡ Err ServeFault.Write → HasRisen writer.old.failed writer.new.failed }
     ensures read_same { result ≢ Err ServeFault.Read → reader.new.failed ≡ reader.old.failed }
     ensures write_same { result ≢ Err ServeFault.Write → writer.new.failed ≡ writer.old.failed }
 {
-    let is_end = match take_part(reader, block, shards) {
+    let is_end = match take_part(reader, block) {
         Ok(is_end) => is_end,
         Err(fault) => {
-            step_waiting(rt, shards, block.among, block.places.as_slice());
+            step_lines(rt, shards, &block.lines, desk);
             return Err(fault);
         }
     };
     if !is_end {
         return Ok(false);
     }
-    finish(rt, alloc, writer, shards, block, true)
+    match answer_block(rt, alloc, writer, shards, block, desk, false) {
+        Ok(()) => Ok(true),
+        Err(fault) => Err(fault),
+    }
 }
 
-/// Answers the lines that wait, as the last ones: at the end of the input, or since there is no memory for another.
-fn finish<T: Threads + Sync, W: Write, H: Handler + Send, S: Store + Send>(
+/// Answers the lines that wait, unless there is more to read without waiting and room for it.
+///
+/// `Write` comes only where the writer failed, and `NoMemory` where there was none for a reply's text.
+fn answer_waiting<T: Threads + Sync, W: Write, H: Handler + Send, S: Store + Send>(
     rt: &T,
     alloc: Global,
     writer: &mut Counted<W>,
     shards: &mut [Shard<H, S>],
     block: &mut Block,
-    is_end: bool,
-) -> Result<bool, ServeFault>
-    requires some { 0 < block.old.among }
-    requires among { length shards.old ≡ block.old.among }
-    requires underway { (start : Ends H.State) × (input : Option (List ℕ))
-        × Underway H.meaning (dealt block.old.among) start
+    desk: &mut Desk,
+) -> Result<(), ServeFault>
+    requires some { 0 < length shards.old }
+    requires idle { AreIdle (map (λ s. s.steps.items) shards.old) }
+    ensures ok { OnOk result ((start : Ends H.State) (input : Option (List ℕ))
+        → Underway H.meaning (dealt (length shards.old)) start
         (record { input = input; out = W.contents writer.old.inner; hosts = map (λ s. s.host) shards.old })
         (record {
           held = block.old.held.items;
           is_long = block.old.is_long;
-          places = block.old.places.items;
-          steps = map (λ s. s.steps.items) shards.old;
-          count = block.old.count;
-        }) }
-    ensures turns { (start : Ends H.State) (input : Option (List ℕ))
-        → (is_end ≡ true → IfSome start.input (λ _. IsAtEnd input) × (block.old.held.items ≡ [])
-        × (block.old.is_long ≡ false))
-        → Underway H.meaning (dealt block.old.among) start
-        (record { input = input; out = W.contents writer.old.inner; hosts = map (λ s. s.host) shards.old })
-        (record {
-          held = block.old.held.items;
-          is_long = block.old.is_long;
-          places = block.old.places.items;
-          steps = map (λ s. s.steps.items) shards.old;
+          lines = block.old.lines;
           count = block.old.count;
         })
-        → Turns H.meaning (dealt block.old.among) result start
+        → Underway H.meaning (dealt (length shards.old)) start
         (record { input = input; out = W.contents writer.new.inner; hosts = map (λ s. s.host) shards.new })
         (record {
           held = block.new.held.items;
           is_long = block.new.is_long;
-          places = block.new.places.items;
-          steps = map (λ s. s.steps.items) shards.new;
+          lines = block.new.lines;
           count = block.new.count;
-        }) }
+        })) }
+    ensures err { OnErr result ((start : Ends H.State) (input : Option (List ℕ))
+        → Underway H.meaning (dealt (length shards.old)) start
+        (record { input = input; out = W.contents writer.old.inner; hosts = map (λ s. s.host) shards.old })
+        (record {
+          held = block.old.held.items;
+          is_long = block.old.is_long;
+          lines = block.old.lines;
+          count = block.old.count;
+        })
+        → Stopped H.meaning (dealt (length shards.old)) start
+        (record { input = input; out = W.contents writer.new.inner; hosts = map (λ s. s.host) shards.new })) }
+    ensures room { OnOk result (length block.new.lines < MOST_LINES) }
+    ensures held { block.new.held ≡ block.old.held }
+    ensures count { block.new.count ≡ block.old.count }
     ensures idle { AreIdle (map (λ s. s.steps.items) shards.new) }
-    ensures ends { result ≢ Ok false }
-    ensures read { result ≢ Err ServeFault.Read }
     ensures write { result ≡ Err ServeFault.Write → HasRisen writer.old.failed writer.new.failed }
+    ensures read { result ≢ Err ServeFault.Read }
     ensures same { result ≢ Err ServeFault.Write → writer.new.failed ≡ writer.old.failed }
 {
-    match answer_waiting(
-        rt,
-        alloc,
-        writer,
-        shards,
-        block.among,
-        &mut block.places,
-        &mut block.text,
-        false,
-    ) {
-        Ok(()) => end_of(is_end),
-        Err(fault) => Err(fault),
+    let ahead = block.ahead;
+    if ahead && !block.lines.is_full() {
+        return Ok(());
     }
+    answer_block(rt, alloc, writer, shards, block, desk, ahead)
 }
 
-/// That serving is at its end, or has no memory to go on.
-fn end_of(is_end: bool) -> Result<bool, ServeFault>
-    ensures end { result ≡ Ok true → is_end ≡ true }
-    ensures ends { result ≢ Ok false }
+/// Answers the lines that wait. Their replies are flushed unless there is more to read without waiting.
+fn answer_block<T: Threads + Sync, W: Write, H: Handler + Send, S: Store + Send>(
+    rt: &T,
+    alloc: Global,
+    writer: &mut Counted<W>,
+    shards: &mut [Shard<H, S>],
+    block: &mut Block,
+    desk: &mut Desk,
+    ahead: bool,
+) -> Result<(), ServeFault>
+    requires some { 0 < length shards.old }
+    requires idle { AreIdle (map (λ s. s.steps.items) shards.old) }
+    ensures ok { OnOk result ((start : Ends H.State) (input : Option (List ℕ))
+        → Underway H.meaning (dealt (length shards.old)) start
+        (record { input = input; out = W.contents writer.old.inner; hosts = map (λ s. s.host) shards.old })
+        (record {
+          held = block.old.held.items;
+          is_long = block.old.is_long;
+          lines = block.old.lines;
+          count = block.old.count;
+        })
+        → Underway H.meaning (dealt (length shards.old)) start
+        (record { input = input; out = W.contents writer.new.inner; hosts = map (λ s. s.host) shards.new })
+        (record {
+          held = block.new.held.items;
+          is_long = block.new.is_long;
+          lines = block.new.lines;
+          count = block.new.count;
+        })) }
+    ensures err { OnErr result ((start : Ends H.State) (input : Option (List ℕ))
+        → Underway H.meaning (dealt (length shards.old)) start
+        (record { input = input; out = W.contents writer.old.inner; hosts = map (λ s. s.host) shards.old })
+        (record {
+          held = block.old.held.items;
+          is_long = block.old.is_long;
+          lines = block.old.lines;
+          count = block.old.count;
+        })
+        → Stopped H.meaning (dealt (length shards.old)) start
+        (record { input = input; out = W.contents writer.new.inner; hosts = map (λ s. s.host) shards.new })) }
+    ensures empty { OnOk result (block.new.lines ≡ []) }
+    ensures held { block.new.held ≡ block.old.held }
+    ensures long { block.new.is_long ≡ block.old.is_long }
+    ensures count { block.new.count ≡ block.old.count }
+    ensures idle { AreIdle (map (λ s. s.steps.items) shards.new) }
+    ensures write { result ≡ Err ServeFault.Write → HasRisen writer.old.failed writer.new.failed }
     ensures read { result ≢ Err ServeFault.Read }
-    ensures write { result ≢ Err ServeFault.Write }
+    ensures same { result ≢ Err ServeFault.Write → writer.new.failed ≡ writer.old.failed }
 {
-    if is_end {
-        Ok(true)
-    } else {
-        Err(ServeFault::NoMemory)
+    match answer(rt, alloc, writer, shards, &block.lines, desk) {
+        Ok(()) => {
+            block.lines.clear();
+            flush_unless(writer, ahead)
+        }
+        Err(fault) => Err(fault),
     }
 }

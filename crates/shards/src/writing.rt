@@ -9,10 +9,11 @@ ghost use Rattle.lines.specs.Serving.{reply_line};
 ghost use Rattle.written.specs.Beginnings.{AppendsBeginning};
 ghost use Rattle.shards.specs.Blocks.{IsBelow, Told, WroteFirst, WroteOne, first_of, merged};
 
+use crate::faults::FaultLines;
 use crate::place::Place;
 use crate::shard::Shard;
 use handler::Handler;
-use lines::{Counted, ServeFault, fault_reply, put_bytes, put_reply};
+use lines::{Counted, ServeFault, put_bytes};
 use shared_log::Store;
 use std::alloc::Global;
 use std::io::Write;
@@ -32,7 +33,7 @@ pub(crate) fn write_all<W: Write, H: Handler, S: Store>(
     writer: &mut Counted<W>,
     shards: &[Shard<H, S>],
     places: &[Place],
-    text: &mut Vec<u8>,
+    faults: &FaultLines,
 ) -> Result<(), ServeFault>
     requires told { (replies : ℕ → List ReplyOf) × ((i : ℕ) (d : _) → i < length shards.now
         → Told (replies i) (slice_index_or shards.now i d).bytes.items (slice_index_or shards.now i d).lens.items 0 0) }
@@ -54,7 +55,7 @@ pub(crate) fn write_all<W: Write, H: Handler, S: Store>(
     };
     let cursors = made.as_mut_slice();
     for place in places {
-        match write_one(alloc, writer, shards, *place, cursors, text) {
+        match write_one(writer, shards, *place, cursors, faults) {
             Ok(()) => {}
             Err(fault) => return Err(fault),
         }
@@ -64,12 +65,11 @@ pub(crate) fn write_all<W: Write, H: Handler, S: Store>(
 
 /// Writes the reply line of one place.
 fn write_one<W: Write, H: Handler, S: Store>(
-    alloc: Global,
     writer: &mut Counted<W>,
     shards: &[Shard<H, S>],
     place: Place,
     cursors: &mut [Cursor],
-    text: &mut Vec<u8>,
+    faults: &FaultLines,
 ) -> Result<(), ServeFault>
     requires told { (left : ℕ → List ReplyOf) × ((i : ℕ) (d : _) (e : _) → i < length shards.now
         → Told (left i) (slice_index_or shards.now i d).bytes.items (slice_index_or shards.now i d).lens.items
@@ -94,7 +94,7 @@ fn write_one<W: Write, H: Handler, S: Store>(
     ensures same { result ≢ Err ServeFault.Write → writer.new.failed ≡ writer.old.failed }
 {
     match place {
-        Place::Here(fault) => put_reply(alloc, writer, text, &fault_reply(fault)),
+        Place::Here(fault) => put_bytes(writer, faults.of(fault)),
         Place::Dealt(shard) => {
             let from = &shards[shard];
             put_next(

@@ -4,9 +4,9 @@ use Rattle.lines.specs.Parts.{Takes}
 use Rattle.shards.proofs.block.take_part.Goals as goal
 
 pub returns-in-Ok-clause-ok : goal.returns-in-Ok-clause-ok
-returns-in-Ok-clause-ok g c start out under =
-    c.take_read.ensures.takes start (g.R.Read.remaining c.args.reader.now.inner) (g.R.Read.remaining
-    c.fill.new.reader.inner) out c.args.block.now.held.items c.args.block.now.is_long c.in-Ok.ensures.takes under
+returns-in-Ok-clause-ok g c begin answered heard =
+    c.take_read.ensures.takes begin (g.R.Read.remaining c.args.reader.now.inner) (g.R.Read.remaining
+    c.fill.new.reader.inner) answered c.args.block.now.held.items c.args.block.now.is_long c.in-Ok.ensures.takes heard
 
 pub returns-in-Ok-clause-end : goal.returns-in-Ok-clause-end
 returns-in-Ok-clause-end g c e =

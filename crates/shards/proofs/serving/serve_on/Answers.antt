@@ -1,13 +1,12 @@
-use Rattle.std.proofs.Common.{◌≡◌, ◌∙◌, [], map, refl, sym, ap, subst, rules}
+use Rattle.std.proofs.Common.{◌≡◌, ◌∙◌, [], length, map, refl, ap, subst, rules}
 use Rattle.std.specs.Prelude.{Ok, Err}
 use Rattle.std.proofs.KnownBytes.{Appends-nil, Keeps-refl}
 use Rattle.model.specs.Failures.{HasRisen}
 use Rattle.lines.specs.declared.fault.ServeFault.TheVariants.{Read, Write}
-use Rattle.lines.specs.Serving.{ServedAllBy, ServedSomeBy, ServesBy}
+use Rattle.lines.specs.Serving.{ServedSomeBy, ServesBy}
 use Rattle.lines.proofs.Parts.{LinesRead-nil, TakesPart-none}
 use Rattle.dealing.specs.Dealing.{HostsDo, dealt}
-use Rattle.shards.specs.Underway.{Underway}
-use Rattle.shards.proofs.GoingOn.{begins, turned_end, turned_on}
+use Rattle.shards.proofs.GoingOn.{begins, turned_end, turned_on, turns_same, under_same}
 use Rattle.shards.proofs.serving.serve_on.Goals as goal
 
 pub returns-in_default-clause-some : goal.returns-in_default-clause-some
@@ -21,91 +20,60 @@ returns-in_default-clause-some g c = (
   ([], Appends-nil _, ([], refl)),
 )
 
+pub returns-in_default-new-clause-some : goal.returns-in_default-new-clause-some
+returns-in_default-new-clause-some g c = (
+  [],
+  [],
+  g.R.Read.remaining c.args.reader.now.inner,
+  LinesRead-nil _,
+  TakesPart-none _ _ (Keeps-refl _),
+  (refl, refl),
+  ([], Appends-nil _, ([], refl)),
+)
+
 pub loop-is_end-init : goal.loop-is_end-init
 loop-is_end-init g c = record {
-  among = c.in-Ok.ensures.among;
   held = c.in-Ok.ensures.room;
+  idle = c.requires.idle;
   read_same = refl;
   write_same = refl;
   within = search rules;
   underway = begins g.H.Handler.meaning
-      (dealt c.in-Ok.block.among) (record {
+      (dealt (length c.args.shards.now)) (record {
         input = g.R.Read.remaining c.args.reader.now.inner;
         out = g.W.Write.contents c.args.writer.now.inner;
         hosts = map (λ s. s.host) c.args.shards.now;
       })
-      c.in-Ok.block.places.items c.in-Ok.block.held.items
-      c.in-Ok.block.is_long c.in-Ok.block.count (map (λ s. s.steps.items) c.args.shards.now)
-      c.in-Ok.ensures.places c.in-Ok.ensures.held c.in-Ok.ensures.short c.in-Ok.ensures.count c.requires.idle;
+      c.in-Ok.block.held.items c.in-Ok.block.is_long c.in-Ok.block.lines c.in-Ok.block.count
+      c.in-Ok.ensures.lines c.in-Ok.ensures.held c.in-Ok.ensures.short c.in-Ok.ensures.count;
 }
-
-pub turn-requires-clause-underway : goal.turn-requires-clause-underway
-turn-requires-clause-underway g c κs within = (
-  (record {
-    input = g.R.Read.remaining c.args.reader.now.inner;
-    out = g.W.Write.contents c.args.writer.now.inner;
-    hosts = map (λ s. s.host) c.args.shards.now;
-  }),
-  c.loop-is_end.invariant.underway,
-)
 
 pub loop-is_end-preserved : goal.loop-is_end-preserved
 loop-is_end-preserved g c =
     let goes = c.in-Ok-turn.ensures.goes (ap Ok c.if-is_end.false) in
-    let on = turned_on g.H.Handler.meaning (dealt c.loop-is_end.block.among)
-    (record {
-      input = g.R.Read.remaining c.args.reader.now.inner;
-      out = g.W.Write.contents c.args.writer.now.inner;
-      hosts = map (λ s. s.host) c.args.shards.now;
-    }) _ _ c.in-Ok-turn.is_end
-    c.if-is_end.false (c.in-Ok-turn.ensures.turns (record {
-      input = g.R.Read.remaining c.args.reader.now.inner;
-      out = g.W.Write.contents c.args.writer.now.inner;
-      hosts = map (λ s. s.host) c.args.shards.now;
-    })
-    c.loop-is_end.invariant.underway) in
     record {
-      among = goes.1 ∙ c.loop-is_end.invariant.among;
       held = goes.0;
+      idle = c.turn.ensures.idle;
       read_same = c.in-Ok-turn.ensures.read_same (λ e. cc) ∙ c.loop-is_end.invariant.read_same;
       write_same = c.in-Ok-turn.ensures.write_same (λ e. cc) ∙ c.loop-is_end.invariant.write_same;
-      within = goes.2;
-      underway = subst (λ n. Underway g.H.Handler.meaning (dealt n) (record {
-        input =
-            g.R.Read.remaining c.args.reader.now.inner;
-        out = g.W.Write.contents c.args.writer.now.inner;
-        hosts =
-            map (λ s. s.host) c.args.shards.now;
-      }) (record {
-        input = g.R.Read.remaining c.turn.new.reader.inner;
-        out = g.W.Write.contents c.turn.new.writer.inner;
-        hosts = map (λ s. s.host) c.turn.new.shards;
-      })
-          (record {
-            held = c.turn.new.block.held.items;
-            is_long = c.turn.new.block.is_long;
-            places = c.turn.new.block.places.items;
-            steps = map (λ s. s.steps.items) c.turn.new.shards;
-            count = c.turn.new.block.count;
-          })) (sym goes.1) on;
+      within = goes.1;
+      underway = turned_on g.H.Handler.meaning (dealt (length c.args.shards.now)) _ _ _ c.in-Ok-turn.is_end
+          c.if-is_end.false
+          (turns_same g.H.Handler.meaning (length c.args.shards.now) (length c.loop-is_end.shards)
+          c.loop-is_end.auto.shards _ _ _ (Ok c.in-Ok-turn.is_end)
+          (c.in-Ok-turn.ensures.turns _ (under_same g.H.Handler.meaning (length c.args.shards.now)
+          (length c.loop-is_end.shards) c.loop-is_end.auto.shards _ _ _ c.loop-is_end.invariant.underway)));
     }
 
 pub loop-is_end-smaller : goal.loop-is_end-smaller
-loop-is_end-smaller g c = (c.in-Ok-turn.ensures.goes (ap Ok c.if-is_end.false)).3
+loop-is_end-smaller g c = (c.in-Ok-turn.ensures.goes (ap Ok c.if-is_end.false)).2
 
 pub returns-then-is_end-clause-all : goal.returns-then-is_end-clause-all
 returns-then-is_end-clause-all g c =
-    subst (λ n. ServedAllBy (ServesBy (HostsDo g.H.Handler.meaning (dealt n)))
-    (g.R.Read.remaining c.args.reader.now.inner)
-    (g.W.Write.contents c.args.writer.now.inner) (g.W.Write.contents c.turn.new.writer.inner)
-    (map (λ s. s.host) c.args.shards.now) (map (λ s. s.host) c.turn.new.shards) c.turn.new.block.count)
-    c.loop-is_end.invariant.among
-    (turned_end g.H.Handler.meaning (dealt c.loop-is_end.block.among) (record {
-      input =
-          g.R.Read.remaining c.args.reader.now.inner;
+    turned_end g.H.Handler.meaning (dealt (length c.args.shards.now)) (record {
+      input = g.R.Read.remaining c.args.reader.now.inner;
       out = g.W.Write.contents c.args.writer.now.inner;
-      hosts =
-          map (λ s. s.host) c.args.shards.now;
+      hosts = map (λ s. s.host) c.args.shards.now;
     }) (record {
       input = g.R.Read.remaining c.turn.new.reader.inner;
       out = g.W.Write.contents c.turn.new.writer.inner;
@@ -114,35 +82,22 @@ returns-then-is_end-clause-all g c =
     (record {
       held = c.turn.new.block.held.items;
       is_long = c.turn.new.block.is_long;
-      places = c.turn.new.block.places.items;
-      steps = map (λ s. s.steps.items) c.turn.new.shards;
+      lines = c.turn.new.block.lines;
       count = c.turn.new.block.count;
-    }) c.in-Ok-turn.is_end
-    c.if-is_end.true (c.in-Ok-turn.ensures.turns (record {
-      input = g.R.Read.remaining c.args.reader.now.inner;
-      out = g.W.Write.contents c.args.writer.now.inner;
-      hosts = map (λ s. s.host) c.args.shards.now;
-    })
-    c.loop-is_end.invariant.underway))
+    }) c.in-Ok-turn.is_end c.if-is_end.true
+    (turns_same g.H.Handler.meaning (length c.args.shards.now) (length c.loop-is_end.shards)
+    c.loop-is_end.auto.shards _ _ _ (Ok c.in-Ok-turn.is_end)
+    (c.in-Ok-turn.ensures.turns _ (under_same g.H.Handler.meaning (length c.args.shards.now)
+    (length c.loop-is_end.shards) c.loop-is_end.auto.shards _ _ _ c.loop-is_end.invariant.underway)))
 
 pub returns-in-Err-clause-some : goal.returns-in-Err-clause-some
 returns-in-Err-clause-some g c =
     subst (λ n. ServedSomeBy (ServesBy (HostsDo g.H.Handler.meaning (dealt n)))
     (g.R.Read.remaining c.args.reader.now.inner) (g.R.Read.remaining c.turn.new.reader.inner)
     (g.W.Write.contents c.args.writer.now.inner) (g.W.Write.contents c.turn.new.writer.inner)
-    (map (λ s. s.host) c.args.shards.now) (map (λ s. s.host) c.turn.new.shards)) c.loop-is_end.invariant.among
-    (c.in-Err.ensures.turns (record {
-      input = g.R.Read.remaining c.args.reader.now.inner;
-      out = g.W.Write.contents
-          c.args.writer.now.inner;
-      hosts = map (λ s. s.host) c.args.shards.now;
-    }) c.loop-is_end.invariant.underway)
-
-pub returns-then-is_end-clause-idle : goal.returns-then-is_end-clause-idle
-returns-then-is_end-clause-idle g c =
-    c.in-Ok-turn.ensures.idle (λ q.
-    let e = c.if-is_end.true in
-    absurd cc)
+    (map (λ s. s.host) c.args.shards.now) (map (λ s. s.host) c.turn.new.shards)) c.loop-is_end.auto.shards
+    (c.in-Err.ensures.turns _ (under_same g.H.Handler.meaning (length c.args.shards.now)
+    (length c.loop-is_end.shards) c.loop-is_end.auto.shards _ _ _ c.loop-is_end.invariant.underway))
 
 pub returns-then-is_end-clause-read_same : goal.returns-then-is_end-clause-read_same
 returns-then-is_end-clause-read_same g c apart =
@@ -151,10 +106,6 @@ returns-then-is_end-clause-read_same g c apart =
 pub returns-then-is_end-clause-write_same : goal.returns-then-is_end-clause-write_same
 returns-then-is_end-clause-write_same g c apart =
     c.in-Ok-turn.ensures.write_same (λ q. cc) ∙ c.loop-is_end.invariant.write_same
-
-pub returns-in-Err-clause-idle : goal.returns-in-Err-clause-idle
-returns-in-Err-clause-idle g c =
-    c.in-Err.ensures.idle (λ q. cc)
 
 pub returns-in-Err-clause-read : goal.returns-in-Err-clause-read
 returns-in-Err-clause-read g c e =

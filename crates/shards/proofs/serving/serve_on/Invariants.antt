@@ -1,17 +1,18 @@
 use Rattle.std.proofs.Common.{◌≡◌, ◌<◌, ◌≤◌, ◌+◌, ◌^◌, length, map, vec_capacity}
 use Rattle.model.specs.declared.limits.TheConstants.{MAX_LINE_BYTES}
 use Rattle.dealing.specs.Dealing.{dealt}
+use Rattle.shards.specs.Blocks.{AreIdle}
 use Rattle.shards.specs.Underway.{Underway}
 use Rattle.shards.proofs.serving.serve_on.Given as goal
 
 abbrev pub invariant-loop-is_end : goal.invariant-loop-is_end
 invariant-loop-is_end g l = record {
-  among : l.block.among ≡ length l.fn.shards;
   held : MAX_LINE_BYTES ≤ vec_capacity l.block.held;
+  idle : AreIdle (map (λ s. s.steps.items) l.shards);
   read_same : l.reader.failed ≡ l.fn.reader.failed;
   write_same : l.writer.failed ≡ l.fn.writer.failed;
   within : l.block.count + l.reader.left < 2 ^ 64;
-  underway : Underway g.H.Handler.meaning (dealt l.block.among)
+  underway : Underway g.H.Handler.meaning (dealt (length l.fn.shards))
       (record {
         input = g.R.Read.remaining l.fn.reader.inner;
         out = g.W.Write.contents l.fn.writer.inner;
@@ -25,8 +26,7 @@ invariant-loop-is_end g l = record {
       (record {
         held = l.block.held.items;
         is_long = l.block.is_long;
-        places = l.block.places.items;
-        steps = map (λ s. s.steps.items) l.shards;
+        lines = l.block.lines;
         count = l.block.count;
       });
 }
