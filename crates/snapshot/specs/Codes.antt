@@ -28,6 +28,11 @@ Decodes {A} code fits old x new = (v : A) (rest : List ℕ) → fits v → old �
 abbrev pub Unless : {A : Type 0} → Code A → (A → Type 0) → List ℕ → Type 0 → Type 0
 Unless {A} code fits old P = (v : A) (rest : List ℕ) → fits v → old ≡ code v rest → P
 
+-- The same of a value that was added at the end of a list.
+abbrev pub DecodesOnto : {A : Type 0} → Code A → (A → Type 0) → List ℕ → List A → List A → List ℕ → Type 0
+DecodesOnto {A} code fits old before after new = (v : A) (rest : List ℕ)
+    → fits v → old ≡ code v rest → (after ≡ before ++ v ∷ []) × (rest ≡ new)
+
 -- ---- numbers
 
 -- A number below 255 is one byte; any other is that byte and then eight, the low ones first.
