@@ -1,5 +1,5 @@
 -- How values are written as bytes, and read again.
-use Rattle.std.specs.Prelude.{◌≡◌, IsTrue, ℕ, ◌+◌, ◌<◌, ◌^◌, nat_lt, cond, List, [], ◌∷◌, ◌++◌, length, Option, None, Some}
+use Rattle.std.specs.Prelude.{◌≡◌, IsTrue, ℕ, ◌+◌, ◌<◌, ◌^◌, nat_lt, Bool, cond, List, [], ◌∷◌, ◌++◌, length, Option, None, Some}
 use Rattle.std.specs.Int.{to_le_bytes, w64}
 use Rattle.std.specs.Str.{IsUtf8}
 use Rattle.model.specs.declared.names.Mark.{Mark}
@@ -41,6 +41,10 @@ number_code n rest = cond (nat_lt n 255) (n ∷ rest) (255 ∷ (to_le_bytes w64 
 
 abbrev pub byte_code : Code ℕ
 byte_code n rest = n ∷ rest
+
+-- 1 where it is so, else 0
+abbrev pub bool_code : Code Bool
+bool_code b rest = byte_code (cond b 1 0) rest
 
 -- ---- several values
 

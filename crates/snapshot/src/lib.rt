@@ -13,6 +13,9 @@ mod portable;
 mod progress;
 mod records;
 mod texts;
+mod holds;
+mod tables;
+mod outlets;
 mod unit;
 mod vectors;
 
