@@ -6,6 +6,7 @@ mod containers;
 mod counts;
 mod fault;
 mod input;
+mod log;
 mod names;
 mod numbers;
 mod outputs;
