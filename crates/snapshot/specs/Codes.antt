@@ -1,5 +1,5 @@
 -- How values are written as bytes, and read again.
-use Rattle.std.specs.Prelude.{◌≡◌, IsTrue, ℕ, ◌+◌, ◌<◌, ◌^◌, nat_lt, cond, List, [], ◌∷◌, ◌++◌, length, Option, None, Some}
+use Rattle.std.specs.Prelude.{◌≡◌, IsTrue, ℕ, ◌+◌, ◌<◌, ◌^◌, nat_lt, Bool, cond, List, [], ◌∷◌, ◌++◌, length, Option, None, Some}
 use Rattle.std.specs.Int.{to_le_bytes, w64}
 use Rattle.std.specs.Str.{IsUtf8}
 use Rattle.model.specs.declared.names.Mark.{Mark}
@@ -28,6 +28,11 @@ Decodes {A} code fits old x new = (v : A) (rest : List ℕ) → fits v → old �
 abbrev pub Unless : {A : Type 0} → Code A → (A → Type 0) → List ℕ → Type 0 → Type 0
 Unless {A} code fits old P = (v : A) (rest : List ℕ) → fits v → old ≡ code v rest → P
 
+-- The same of a value that was added at the end of a list.
+abbrev pub DecodesOnto : {A : Type 0} → Code A → (A → Type 0) → List ℕ → List A → List A → List ℕ → Type 0
+DecodesOnto {A} code fits old before after new = (v : A) (rest : List ℕ)
+    → fits v → old ≡ code v rest → (after ≡ before ++ v ∷ []) × (rest ≡ new)
+
 -- ---- numbers
 
 -- A number below 255 is one byte; any other is that byte and then eight, the low ones first.
@@ -36,6 +41,10 @@ number_code n rest = cond (nat_lt n 255) (n ∷ rest) (255 ∷ (to_le_bytes w64 
 
 abbrev pub byte_code : Code ℕ
 byte_code n rest = n ∷ rest
+
+-- 1 where it is so, else 0
+abbrev pub bool_code : Code Bool
+bool_code b rest = byte_code (cond b 1 0) rest
 
 -- ---- several values
 

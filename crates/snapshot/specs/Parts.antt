@@ -1,5 +1,5 @@
 -- How the parts of a tenant are written as bytes.
-use Rattle.std.specs.Prelude.{◌≡◌, ℕ, ◌+◌, ◌≤◌, ◌<◌, ◌^◌, Bool, true, false, cond, List, ◌++◌, length, Option}
+use Rattle.std.specs.Prelude.{◌≡◌, ℕ, ◌+◌, ◌≤◌, ◌<◌, ◌^◌, Bool, true, false, cond, List, ◌++◌, length, map, Option}
 use Rattle.model.specs.declared.names.Mark.{Mark}
 use Rattle.model.specs.declared.names.Row.{Row}
 use Rattle.session.specs.declared.exchange.Exchange.{Exchange}
@@ -7,6 +7,7 @@ use Rattle.session.specs.Counts.{Counts}
 use Rattle.checkpoint.specs.declared.snapshot.Snapshot.{Snapshot}
 use Rattle.checkpoint.specs.Shelves.{Rises, Shelved}
 use Rattle.output_commit.specs.declared.held.Held.{Held}
+use Rattle.output_commit.specs.Holds.{Line}
 use Rattle.incarnation.specs.Filed.{Ordered}
 use Rattle.compact.specs.Compact.{Content, Interval, Letter, Progress}
 use Rattle.rollback.specs.Units.{IsKept, Recovering}
@@ -93,3 +94,26 @@ pub record FitsUnit {S : Type 0} (fits : S → Type 0) (u : Recovering S) : Type
   pub volatile : FitEach FitsRecord u.volatile
   pub shelf : FitsShelf fits u.shelf
   pub kept : IsKept u
+
+-- ---- what a unit holds, what it released, and the table of rows
+
+-- a unit and the outputs that it holds
+abbrev pub hold_code : Code (ℕ × List Held)
+hold_code h rest = byte_code h.0 (list_code held_code h.1 rest)
+
+abbrev pub FitsHold : ℕ × List Held → Type 0
+FitsHold h = (h.0 < 256) × FitEach FitsHeld h.1
+
+abbrev pub FitsTable : List Row → Type 0
+FitsTable rows = FitEach FitsRow rows × Ordered rows
+
+-- how many texts a unit gave up, and those behind them
+abbrev pub line_code : Code (ℕ × List (List ℕ))
+line_code line rest = number_code line.0 (list_code bytes_code line.1 rest)
+
+abbrev pub FitsLine : ℕ × List (List ℕ) → Type 0
+FitsLine line = FitEach FitsText line.1 × (line.0 + length line.1 < 2 ^ 64)
+
+-- what the units released, without the room that is left
+abbrev pub pairs_of : List Line → List (ℕ × List (List ℕ))
+pairs_of lines = map (λ l. (l.gone, l.texts)) lines

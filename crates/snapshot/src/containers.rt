@@ -57,10 +57,7 @@ fn decode_each<T: Coded>(
 }
 
 /// Takes the bytes of a list off the input: how many items there are, and each.
-pub(crate) fn decode_list<T: Coded>(
-    alloc: Global,
-    input: &mut Input,
-) -> Result<Vec<T>, DecodeFault>
+pub(crate) fn decode_list<T: Coded>(alloc: Global, input: &mut Input) -> Result<Vec<T>, DecodeFault>
     ensures ok { IfOk result (λ xs. Decodes (list_code T.code) (FitEach T.fits) input.old xs.items input.new) }
     ensures err { IfErr result (λ e. Unless (list_code T.code) (FitEach T.fits) input.old (e ≡ FaultOf.NoMemory)) }
 {

@@ -6,6 +6,7 @@ mod containers;
 mod counts;
 mod fault;
 mod input;
+mod log;
 mod names;
 mod numbers;
 mod outputs;
@@ -13,6 +14,9 @@ mod portable;
 mod progress;
 mod records;
 mod texts;
+mod holds;
+mod tables;
+mod outlets;
 mod unit;
 mod vectors;
 

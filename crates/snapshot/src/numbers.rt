@@ -1,7 +1,7 @@
-//! Numbers.
+//! Numbers, and whether something is so.
 
 ghost use Rattle.std.specs.Prelude.{◌≡◌, ◌<◌, ◌^◌, IfErr, IfOk};
-ghost use Rattle.snapshot.specs.Codes.{byte_code, number_code, Decodes, Encodes, Unless};
+ghost use Rattle.snapshot.specs.Codes.{bool_code, byte_code, number_code, Decodes, Encodes, Unless};
 ghost use Rattle.snapshot.specs.declared.fault.DecodeFault.{DecodeFault as FaultOf};
 
 use crate::coded::Coded;
@@ -98,5 +98,23 @@ impl Coded for u8 {
 
     fn decode(_alloc: Global, input: &mut Input) -> Result<u8, DecodeFault> {
         input.byte()
+    }
+}
+
+impl Coded for bool {
+    ghost code = { bool_code };
+
+    ghost fits = { λ _. Unit {0} };
+
+    fn encode(&self, out: &mut Vec<u8>) -> Result<(), NoMemory> {
+        u8::from(*self).encode(out)
+    }
+
+    fn decode(alloc: Global, input: &mut Input) -> Result<bool, DecodeFault> {
+        match u8::decode(alloc, input)? {
+            0 => Ok(false),
+            1 => Ok(true),
+            _ => Err(DecodeFault::Damaged),
+        }
     }
 }

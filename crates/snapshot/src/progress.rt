@@ -1,7 +1,8 @@
 //! How far a unit has come, and its snapshots.
 
-ghost use Rattle.std.specs.Prelude.{◌≡◌, ◌<◌, ◌^◌, IfErr, IfOk, length};
-ghost use Rattle.snapshot.specs.Codes.{list_code, option_code, Decodes, DecodesEach, Encodes, FitEach, FitsSome, Unless};
+ghost use Rattle.std.specs.Prelude.{◌≡◌, ◌<◌, ◌^◌, [], IfErr, IfOk, length};
+ghost use Rattle.snapshot.specs.Codes.{list_code, option_code, Decodes, DecodesEach, DecodesOnto, Encodes, FitEach};
+ghost use Rattle.snapshot.specs.Codes.{FitsSome, Unless};
 ghost use Rattle.std.specs.Option.{option_copied};
 ghost use Rattle.snapshot.specs.Codes.{each_code, AllFit, UnlessEach};
 ghost use Rattle.snapshot.specs.Parts.{progress_code, shelf_code, snapshot_code, FitsProgress, FitsShelf, FitsSnapshot};
@@ -53,9 +54,9 @@ pub(crate) fn encode_some<H: Portable>(
     progress: Option<&Progress<H::State>>,
     out: &mut Vec<u8>,
 ) -> Result<(), NoMemory>
-    ensures code { IfOk result (λ _. Encodes (option_code (progress_code H.state_code)) (option_copied progress)
+    ensures code { IfOk result (λ _. Encodes (option_code (progress_code H.state_code)) (option_copied progress.entry)
         out.old.items out.new.items) }
-    ensures fits { IfOk result (λ _. FitsSome (FitsProgress H.state_fits) (option_copied progress)) }
+    ensures fits { IfOk result (λ _. FitsSome (FitsProgress H.state_fits) (option_copied progress.entry)) }
 {
     match progress {
         None => 0u8.encode(out),
@@ -132,6 +133,43 @@ fn encode_each_snapshot<H: Portable>(
     Ok(())
 }
 
+/// Takes the bytes of a snapshot off the input, and adds it at the end.
+fn decode_onto<H: Portable>(
+    handler: &H,
+    alloc: Global,
+    input: &mut Input,
+    snapshots: &mut Vec<Snapshot<Progress<H::State>>>,
+) -> Result<(), DecodeFault>
+    ensures ok { IfOk result (λ _. DecodesOnto (snapshot_code H.state_code) (FitsSnapshot H.state_fits)
+        input.old snapshots.old.items snapshots.new.items input.new) }
+    ensures err { IfErr result (λ e.
+        Unless (snapshot_code H.state_code) (FitsSnapshot H.state_fits) input.old (e ≡ FaultOf.NoMemory)) }
+{
+    let snapshot = decode_snapshot(handler, alloc, input)?;
+    put(snapshots, snapshot)?;
+    Ok(())
+}
+
+/// Takes the bytes of so many snapshots off the input, and adds them at the end.
+fn decode_all_onto<H: Portable>(
+    handler: &H,
+    alloc: Global,
+    input: &mut Input,
+    count: usize,
+    snapshots: &mut Vec<Snapshot<Progress<H::State>>>,
+) -> Result<(), DecodeFault>
+    requires { snapshots.old.items ≡ [] }
+    ensures ok { IfOk result (λ _. DecodesEach (snapshot_code H.state_code) (FitsSnapshot H.state_fits) count
+        input.old snapshots.new.items input.new) }
+    ensures err { IfErr result (λ e. UnlessEach (snapshot_code H.state_code) (FitsSnapshot H.state_fits) count
+        input.old (e ≡ FaultOf.NoMemory)) }
+{
+    for _ in 0..count {
+        decode_onto(handler, alloc, input, snapshots)?;
+    }
+    Ok(())
+}
+
 /// Takes the bytes of so many snapshots off the input.
 fn decode_each_snapshot<H: Portable>(
     handler: &H,
@@ -145,10 +183,7 @@ fn decode_each_snapshot<H: Portable>(
         input.old (e ≡ FaultOf.NoMemory)) }
 {
     let mut snapshots = Vec::new(alloc);
-    for _ in 0..count {
-        let snapshot = decode_snapshot(handler, alloc, input)?;
-        put(&mut snapshots, snapshot)?;
-    }
+    decode_all_onto(handler, alloc, input, count, &mut snapshots)?;
     Ok(snapshots)
 }
 
@@ -158,9 +193,9 @@ fn encode_base<H: Portable>(
     base: Option<&Snapshot<Progress<H::State>>>,
     out: &mut Vec<u8>,
 ) -> Result<(), NoMemory>
-    ensures code { IfOk result (λ _. Encodes (option_code (snapshot_code H.state_code)) (option_copied base)
+    ensures code { IfOk result (λ _. Encodes (option_code (snapshot_code H.state_code)) (option_copied base.entry)
         out.old.items out.new.items) }
-    ensures fits { IfOk result (λ _. FitsSome (FitsSnapshot H.state_fits) (option_copied base)) }
+    ensures fits { IfOk result (λ _. FitsSome (FitsSnapshot H.state_fits) (option_copied base.entry)) }
 {
     match base {
         None => 0u8.encode(out),

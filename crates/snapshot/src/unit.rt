@@ -1,6 +1,7 @@
 //! Units.
 
-ghost use Rattle.std.specs.Prelude.{◌≡◌, ◌∷◌, [], ◌++◌, IfErr, IfOk, drop, length};
+ghost use Rattle.std.specs.Prelude.{◌≡◌, ◌+◌, ◌∷◌, [], ◌++◌, IfErr, IfOk, drop, length};
+ghost use Rattle.rollback.specs.Units.{places};
 ghost use Rattle.snapshot.specs.Codes.{each_code, list_code, record_code, AllFit, Decodes, Encodes, FitEach, FitsRecord};
 ghost use Rattle.snapshot.specs.Codes.{Unless};
 ghost use Rattle.snapshot.specs.Parts.{interval_code, unit_code, FitsInterval, FitsUnit};
@@ -23,9 +24,11 @@ use volatile_log::VolatileLog;
 fn encode_each_interval<H: Handler>(
     unit: &RecoveryUnit<H>,
     count: usize,
+    last: u32,
     out: &mut Vec<u8>,
 ) -> Result<(), NoMemory>
-    requires { count ≡ length unit.now.intervals }
+    requires count { count ≡ length unit.now.intervals }
+    requires last { last + 1 ≡ places unit.now }
     ensures code { IfOk result (λ _.
         Encodes (each_code interval_code) unit.now.intervals out.old.items out.new.items) }
     ensures fits { IfOk result (λ _. AllFit FitsInterval unit.now.intervals) }
@@ -43,9 +46,10 @@ fn encode_intervals<H: Handler>(unit: &RecoveryUnit<H>, out: &mut Vec<u8>) -> Re
         Encodes (list_code interval_code) unit.now.intervals out.old.items out.new.items) }
     ensures fits { IfOk result (λ _. FitEach FitsInterval unit.now.intervals) }
 {
-    let count = (unit.last_index() - unit.base()) as usize + 1;
+    let last = unit.last_index();
+    let count = (last - unit.base()) as usize + 1;
     count.encode(out)?;
-    encode_each_interval(unit, count, out)
+    encode_each_interval(unit, count, last, out)
 }
 
 /// Appends the bytes of each record that is volatile.
@@ -76,16 +80,32 @@ fn encode_volatile<H: Handler>(unit: &RecoveryUnit<H>, out: &mut Vec<u8>) -> Res
     encode_each_record(unit, count, out)
 }
 
+/// Adds an interval at the end.
+fn put_last(queue: &mut VecDeque<Interval>, interval: Interval) -> Result<(), NoMemory>
+    ensures { IfOk result (λ _. queue.new.items ≡ queue.old.items ++ interval ∷ []) }
+{
+    queue.push_back(interval)?;
+    Ok(())
+}
+
 /// The intervals in a queue.
 fn queued(alloc: Global, intervals: Vec<Interval>) -> Result<VecDeque<Interval>, NoMemory>
     ensures { IfOk result (λ q. q.items ≡ intervals.items) }
 {
     let mut queue = VecDeque::new(alloc);
-    queue.reserve(intervals.len())?;
     for interval in intervals {
-        queue.push_back_reserved(interval);
+        put_last(&mut queue, interval)?;
     }
     Ok(queue)
+}
+
+/// Adds a record at the end.
+fn log_last(log: &mut VolatileLog, logged: Record) -> Result<(), NoMemory>
+    ensures { IfOk result (λ _. log.new.records ≡ log.old.records ++ logged ∷ []) }
+{
+    log.reserve(1)?;
+    log.push(logged);
+    Ok(())
 }
 
 /// The records in a log.
@@ -93,9 +113,8 @@ fn logged(alloc: Global, records: Vec<Record>) -> Result<VolatileLog, NoMemory>
     ensures { IfOk result (λ log. log.records ≡ records.items) }
 {
     let mut log = VolatileLog::new(alloc);
-    log.reserve(records.len())?;
     for record in records {
-        log.push(record);
+        log_last(&mut log, record)?;
     }
     Ok(log)
 }

@@ -10,8 +10,7 @@ loop-preserved g c = λ vs rest len fit is.
     let x = there vs c.loop.counter (let a = c.loop-test.true in omega (arith, a, len)) in
     let fits = subst (AllFit g.T.Coded.fits) x.1 before.2 in
     let read = c.in_ok-item.ensures.ok x.0 (each_code g.T.Coded.code (drop (c.loop.counter + 1) vs) rest) fits.0
-        (before.1 ∙ ap (λ xs. each_code g.T.Coded.code xs rest) x.1) in
-    (
+    (before.1 ∙ ap (λ xs. each_code g.T.Coded.code xs rest) x.1) in (
       c.in_ok-put.ensures ∙ (λ i. before.0 i ++ sym read.0 i ∷ []) ∙ sym x.2,
       sym read.1,
       fits.1,
@@ -20,12 +19,12 @@ loop-preserved g c = λ vs rest len fit is.
 pub returns-in_err-item-clause-err : goal.returns-in_err-item-clause-err
 returns-in_err-item-clause-err g c =
     let only : UnlessEach g.T.Coded.code g.T.Coded.fits c.args.count c.args.input.now (c.in_err-item.field-0.0 ≡ NoMemory)
-        = λ vs rest len fit is.
-        let before = c.loop.invariant vs rest len fit is in
-        let x = there vs c.loop.counter (let a = c.loop-test.true in omega (arith, a, len)) in
-        c.in_err-item.ensures.err x.0 (each_code g.T.Coded.code (drop (c.loop.counter + 1) vs) rest)
-        (subst (AllFit g.T.Coded.fits) x.1 before.2).0
-        (before.1 ∙ ap (λ xs. each_code g.T.Coded.code xs rest) x.1) in
+    = λ vs rest len fit is.
+    let before = c.loop.invariant vs rest len fit is in
+    let x = there vs c.loop.counter (let a = c.loop-test.true in omega (arith, a, len)) in
+    c.in_err-item.ensures.err x.0 (each_code g.T.Coded.code (drop (c.loop.counter + 1) vs) rest)
+    (subst (AllFit g.T.Coded.fits) x.1 before.2).0
+    (before.1 ∙ ap (λ xs. each_code g.T.Coded.code xs rest) x.1) in
     search (rules, only)
 
 pub returns-clause-ok : goal.returns-clause-ok

@@ -10,7 +10,8 @@ loop-place-preserved g c =
     let all = c.args.unit.now.intervals in
     let there : slice_get c.args.unit.now.intervals c.loop-place.place ≡ Some c.interval.result.now =
     ap (slice_get c.args.unit.now.intervals) (let k : c.loop-place.place
-    ≡ (c.args.unit.now.base + c.loop-place.place) - c.args.unit.now.base = omega arith in k) ∙ c.interval.ensures in
+    ≡ (c.base-base.result + c.loop-place.place) - c.args.unit.now.base
+    = let e = c.base-base.ensures in omega (arith, e) in k) ∙ c.interval.ensures in
     let left = found_drop all c.loop-place.place c.interval.result.now there in
     record {
       code = λ rest. c.in_ok-encode.ensures.code (each_code interval_code (drop (c.loop-place.place + 1) all) rest)

@@ -1,7 +1,7 @@
 use Rattle.std.proofs.Common.{◌≡◌, List, ℕ, length, drop, take}
 use Rattle.snapshot.specs.Codes.{AllFit, each_code}
 use Rattle.snapshot.specs.Parts.{FitsSnapshot, snapshot_code}
-use Rattle.snapshot.proofs.progress.decode_each_snapshot.Given as goal
+use Rattle.snapshot.proofs.progress.decode_all_onto.Given as goal
 
 -- of items that fit, so many were read, and the others are left
 abbrev pub invariant-loop : goal.invariant-loop

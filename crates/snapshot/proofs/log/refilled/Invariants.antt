@@ -1,0 +1,6 @@
+use Rattle.std.proofs.Common.{◌≡◌}
+use Rattle.shared_log.specs.Filled.{filled}
+use Rattle.snapshot.proofs.log.refilled.Given as goal
+
+abbrev pub invariant-loop-place : goal.invariant-loop-place
+invariant-loop-place l = l.made.records ≡ filled l.count l.yielded
