@@ -46,8 +46,9 @@ pub(crate) fn answer<T: Threads + Sync, W: Write, H: Handler + Send, S: Store + 
 ) -> Result<(), ServeFault>
     requires some { 0 < length shards.old }
     requires idle { AreIdle (map (λ s. s.steps.items) shards.old) }
-    ensures ok { OnOk result (AnswersLines H.meaning (dealt (length shards.old)) lines.now (map (λ s. s.host) shards.old)
-        (map (λ s. s.host) shards.new) (Appends (W.contents writer.old.inner) (W.contents writer.new.inner))) }
+    ensures ok { OnOk result (AnswersLines H.meaning (dealt (length shards.old)) lines.now
+        (map (λ s. s.host) shards.old) (map (λ s. s.host) shards.new)
+        (Appends (W.contents writer.old.inner) (W.contents writer.new.inner))) }
     ensures err { OnErr result (AnswersLines H.meaning (dealt (length shards.old)) lines.now
         (map (λ s. s.host) shards.old) (map (λ s. s.host) shards.new)
         (AppendsBeginning (W.contents writer.old.inner) (W.contents writer.new.inner))) }
@@ -60,8 +61,8 @@ pub(crate) fn answer<T: Threads + Sync, W: Write, H: Handler + Send, S: Store + 
     write_all(alloc, writer, shards, desk.places.as_slice(), &desk.faults)
 }
 
-/// Reads these lines and does their steps, and writes no reply. Where there are enough of them, they are read in threads,
-/// and each shard does its steps in a thread of its own.
+/// Reads these lines and does their steps, and writes no reply. Where there are enough of them, they are read in
+/// threads, and each shard does its steps in a thread of its own.
 pub(crate) fn step_lines<T: Threads + Sync, H: Handler + Send, S: Store + Send>(
     rt: &T,
     shards: &mut [Shard<H, S>],

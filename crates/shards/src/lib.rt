@@ -3,8 +3,8 @@
 //!
 //! - `Shards`: some hosts, one for each thread. By isolation no tenant can tell that others stand on another host.
 //! - `serve_shards`: answers each line of a reader, in order, as `lines::serve_host` does. What the reader shows at
-//!   once is a block: its lines are read in threads and dealt, each shard does its own steps in a thread of its own, and
-//!   the replies are written in the order of the lines.
+//!   once is a block: its lines are read in threads and dealt, each shard does its own steps in a thread of its own,
+//!   and the replies are written in the order of the lines.
 //!
 //! `dealing` says which book some hosts stand for together, and its law `shards_run` what a run by them is as a
 //! whole. `specs/Kept` says what is kept of a line, `specs/Blocks` what is read of a block and what is written of it,

@@ -82,7 +82,8 @@ pub(crate) fn read_shares<T: Threads + Sync>(
         readers,
         threads,
         &|at, reader: &mut Reader|
-            ensures { AreReadFrom lines.entry.now (min (at * size) (length lines.entry.now)) reader.exit.now.found.items }
+            ensures { AreReadFrom lines.entry.now (min (at * size) (length lines.entry.now))
+                reader.exit.now.found.items }
         { read_share(reader, lines, size, at) },
     );
 }
