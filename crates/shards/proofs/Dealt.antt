@@ -1,7 +1,7 @@
 -- What was read of lines is dealt, one line after the other.
 use Rattle.std.proofs.Common.{◌≡◌, ◌<◌, ◌≤◌, ◌+◌, ◌*◌, ◌/◌, ◌%◌, ℕ, List, [], ◌∷◌, ◌++◌, length, min}
-use Rattle.std.proofs.Common.{refl, sym, ap, subst, ◌∙◌, arith, length-append, mul-add, mul_comm, mul-one, div-add-mod'}
-use Rattle.std.proofs.Common.{mod-lt, suc-mul, add-one}
+use Rattle.std.proofs.Common.{refl, sym, ap, subst, ◌∙◌, arith, length-append, mul-add, mul_comm, mul-one}
+use Rattle.std.proofs.Common.{div-add-mod', mod-lt, suc-mul, add-one}
 use Rattle.std.specs.Prelude.{Result}
 use Rattle.std.proofs.lemmas.List.{length-map}
 use Rattle.model.specs.declared.steps.Step.{Step}
@@ -31,8 +31,8 @@ dealt_more n m lines at places places' steps steps' read reading place same so i
       are_read = AreReadFrom-more lines 0 at so.readings reading so.are_read (omega (arith, so.counted))
           (reading_or lines at read reading is or);
       counted = length-append so.readings (reading ∷ []) ∙ ap (λ k. k + 1) so.counted;
-      are_dealt = subst (λ k. DealsMore (dealt k) reading place steps steps') same deals so.readings places
-          so.are_dealt;
+      are_dealt = subst (λ k. DealsMore (dealt k) reading place steps steps') same deals
+          so.readings places so.are_dealt;
     })
 
 -- No line is dealt where no place is there and no shard has a step.

@@ -1,5 +1,5 @@
 -- What each shard does of a block's lines, taken together.
-use Rattle.std.proofs.Common.{◌≡◌, ◌<◌, ◌+◌, ℕ, List, [], ◌∷◌, ◌++◌, length, map}
+use Rattle.std.proofs.Common.{◌≡◌, ◌<◌, ℕ, List, [], ◌∷◌, ◌++◌, length, map}
 use Rattle.std.proofs.Common.{get_or, set, cond, All, true, false, refl, sym, ap, subst, ◌∙◌, ◌⊎◌, inl, inr}
 use Rattle.std.proofs.Common.{length-set, append-nil}
 use Rattle.std.specs.Prelude.{Some, Result, Ok, Err, slice_get, ◌==◌}

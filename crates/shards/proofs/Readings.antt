@@ -1,6 +1,6 @@
 -- What is kept of lines, and what is read of that.
-use Rattle.std.proofs.Common.{◌≡◌, ◌<◌, ◌≤◌, ◌+◌, ◌-◌, ℕ, suc, List, [], ◌∷◌, ◌++◌, length, map, get_or, take, drop}
-use Rattle.std.proofs.Common.{All, cond, Bool}
+use Rattle.std.proofs.Common.{◌≡◌, ◌<◌, ◌+◌, ◌-◌, ℕ, suc, List, [], ◌∷◌, ◌++◌, length, map, get_or, take, drop, All}
+use Rattle.std.proofs.Common.{cond, Bool}
 use Rattle.std.proofs.Common.{true, false, Option}
 use Rattle.std.proofs.Common.{refl, sym, ap, subst, ◌∙◌, inl, inr, arith}
 use Rattle.std.specs.Prelude.{Some, Result, Ok, Err, is_err, is_ok, slice_get, option_map}
@@ -178,8 +178,8 @@ kept_more bytes bytes' more spans spans' span lines grown all pushed is =
 
 -- What is read of a line is added where there is memory for it.
 pub added : {E : Type 0} (r : Result Unit E) (found found' : List (Result Step LineFault))
-    (read : Result Step LineFault)
-    → found' ≡ cond (is_ok r) (found ++ read ∷ []) found → is_err r ≡ false → found' ≡ found ++ read ∷ []
+    (read : Result Step LineFault) → found' ≡ cond (is_ok r) (found ++ read ∷ []) found
+    → is_err r ≡ false → found' ≡ found ++ read ∷ []
 added (Ok x) found found' read is good = is
 added (Err e) found found' read is good = absurd cc
 

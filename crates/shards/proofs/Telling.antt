@@ -1,5 +1,5 @@
 -- The lines of a shard's replies, behind one another, and all of them in the order of the lines.
-use Rattle.std.proofs.Common.{◌≡◌, ◌<◌, ◌≤◌, ◌+◌, ◌-◌, ℕ, List, [], ◌∷◌, ◌++◌, length, map, drop, take, get_or}
+use Rattle.std.proofs.Common.{◌≡◌, ◌<◌, ◌≤◌, ◌+◌, ℕ, List, [], ◌∷◌, ◌++◌, length, map, drop, take, get_or}
 use Rattle.std.proofs.Common.{set, replicate, cond, Bool, true, false, refl, sym, ap, subst, ◌∙◌, inl, inr}
 use Rattle.std.proofs.Common.{arith, append_assoc, append-nil, length-append, length-drop}
 use Rattle.std.specs.Prelude.{Option, flat_map}

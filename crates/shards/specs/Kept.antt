@@ -1,5 +1,5 @@
 -- What is kept of a line until it is answered, and what may be read of it.
-use Rattle.std.specs.Prelude.{◌≡◌, ◌<◌, ◌≤◌, ◌+◌, ◌-◌, ◌⊎◌, ℕ, List, [], ◌∷◌, length, take, drop, Bool, true, false}
+use Rattle.std.specs.Prelude.{◌≡◌, ◌≤◌, ◌+◌, ◌-◌, ◌⊎◌, ℕ, List, [], ◌∷◌, take, drop, Bool, true, false}
 use Rattle.std.specs.Prelude.{Result, Ok, Err, Some, slice_get}
 use Rattle.model.specs.declared.steps.Step.{Step}
 use Rattle.forms.specs.declared.fault.LineFault.{LineFault}

@@ -46,9 +46,9 @@ pub(crate) fn answer<T: Threads + Sync, W: Write, H: Handler + Send, S: Store + 
 ) -> Result<(), ServeFault>
     requires some { 0 < length shards.old }
     requires idle { AreIdle (map (λ s. s.steps.items) shards.old) }
-    ensures ok { OnOk result (AnswersLines H.meaning (dealt (length shards.old)) lines.now (map
-        (λ s. s.host) shards.old)
-        (map (λ s. s.host) shards.new) (Appends (W.contents writer.old.inner) (W.contents writer.new.inner))) }
+    ensures ok { OnOk result (AnswersLines H.meaning (dealt (length shards.old)) lines.now
+        (map (λ s. s.host) shards.old) (map (λ s. s.host) shards.new)
+        (Appends (W.contents writer.old.inner) (W.contents writer.new.inner))) }
     ensures err { OnErr result (AnswersLines H.meaning (dealt (length shards.old)) lines.now
         (map (λ s. s.host) shards.old) (map (λ s. s.host) shards.new)
         (AppendsBeginning (W.contents writer.old.inner) (W.contents writer.new.inner))) }

@@ -1,4 +1,4 @@
-use Rattle.std.proofs.Common.{◌≡◌, ◌∙◌, length, map, ap, refl, subst}
+use Rattle.std.proofs.Common.{◌≡◌, ◌∙◌, length, map, ap, subst}
 use Rattle.std.specs.Prelude.{Ok, Err}
 use Rattle.lines.specs.declared.fault.ServeFault.TheVariants.{Write}
 use Rattle.dealing.specs.Dealing.{dealt}

@@ -1,4 +1,4 @@
-use Rattle.std.proofs.Common.{◌≡◌, ◌∙◌, ap, length, map, subst}
+use Rattle.std.proofs.Common.{◌≡◌, ◌∙◌, ap, length, subst}
 use Rattle.model.specs.Failures.{HasRisen}
 use Rattle.std.specs.Prelude.{Err}
 use Rattle.lines.specs.declared.fault.ServeFault.TheVariants.{Write}
