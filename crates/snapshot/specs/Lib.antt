@@ -1,3 +1,4 @@
 pub mod Codes
 pub mod Parts
 pub mod Logs
+pub mod Tenants

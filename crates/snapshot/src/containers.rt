@@ -31,6 +31,14 @@ pub(crate) fn encode_list<T: Coded>(items: &[T], out: &mut Vec<u8>) -> Result<()
     encode_each(items, out)
 }
 
+/// Appends the bytes of the list of a vector.
+pub(crate) fn encode_vec<T: Coded>(items: &Vec<T>, out: &mut Vec<u8>) -> Result<(), NoMemory>
+    ensures code { IfOk result (λ _. Encodes (list_code T.code) items.now.items out.old.items out.new.items) }
+    ensures fits { IfOk result (λ _. FitEach T.fits items.now.items) }
+{
+    encode_list(items.as_slice(), out)
+}
+
 /// Adds an item at the end.
 pub(crate) fn put<T: Drop>(items: &mut Vec<T>, item: T) -> Result<(), NoMemory>
     ensures { IfOk result (λ _. items.new.items ≡ items.old.items ++ item ∷ []) }

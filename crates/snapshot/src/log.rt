@@ -84,7 +84,8 @@ fn refilled(
     count: u64,
     pairs: Vec<(u64, Record)>,
 ) -> Result<SharedLog<MemoryStore>, FillFault>
-    ensures { IfOk result (λ made. made.records ≡ filled count pairs.items) }
+    ensures records { IfOk result (λ made. made.records ≡ filled count pairs.items) }
+    ensures failures { IfOk result (λ made. made.failures ≡ 0) }
 {
     let mut made = SharedLog::vacant(alloc, count);
     for (place, logged) in pairs {
@@ -94,10 +95,7 @@ fn refilled(
 }
 
 /// The live records of a log, each with its place.
-fn live_pairs(
-    alloc: Global,
-    log: &SharedLog<MemoryStore>,
-) -> Result<Vec<(u64, Record)>, NoMemory>
+fn live_pairs(alloc: Global, log: &SharedLog<MemoryStore>) -> Result<Vec<(u64, Record)>, NoMemory>
     ensures live { IfOk result (λ pairs. AreLiveIn log.now.records pairs.items) }
     ensures all { IfOk result (λ pairs. HaveAllLive log.now.records pairs.items) }
 {
@@ -129,10 +127,7 @@ pub(crate) fn encode_log(
 }
 
 /// Takes how many places a log has, and its live records, off the input.
-fn decode_pairs(
-    alloc: Global,
-    input: &mut Input,
-) -> Result<(u64, Vec<(u64, Record)>), DecodeFault>
+fn decode_pairs(alloc: Global, input: &mut Input) -> Result<(u64, Vec<(u64, Record)>), DecodeFault>
     ensures ok { IfOk result (λ p. Decodes log_code FitsLog input.old (p.0, p.1.items) input.new) }
     ensures err { IfErr result (λ e. Unless log_code FitsLog input.old (e ≡ FaultOf.NoMemory)) }
 {
@@ -147,7 +142,8 @@ fn made(
     count: u64,
     pairs: Vec<(u64, Record)>,
 ) -> Result<SharedLog<MemoryStore>, DecodeFault>
-    ensures { IfOk result (λ log. log.records ≡ filled count pairs.items) }
+    ensures records { IfOk result (λ log. log.records ≡ filled count pairs.items) }
+    ensures failures { IfOk result (λ log. log.failures ≡ 0) }
 {
     match refilled(alloc, count, pairs) {
         Ok(log) => Ok(log),
@@ -165,7 +161,8 @@ pub(crate) fn decode_log(
     alloc: Global,
     input: &mut Input,
 ) -> Result<SharedLog<MemoryStore>, DecodeFault>
-    ensures { IfOk result (λ log. ReadsLog input.old log.records input.new) }
+    ensures records { IfOk result (λ log. ReadsLog input.old log.records input.new) }
+    ensures failures { IfOk result (λ log. log.failures ≡ 0) }
 {
     let (count, pairs) = decode_pairs(alloc, input)?;
     let log = made(alloc, count, pairs)?;

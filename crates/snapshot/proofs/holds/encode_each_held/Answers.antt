@@ -8,7 +8,7 @@ pub loop-place-preserved : goal.loop-place-preserved
 loop-place-preserved c =
     let all = c.args.hold.now.outputs in
     let x = found all c.loop-place.place
-        (let a = c.loop-place-test.true in let b = c.requires in omega (arith, a, b)) in
+    (let a = c.loop-place-test.true in let b = c.requires in omega (arith, a, b)) in
     let left = found_drop all c.loop-place.place x.0 x.1 in
     record {
       code = λ rest. c.in_ok-encode_held.ensures.code x.0 x.1

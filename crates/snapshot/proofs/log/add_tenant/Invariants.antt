@@ -8,5 +8,5 @@ invariant-loop-number l = record {
   grown : (place : ℕ) → Contains l.fn.places.items place → Contains l.places.items place;
   met : (unit : ℕ) → unit < l.number → (place : ℕ) → Contains (places_of l.tenant unit l.log) place
       → Contains l.places.items place;
-  held : All (IsHeld l.log.records) l.fn.places.items → All (IsHeld l.log.records) l.places.items
+  held : All (IsHeld l.log.records) l.fn.places.items → All (IsHeld l.log.records) l.places.items;
 }

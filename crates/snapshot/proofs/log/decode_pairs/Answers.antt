@@ -7,8 +7,8 @@ use Rattle.snapshot.proofs.log.decode_pairs.Goals as goal
 pub returns-in_err-pairs-clause-err : goal.returns-in_err-pairs-clause-err
 returns-in_err-pairs-clause-err c =
     let only : Unless log_code FitsLog c.args.input.now (c.in_err-pairs.field-0.0 ≡ NoMemory) = λ v rest fit is.
-        let count = c.in_ok-count.ensures.ok v.0 _ fit.0 is in
-        c.in_err-pairs.ensures.err v.1 rest fit.1 (sym count.1) in
+    let count = c.in_ok-count.ensures.ok v.0 _ fit.0 is in
+    c.in_err-pairs.ensures.err v.1 rest fit.1 (sym count.1) in
     search (rules, only)
 
 pub returns-clause-ok : goal.returns-clause-ok

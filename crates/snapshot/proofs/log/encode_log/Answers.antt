@@ -8,15 +8,14 @@ pub returns : goal.returns
 returns c =
     let pairs = c.in_ok-pairs.pairs.items in
     let same : (c.len.result, c.as_slice.result.now) ≡ (length c.args.log.now.records, c.in_ok-pairs.pairs.items) =
-        λ i. (c.len.ensures i, c.as_slice.ensures.value i) in
+    λ i. (c.len.ensures i, c.as_slice.ensures.value i) in
     let written : AreWritten c.args.log.now.records c.in_ok-pairs.pairs.items = record {
       live = c.in_ok-pairs.ensures.live;
       all = c.in_ok-pairs.ensures.all;
       fit = subst FitsLog same c.in_ok-encode_pairs.ensures.fits;
-    } in
-    (
+    } in (
       pairs,
       written,
       subst (λ (log : ℕ × List (ℕ × Record)). Encodes log_code log c.args.out.now.items c.encode_pairs.new.out.items) same
-      c.in_ok-encode_pairs.ensures.code,
+          c.in_ok-encode_pairs.ensures.code,
     )

@@ -7,5 +7,5 @@ abbrev pub invariant-loop-tenant : goal.invariant-loop-tenant
 invariant-loop-tenant l = record {
   met : All (λ (t : List ℕ). (unit place : ℕ) → Contains (places_of t unit l.log) place
       → Contains l.places.items place) (take l.tenant-index l.names);
-  held : All (IsHeld l.log.records) l.places.items
+  held : All (IsHeld l.log.records) l.places.items;
 }

@@ -11,19 +11,19 @@ loop-preserved c = λ vs rest len fit is.
     let x = there vs c.loop.counter (let a = c.loop-test.true in omega (arith, a, len)) in
     let fits = subst (AllFit FitsLine) x.1 before.2 in
     let read = c.in_ok-decode_onto.ensures.ok x.0 (each_code line_code (drop (c.loop.counter + 1) vs) rest) fits.0
-        (before.1 ∙ ap (λ xs. each_code line_code xs rest) x.1) in
+    (before.1 ∙ ap (λ xs. each_code line_code xs rest) x.1) in
     (read.0 ∙ ap (λ xs. xs ++ x.0 ∷ []) before.0 ∙ sym x.2, sym read.1, fits.1)
 
 pub returns-in_err-decode_onto-clause-err : goal.returns-in_err-decode_onto-clause-err
 returns-in_err-decode_onto-clause-err c =
     let only : UnlessEach line_code FitsLine c.args.count c.args.input.now
-        (c.in_err-decode_onto.field-0.0 ≡ NoMemory)
-        = λ vs rest len fit is.
-        let before = c.loop.invariant vs rest len fit is in
-        let x = there vs c.loop.counter (let a = c.loop-test.true in omega (arith, a, len)) in
-        c.in_err-decode_onto.ensures.err x.0 (each_code line_code (drop (c.loop.counter + 1) vs) rest)
-        (subst (AllFit FitsLine) x.1 before.2).0
-        (before.1 ∙ ap (λ xs. each_code line_code xs rest) x.1) in
+    (c.in_err-decode_onto.field-0.0 ≡ NoMemory)
+    = λ vs rest len fit is.
+    let before = c.loop.invariant vs rest len fit is in
+    let x = there vs c.loop.counter (let a = c.loop-test.true in omega (arith, a, len)) in
+    c.in_err-decode_onto.ensures.err x.0 (each_code line_code (drop (c.loop.counter + 1) vs) rest)
+    (subst (AllFit FitsLine) x.1 before.2).0
+    (before.1 ∙ ap (λ xs. each_code line_code xs rest) x.1) in
     search (rules, only)
 
 pub returns-clause-ok : goal.returns-clause-ok
