@@ -1,5 +1,6 @@
 -- How values are written as bytes, and read again.
-use Rattle.std.specs.Prelude.{◌≡◌, IsTrue, ℕ, ◌+◌, ◌<◌, ◌^◌, nat_lt, Bool, cond, List, [], ◌∷◌, ◌++◌, length, Option, None, Some}
+use Rattle.std.specs.Prelude.{◌≡◌, IsTrue, ℕ, ◌+◌, ◌<◌, ◌^◌, nat_lt, Bool, cond, List, [], ◌∷◌, ◌++◌, length, Option}
+use Rattle.std.specs.Prelude.{None, Some}
 use Rattle.std.specs.Int.{to_le_bytes, w64}
 use Rattle.std.specs.Str.{IsUtf8}
 use Rattle.model.specs.declared.names.Mark.{Mark}

@@ -1,7 +1,8 @@
 //! Several values.
 
 ghost use Rattle.std.specs.Prelude.{◌≡◌, ◌<◌, ◌^◌, ◌++◌, ◌∷◌, [], IfErr, IfOk, List, length};
-ghost use Rattle.snapshot.specs.Codes.{AllFit, each_code, list_code, option_code, pair_code, Decodes, DecodesEach, Encodes};
+ghost use Rattle.snapshot.specs.Codes.{AllFit, each_code, list_code, option_code, pair_code, Decodes, DecodesEach};
+ghost use Rattle.snapshot.specs.Codes.{Encodes};
 ghost use Rattle.snapshot.specs.Codes.{FitEach, FitsSome, Unless, UnlessEach};
 ghost use Rattle.snapshot.specs.declared.fault.DecodeFault.{DecodeFault as FaultOf};
 

@@ -2,7 +2,8 @@
 
 ghost use Rattle.std.specs.Prelude.{◌≡◌, ◌+◌, ◌∷◌, [], ◌++◌, IfErr, IfOk, drop, length};
 ghost use Rattle.rollback.specs.Units.{places};
-ghost use Rattle.snapshot.specs.Codes.{each_code, list_code, record_code, AllFit, Decodes, Encodes, FitEach, FitsRecord};
+ghost use Rattle.snapshot.specs.Codes.{each_code, list_code, record_code, AllFit, Decodes, Encodes, FitEach};
+ghost use Rattle.snapshot.specs.Codes.{FitsRecord};
 ghost use Rattle.snapshot.specs.Codes.{Unless};
 ghost use Rattle.snapshot.specs.Parts.{interval_code, unit_code, FitsInterval, FitsUnit};
 ghost use Rattle.snapshot.specs.declared.fault.DecodeFault.{DecodeFault as FaultOf};

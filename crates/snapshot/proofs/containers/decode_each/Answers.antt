@@ -18,7 +18,8 @@ loop-preserved g c = λ vs rest len fit is.
 
 pub returns-in_err-item-clause-err : goal.returns-in_err-item-clause-err
 returns-in_err-item-clause-err g c =
-    let only : UnlessEach g.T.Coded.code g.T.Coded.fits c.args.count c.args.input.now (c.in_err-item.field-0.0 ≡ NoMemory)
+    let only : UnlessEach g.T.Coded.code g.T.Coded.fits c.args.count c.args.input.now (c.in_err-item.field-0.0
+    ≡ NoMemory)
     = λ vs rest len fit is.
     let before = c.loop.invariant vs rest len fit is in
     let x = there vs c.loop.counter (let a = c.loop-test.true in omega (arith, a, len)) in

@@ -16,6 +16,7 @@ returns c =
     } in (
       pairs,
       written,
-      subst (λ (log : ℕ × List (ℕ × Record)). Encodes log_code log c.args.out.now.items c.encode_pairs.new.out.items) same
+      subst (λ (log : ℕ × List (ℕ × Record)). Encodes log_code log c.args.out.now.items c.encode_pairs.new.out.items)
+          same
           c.in_ok-encode_pairs.ensures.code,
     )

@@ -5,7 +5,9 @@ use Rattle.snapshot.proofs.members.decode_all_onto.Given as goal
 
 -- of items that fit, so many were read, and the others are left
 abbrev pub invariant-loop : goal.invariant-loop
-invariant-loop g l = (vs : List _) (rest : List ℕ) → length vs ≡ l.count → AllFit (FitsMember g.H.Portable.state_fits) vs
+invariant-loop g l = (vs : List _) (rest : List ℕ) → length vs ≡ l.count
+    → AllFit (FitsMember g.H.Portable.state_fits) vs
     → l.initial.input ≡ each_code (member_code g.H.Portable.state_code) vs rest
-    → (l.members.items ≡ take l.counter vs) × (l.input ≡ each_code (member_code g.H.Portable.state_code) (drop l.counter vs) rest)
+    → (l.members.items ≡ take l.counter vs) × (l.input ≡ each_code (member_code g.H.Portable.state_code)
+    (drop l.counter vs) rest)
     × AllFit (FitsMember g.H.Portable.state_fits) (drop l.counter vs)

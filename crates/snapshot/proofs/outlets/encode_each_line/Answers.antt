@@ -7,7 +7,8 @@ use Rattle.snapshot.proofs.outlets.encode_each_line.Goals as goal
 
 pub loop-line-preserved : goal.loop-line-preserved
 loop-line-preserved c =
-    let left = at_drop c.args.lines.now c.loop-line.line-index c.line-item.result c.loop-line-test.true c.line-item.is in
+    let left = at_drop c.args.lines.now c.loop-line.line-index c.line-item.result c.loop-line-test.true c.line-item.is
+    in
     record {
       code = λ rest. c.in_ok-encode_line.ensures.code
           (each_code line_code (pairs_of (drop (c.loop-line.line-index + 1) c.args.lines.now)) rest)

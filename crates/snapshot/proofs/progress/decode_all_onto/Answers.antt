@@ -31,5 +31,8 @@ returns-in_err-decode_onto-clause-err g c =
 pub returns-clause-ok : goal.returns-clause-ok
 returns-clause-ok g c = λ vs rest len fit is.
     let before = c.loop.invariant vs rest len fit is in
-    let all = from_start vs c.loop.counter (let a = c.loop-test.false in omega (arith, a, len)) in
-    (sym (before.0 ∙ all.0), sym (before.1 ∙ ap (λ xs. each_code (snapshot_code g.H.Portable.state_code) xs rest) all.1))
+    let all = from_start vs c.loop.counter (let a = c.loop-test.false in omega (arith, a, len)) in (
+      sym (before.0 ∙ all.0),
+      sym (before.1 ∙ ap (λ xs. each_code
+          (snapshot_code g.H.Portable.state_code) xs rest) all.1),
+    )

@@ -6,8 +6,10 @@ use Rattle.snapshot.proofs.Faults.{failed}
 use Rattle.snapshot.proofs.tenants.decode_tenant.Goals as goal
 
 pub returns-in_err-stable_lengths-clause-err : goal.returns-in_err-stable_lengths-clause-err
-returns-in_err-stable_lengths-clause-err g c = failed c.from_residual-in_err-stable_lengths.result c.in_err-stable_lengths.field-0.0
-    (λ e. Unless (tenant_code g.H.Portable.state_code) (FitsTenant g.H.Portable.state_fits) c.args.input.now (e ≡ NoMemory)) c.from_residual-in_err-stable_lengths.ensures.1
+returns-in_err-stable_lengths-clause-err g c = failed c.from_residual-in_err-stable_lengths.result
+    c.in_err-stable_lengths.field-0.0
+    (λ e. Unless (tenant_code g.H.Portable.state_code) (FitsTenant g.H.Portable.state_fits) c.args.input.now (e
+    ≡ NoMemory)) c.from_residual-in_err-stable_lengths.ensures.1
     (λ v rest fit is.
     let quota = c.in_ok-quota.ensures.ok v.quota _ fit.quota is in
     let optimism = c.in_ok-optimism.ensures.ok v.optimism _ fit.optimism (sym quota.1) in
@@ -17,7 +19,8 @@ returns-in_err-stable_lengths-clause-err g c = failed c.from_residual-in_err-sta
 
 pub returns-in_err-frontiers-clause-err : goal.returns-in_err-frontiers-clause-err
 returns-in_err-frontiers-clause-err g c = failed c.from_residual-in_err-frontiers.result c.in_err-frontiers.field-0.0
-    (λ e. Unless (tenant_code g.H.Portable.state_code) (FitsTenant g.H.Portable.state_fits) c.args.input.now (e ≡ NoMemory)) c.from_residual-in_err-frontiers.ensures.1
+    (λ e. Unless (tenant_code g.H.Portable.state_code) (FitsTenant g.H.Portable.state_fits) c.args.input.now (e
+    ≡ NoMemory)) c.from_residual-in_err-frontiers.ensures.1
     (λ v rest fit is.
     let quota = c.in_ok-quota.ensures.ok v.quota _ fit.quota is in
     let optimism = c.in_ok-optimism.ensures.ok v.optimism _ fit.optimism (sym quota.1) in
@@ -28,7 +31,8 @@ returns-in_err-frontiers-clause-err g c = failed c.from_residual-in_err-frontier
 
 pub returns-in_err-outlet-clause-err : goal.returns-in_err-outlet-clause-err
 returns-in_err-outlet-clause-err g c = failed c.from_residual-in_err-outlet.result c.in_err-outlet.field-0.0
-    (λ e. Unless (tenant_code g.H.Portable.state_code) (FitsTenant g.H.Portable.state_fits) c.args.input.now (e ≡ NoMemory)) c.from_residual-in_err-outlet.ensures.1
+    (λ e. Unless (tenant_code g.H.Portable.state_code) (FitsTenant g.H.Portable.state_fits) c.args.input.now (e
+    ≡ NoMemory)) c.from_residual-in_err-outlet.ensures.1
     (λ v rest fit is.
     let quota = c.in_ok-quota.ensures.ok v.quota _ fit.quota is in
     let optimism = c.in_ok-optimism.ensures.ok v.optimism _ fit.optimism (sym quota.1) in
@@ -40,7 +44,8 @@ returns-in_err-outlet-clause-err g c = failed c.from_residual-in_err-outlet.resu
 
 pub returns-in_err-letters-clause-err : goal.returns-in_err-letters-clause-err
 returns-in_err-letters-clause-err g c = failed c.from_residual-in_err-letters.result c.in_err-letters.field-0.0
-    (λ e. Unless (tenant_code g.H.Portable.state_code) (FitsTenant g.H.Portable.state_fits) c.args.input.now (e ≡ NoMemory)) c.from_residual-in_err-letters.ensures.1
+    (λ e. Unless (tenant_code g.H.Portable.state_code) (FitsTenant g.H.Portable.state_fits) c.args.input.now (e
+    ≡ NoMemory)) c.from_residual-in_err-letters.ensures.1
     (λ v rest fit is.
     let quota = c.in_ok-quota.ensures.ok v.quota _ fit.quota is in
     let optimism = c.in_ok-optimism.ensures.ok v.optimism _ fit.optimism (sym quota.1) in

@@ -15,7 +15,8 @@ loop-place-preserved g c =
     let left = found_drop all c.loop-place.place c.interval.result.now there in
     record {
       code = λ rest. c.in_ok-encode.ensures.code (each_code interval_code (drop (c.loop-place.place + 1) all) rest)
-          ∙ ap (λ xs. c.loop-place.out.items ++ each_code interval_code xs rest) (sym left) ∙ c.loop-place.invariant.code rest;
+          ∙ ap (λ xs. c.loop-place.out.items ++ each_code interval_code xs rest) (sym left)
+          ∙ c.loop-place.invariant.code rest;
       fits = λ others. c.loop-place.invariant.fits (subst (AllFit FitsInterval) (sym left)
           (c.in_ok-encode.ensures.fits, others));
     }
