@@ -2,3 +2,5 @@ pub mod Codes
 pub mod Parts
 pub mod Logs
 pub mod Tenants
+pub mod Hosts
+pub mod Faults

@@ -6,6 +6,7 @@ use crate::fault::DecodeFault;
 use std::marker::Model;
 
 /// The bytes that are left to be decoded, seen as their list.
+#[derive(Drop)]
 pub struct Input<'a> {
     rest: &'a [u8],
 }
@@ -31,6 +32,13 @@ impl<'a> Input<'a> {
         ensures { result ≡ length self.now }
     {
         self.rest.len()
+    }
+
+    /// The bytes that are left.
+    pub fn as_slice(&self) -> &'a [u8]
+        ensures { result.now ≡ self.now }
+    {
+        self.rest
     }
 
     /// Takes the next byte.

@@ -1,29 +1,24 @@
-//! The parts of a host as bytes, which are read back equal: its tenants, and the log of all of them.
+//! A host as bytes, and back.
 //!
-//! - `Coded`: a value that can be written as bytes and read again. `specs/Codes` says how: the bytes of a value are
-//!   given with those that follow behind them, so that values one behind the other are one call in the other.
-//! - `Portable`: a handler whose states can be so.
-//! - `encode_tenant`, `decode_tenant` (`specs/Parts`, `specs/Tenants`): units with all that they keep, letters, rows,
-//!   and what was released. Whatever world a tenant stands for, the one that is read back stands for it too, since both
-//!   are equal.
-//! - `encode_log`, `decode_log` (`specs/Logs`): the live records of a log in memory, by place.
+//! - `save`, `load`: a host with its records in memory as bytes, and the host of such bytes, which is an equal one and
+//!   so the replay of the same histories.
+//! - `Portable`: a handler whose states can be written as bytes; `Coded`: a value that can.
+//! - `Input`: bytes that are left to be decoded. `DecodeFault`, `LoadFault`: why they were not.
 //!
-//! For whoever keeps a host in a file. Of bytes that were not written so a fault is told, or some other value; no byte
-//! does harm. A caller:
-//!
-//! ```
-//! let mut bytes = Vec::new(alloc);
-//! encode_tenant(&handler, &tenant, &mut bytes)?;
-//! let again = decode_tenant(&handler, alloc, &mut Input::new(&bytes))?;
-//! ```
+//! The bytes are `RECALLSN`, the version of the form, a SHA-256 digest of all that follows it, a name of the handler
+//! that the caller gives, the tenants in the order of opening, and the log with its live records. Contracts see a
+//! value's bytes by a `Code`, with those that follow behind them (`specs/Codes`): what was written is read back equal,
+//! since no two values that fit have the same bytes. `specs/Hosts` says what a snapshot of a host is.
 #![tactic(auto)]
 
 mod coded;
 mod containers;
 mod counts;
+mod entries;
 mod fault;
 mod holds;
 mod input;
+mod load_fault;
 mod log;
 mod members;
 mod names;
@@ -33,6 +28,8 @@ mod outputs;
 mod portable;
 mod progress;
 mod records;
+mod saved;
+mod sealing;
 mod tables;
 mod tenants;
 mod texts;
@@ -42,6 +39,6 @@ mod vectors;
 pub use coded::Coded;
 pub use fault::DecodeFault;
 pub use input::Input;
-pub use log::{decode_log, encode_log};
+pub use load_fault::LoadFault;
 pub use portable::Portable;
-pub use tenants::{decode_tenant, encode_tenant};
+pub use saved::{load, save};

@@ -114,11 +114,7 @@ fn encode_pairs(count: u64, pairs: &[(u64, Record)], out: &mut Vec<u8>) -> Resul
 }
 
 /// Appends the bytes of a log: how many places it has, and its live records, each with its place, unit by unit.
-///
-/// # Errors
-///
-/// `NoMemory` where they find no memory; some of them may be appended then.
-pub fn encode_log(
+pub(crate) fn encode_log(
     alloc: Global,
     log: &SharedLog<MemoryStore>,
     out: &mut Vec<u8>,
@@ -161,7 +157,10 @@ fn made(
 /// # Errors
 ///
 /// `Cut` and `Damaged` where the bytes are those of no log, `NoMemory` where the log finds no memory.
-pub fn decode_log(alloc: Global, input: &mut Input) -> Result<SharedLog<MemoryStore>, DecodeFault>
+pub(crate) fn decode_log(
+    alloc: Global,
+    input: &mut Input,
+) -> Result<SharedLog<MemoryStore>, DecodeFault>
     ensures records { IfOk result (λ log. ReadsLog input.old log.records input.new) }
     ensures failures { IfOk result (λ log. log.failures ≡ 0) }
 {

@@ -43,11 +43,7 @@ fn decode_lines(alloc: Global, input: &mut Input) -> Result<Outlet, DecodeFault>
 }
 
 /// Appends the bytes of a tenant.
-///
-/// # Errors
-///
-/// `NoMemory` where they find no memory; some of them may be appended then.
-pub fn encode_tenant<H: Portable>(
+pub(crate) fn encode_tenant<H: Portable>(
     handler: &H,
     tenant: &Tenant<H>,
     out: &mut Vec<u8>,
@@ -67,12 +63,7 @@ pub fn encode_tenant<H: Portable>(
 }
 
 /// Takes the bytes of a tenant off the input.
-///
-/// # Errors
-///
-/// `Cut` where the input ends within them, `Damaged` where they are those of no tenant, `NoMemory` where it finds none:
-/// of bytes that were encoded there is no other. Takes no more memory than the input's length allows.
-pub fn decode_tenant<H: Portable>(
+pub(crate) fn decode_tenant<H: Portable>(
     handler: &H,
     alloc: Global,
     input: &mut Input,

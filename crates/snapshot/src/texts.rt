@@ -12,8 +12,9 @@ use model::{NoMemory, TenantName, Text};
 use std::alloc::Global;
 
 /// Appends the length of the bytes, and the bytes.
-fn encode_bytes(bytes: &[u8], out: &mut Vec<u8>) -> Result<(), NoMemory>
-    ensures { IfOk result (λ _. Encodes bytes_code bytes.now out.old.items out.new.items) }
+pub(crate) fn encode_bytes(bytes: &[u8], out: &mut Vec<u8>) -> Result<(), NoMemory>
+    ensures code { IfOk result (λ _. Encodes bytes_code bytes.now out.old.items out.new.items) }
+    ensures len { IfOk result (λ _. length bytes.now < 2 ^ 64) }
 {
     bytes.len().encode(out)?;
     out.extend_from_slice(bytes)?;

@@ -1,0 +1,13 @@
+use Rattle.std.proofs.Common.{◌≡◌, List, ℕ, length, drop, take}
+use Rattle.snapshot.specs.Codes.{AllFit, each_code}
+use Rattle.snapshot.specs.Hosts.{FitsEntry, entry_code}
+use Rattle.snapshot.proofs.entries.decode_all_onto.Given as goal
+
+-- of those that fit, so many were read, and the others are left
+abbrev pub invariant-loop : goal.invariant-loop
+invariant-loop g l = (vs : List _) (rest : List ℕ) → length vs ≡ l.count
+    → AllFit (FitsEntry g.H.Portable.state_fits) vs
+    → l.initial.input ≡ each_code (entry_code g.H.Portable.state_code) vs rest
+    → (l.tenants.entries ≡ take l.counter vs)
+    × (l.input ≡ each_code (entry_code g.H.Portable.state_code) (drop l.counter vs) rest)
+    × AllFit (FitsEntry g.H.Portable.state_fits) (drop l.counter vs)

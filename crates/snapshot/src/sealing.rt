@@ -1,0 +1,108 @@
+//! What stands before the tenants and the log: a head, a digest, and which handler it is about.
+
+ghost use Rattle.std.specs.Prelude.{◌≡◌, ◌<◌, ◌^◌, ◌++◌, ℕ, IfOk, List, length};
+ghost use Rattle.sha2.specs.Sha256.{sha256};
+ghost use Rattle.snapshot.specs.Codes.{bytes_code, Decodes, Encodes};
+ghost use Rattle.snapshot.specs.Hosts.{head_code};
+
+use crate::coded::Coded;
+use crate::fault::DecodeFault;
+use crate::input::Input;
+use crate::load_fault::LoadFault;
+use crate::texts::encode_bytes;
+use model::NoMemory;
+use sha2::{Digest, Sha256};
+use std::alloc::Global;
+
+/// The version of the form.
+const VERSION: u8 = 1;
+
+/// Appends the head.
+fn encode_head(out: &mut Vec<u8>) -> Result<(), NoMemory>
+    ensures { IfOk result (λ _. (rest : List ℕ) → out.new.items ++ rest ≡ out.old.items ++ head_code rest) }
+{
+    b'R'.encode(out)?;
+    b'E'.encode(out)?;
+    b'C'.encode(out)?;
+    b'A'.encode(out)?;
+    b'L'.encode(out)?;
+    b'L'.encode(out)?;
+    b'S'.encode(out)?;
+    b'N'.encode(out)?;
+    VERSION.encode(out)?;
+    Ok(())
+}
+
+/// A body behind the head and its digest.
+pub(crate) fn sealed(alloc: Global, body: &[u8]) -> Result<Vec<u8>, NoMemory>
+    ensures digest { IfOk result (λ _. length (sha256 body.now) < 2 ^ 64) }
+    ensures bytes { IfOk result (λ all. all.items ≡ head_code (bytes_code (sha256 body.now) body.now)) }
+{
+    let digest = Sha256::digest(body);
+    let mut all = Vec::new(alloc);
+    encode_head(&mut all)?;
+    encode_bytes(&digest, &mut all)?;
+    all.extend_from_slice(body)?;
+    Ok(all)
+}
+
+/// Takes bytes off the input, and how many there are.
+fn take_bytes<'a>(alloc: Global, input: &mut Input<'a>) -> Result<&'a [u8], DecodeFault>
+    ensures { IfOk result (λ x. Decodes bytes_code (λ bytes. length bytes < 2 ^ 64) input.old x.now input.new) }
+{
+    let len = usize::decode(alloc, input)?;
+    input.bytes(len)
+}
+
+/// Takes the head off the input.
+fn check_head(input: &mut Input) -> Result<(), LoadFault>
+    ensures { IfOk result (λ _. (rest : List ℕ) → input.old ≡ head_code rest → rest ≡ input.new) }
+{
+    let Ok(head) = input.eight() else {
+        return Err(LoadFault::NotASnapshot);
+    };
+    if head != *b"RECALLSN" {
+        return Err(LoadFault::NotASnapshot);
+    }
+    let version = input.byte()?;
+    if version != VERSION {
+        return Err(LoadFault::AnotherVersion);
+    }
+    Ok(())
+}
+
+/// Takes the digest of what follows off the input.
+fn check_digest(alloc: Global, input: &mut Input) -> Result<(), LoadFault>
+    ensures { IfOk result (λ _. (digest rest : List ℕ) → length digest < 2 ^ 64
+        → input.old ≡ bytes_code digest rest → rest ≡ input.new) }
+{
+    let digest = take_bytes(alloc, input)?;
+    let found = Sha256::digest(input.as_slice());
+    if digest != found.as_slice() {
+        return Err(LoadFault::Damaged);
+    }
+    Ok(())
+}
+
+/// Takes which handler it is about off the input, which must be this one.
+fn check_about(alloc: Global, input: &mut Input, about: &str) -> Result<(), LoadFault>
+    ensures { IfOk result (λ _. (named rest : List ℕ) → length named < 2 ^ 64
+        → input.old ≡ bytes_code named rest → rest ≡ input.new) }
+{
+    let named = take_bytes(alloc, input)?;
+    if named != about.as_bytes() {
+        return Err(LoadFault::AnotherHandler);
+    }
+    Ok(())
+}
+
+/// Takes what stands before the tenants off the input.
+pub(crate) fn unsealed(alloc: Global, input: &mut Input, about: &str) -> Result<(), LoadFault>
+    ensures { IfOk result (λ _. (digest named rest : List ℕ) → length digest < 2 ^ 64 → length named < 2 ^ 64
+        → input.old ≡ head_code (bytes_code digest (bytes_code named rest)) → rest ≡ input.new) }
+{
+    check_head(input)?;
+    check_digest(alloc, input)?;
+    check_about(alloc, input, about)?;
+    Ok(())
+}
