@@ -43,9 +43,10 @@ impl Released {
         }
     }
 
-    /// How many texts were given up.
+    /// How many texts were given up. With those behind them they are counted by 64 bits.
     pub fn gone(&self) -> u64
-        ensures { result ≡ self.now.gone }
+        ensures count { result ≡ self.now.gone }
+        ensures fits { self.now.gone + length self.now.texts < 2 ^ 64 }
     {
         self.gone
     }

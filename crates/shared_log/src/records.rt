@@ -1,7 +1,7 @@
 //! Records by place.
 
-ghost use Rattle.std.specs.Prelude.{◌≡◌, ◌<◌, ◌-◌, ◌/◌, ◌%◌, ◌++◌, ◌∷◌, [], ℕ, IfOk, IfErr, OnOk, OnErr, MatchOption};
-ghost use Rattle.std.specs.Prelude.{IsSome, Some, None, length, replicate, slice_get, slice_set, take, true, false};
+ghost use Rattle.std.specs.Prelude.{◌≡◌, ◌<◌, ◌≤◌, ◌-◌, ◌/◌, ◌%◌, ◌++◌, ◌∷◌, [], ℕ, IfOk, IfErr, OnOk, OnErr};
+ghost use Rattle.std.specs.Prelude.{IsSome, MatchOption, Some, None, length, replicate, slice_get, slice_set, take, true, false};
 ghost use Rattle.indexmap.specs.IndexMap.{IsUnchanged};
 ghost use Rattle.shared_log.specs.Logged.{IsHeld};
 ghost use Rattle.shared_log.specs.Records.{OtherPlaces, in_block, in_numbered, in_blocks};
@@ -65,7 +65,8 @@ impl Block {
 
     /// Makes so many places, where there are fewer.
     fn widen(&mut self, count: usize) -> Result<(), NoMemory>
-        ensures { (at : ℕ) → in_block self.new at ≡ in_block self.old at }
+        ensures same { (at : ℕ) → in_block self.new at ≡ in_block self.old at }
+        ensures long { OnOk result (count ≤ length self.new) }
     {
         for _ in self.places.len()..count {
             self.places.push(Slot::empty())?;
@@ -86,13 +87,8 @@ impl Block {
             self.places.push(slot)?;
             return Ok(());
         }
-        match self.places.get_mut(at) {
-            Some(there) => {
-                *there = slot;
-                Ok(())
-            }
-            None => Err(NoMemory),
-        }
+        self.places[at] = slot;
+        Ok(())
     }
 
     /// Empties a place.
@@ -409,10 +405,10 @@ impl Records {
         requires { IsHeld self.now place }
         ensures { IfOk result (λ r. slice_get self.now place ≡ Some (Some r)) }
     {
-        match self.blocks.slot(place) {
-            Some(slot) => slot.copy(alloc),
-            None => Err(NoMemory),
-        }
+        let Some(slot) = self.blocks.slot(place) else {
+            unreachable!();
+        };
+        slot.copy(alloc)
     }
 
     /// Gives the record of a place up.

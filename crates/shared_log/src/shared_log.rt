@@ -80,7 +80,8 @@ impl<S: Store> SharedLog<S> {
 
     /// The store under the log.
     pub fn store(&self) -> &S
-        ensures { S.log result.now ≡ self.now.records }
+        ensures records { S.log result.now ≡ self.now.records }
+        ensures failures { S.failures result.now ≡ self.now.failures }
     {
         &self.store
     }

@@ -130,12 +130,13 @@ impl Slot {
         }
     }
 
-    /// An equal record. Where there is none, it ends as for want of memory.
+    /// An equal record. There must be one.
     pub(crate) fn copy(&self, alloc: Global) -> Result<Record, NoMemory>
+        requires { IsSome self.now }
         ensures { IfOk result (λ r. self.now ≡ Some r) }
     {
         match &self.occupancy {
-            Occupancy::Vacant => Err(NoMemory),
+            Occupancy::Vacant => unreachable!(),
             Occupancy::Letterless(route, body) => body.record(alloc, *route, None),
             Occupancy::Lettered(route, letter, body) => body.record(alloc, *route, Some(*letter)),
         }

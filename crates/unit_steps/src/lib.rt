@@ -4,13 +4,12 @@
 //! - `receipt`: the mark, vector and record of the interval that a receipt makes.
 //! - `letters`: letters, with text and vector as long as they may be needed, and those that a receipt sends.
 //! - `frontier`: how far a path is firm.
-//! - `laws`: these are what the steps of a tenant's compact state compute.
 //!
-//! The definitions by lists stand in `specs/Receipts`.
+//! The definitions by lists stand in `specs/Receipts`. That these are what the steps of a tenant's compact state compute
+//! is said by the laws of `specs/Laws`, whose lemmas stand in `proofs/Seen`.
 #![tactic(auto)]
 
 mod frontier;
-pub mod laws;
 mod letters;
 mod new_letters;
 mod receipt;
