@@ -1,7 +1,8 @@
 //! Records by place.
 
 ghost use Rattle.std.specs.Prelude.{◌≡◌, ◌<◌, ◌≤◌, ◌-◌, ◌/◌, ◌%◌, ◌++◌, ◌∷◌, [], ℕ, IfOk, IfErr, OnOk, OnErr};
-ghost use Rattle.std.specs.Prelude.{IsSome, MatchOption, Some, None, length, replicate, slice_get, slice_set, take, true, false};
+ghost use Rattle.std.specs.Prelude.{IsSome, MatchOption, Some, None, length, replicate, slice_get, slice_set, take};
+ghost use Rattle.std.specs.Prelude.{true, false};
 ghost use Rattle.indexmap.specs.IndexMap.{IsUnchanged};
 ghost use Rattle.shared_log.specs.Logged.{IsHeld};
 ghost use Rattle.shared_log.specs.Records.{OtherPlaces, in_block, in_numbered, in_blocks};

@@ -5,8 +5,8 @@
 //! - `letters`: letters, with text and vector as long as they may be needed, and those that a receipt sends.
 //! - `frontier`: how far a path is firm.
 //!
-//! The definitions by lists stand in `specs/Receipts`. That these are what the steps of a tenant's compact state compute
-//! is said by the laws of `specs/Laws`, whose lemmas stand in `proofs/Seen`.
+//! The definitions by lists stand in `specs/Receipts`. That these are what the steps of a tenant's compact state
+//! compute is said by the laws of `specs/Laws`, whose lemmas stand in `proofs/Seen`.
 #![tactic(auto)]
 
 mod frontier;
