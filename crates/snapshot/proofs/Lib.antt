@@ -1,7 +1,5 @@
 -- What each module is about, and in brackets the lemma to look at first.
--- Each: values one behind the other, from one of them on (`at_drop`).
 -- Faults: what `?` gives back (`failed`).
 -- Lines: what units gave up and released, as one list and as two (`lists_are`).
-pub mod Each
 pub mod Faults
 pub mod Lines

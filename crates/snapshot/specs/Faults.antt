@@ -1,6 +1,6 @@
 -- How the faults of a snapshot follow from those of its parts.
-use Rattle.snapshot.specs.declared.fault.DecodeFault.{DecodeFault}
-use Rattle.snapshot.specs.declared.fault.DecodeFault.TheVariants.{Cut, Damaged, NoMemory}
+use Rattle.codec.specs.declared.fault.DecodeFault.{DecodeFault}
+use Rattle.codec.specs.declared.fault.DecodeFault.TheVariants.{Cut, Damaged, NoMemory}
 use Rattle.snapshot.specs.declared.load_fault.LoadFault.{LoadFault}
 use Rattle.snapshot.specs.declared.load_fault.LoadFault.TheVariants.{Cut as LoadCut, Damaged as LoadDamaged}
 use Rattle.snapshot.specs.declared.load_fault.LoadFault.TheVariants.{NoMemory as LoadNoMemory}

@@ -4,7 +4,7 @@ use Rattle.sha2.specs.Sha256.{sha256}
 use Rattle.model.specs.declared.records.Record.{Record}
 use Rattle.tenant.specs.Kept.{TenantState}
 use Rattle.book.specs.Standing.{Hosted}
-use Rattle.snapshot.specs.Codes.{Code, FitEach, FitsName, bytes_code, list_code}
+use Rattle.codec.specs.Codes.{Code, FitEach, FitsName, bytes_code, list_code}
 use Rattle.snapshot.specs.Logs.{AreWritten, log_code}
 use Rattle.snapshot.specs.Tenants.{FitsTenant, tenant_code}
 

@@ -2,7 +2,7 @@
 use Rattle.std.specs.Prelude.{◌≡◌, ℕ, ◌<◌, ◌^◌, List, Option, length}
 use Rattle.model.specs.declared.records.Record.{Record}
 use Rattle.shared_log.specs.Filled.{AreLiveIn, HaveAllLive}
-use Rattle.snapshot.specs.Codes.{Code, Encodes, FitEach, FitsRecord, list_code, number_code, pair_code, record_code}
+use Rattle.codec.specs.Codes.{Code, Encodes, FitEach, FitsRecord, list_code, number_code, pair_code, record_code}
 
 -- a live record behind its place
 abbrev pub live_code : Code (ℕ × Record)

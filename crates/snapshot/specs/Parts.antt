@@ -11,9 +11,9 @@ use Rattle.output_commit.specs.Holds.{Line}
 use Rattle.incarnation.specs.Filed.{Ordered}
 use Rattle.compact.specs.Compact.{Content, Interval, Letter, Progress}
 use Rattle.rollback.specs.Units.{IsKept, Recovering}
-use Rattle.snapshot.specs.Codes.{Code, FitEach, FitMarks, FitsMark, FitsQuota, FitsRecord, FitsRow, FitsSeat, FitsSome}
-use Rattle.snapshot.specs.Codes.{FitsText, byte_code, bytes_code, list_code, mark_code, marks_code, number_code}
-use Rattle.snapshot.specs.Codes.{option_code, quota_code, record_code, row_code, seat_code}
+use Rattle.codec.specs.Codes.{Code, FitEach, FitMarks, FitsMark, FitsQuota, FitsRecord, FitsRow, FitsSeat, FitsSome}
+use Rattle.codec.specs.Codes.{FitsText, byte_code, bytes_code, list_code, mark_code, marks_code, number_code}
+use Rattle.codec.specs.Codes.{option_code, quota_code, record_code, row_code, seat_code}
 
 -- ---- counts
 

@@ -1,7 +1,7 @@
 -- How a tenant is written as bytes.
 use Rattle.std.specs.Prelude.{◌≡◌, ℕ, ◌<◌, ◌^◌, List, [], ◌∷◌, length}
 use Rattle.tenant.specs.Kept.{Member, TenantState}
-use Rattle.snapshot.specs.Codes.{Code, FitEach, FitsQuota, bool_code, list_code, number_code, quota_code, row_code}
+use Rattle.codec.specs.Codes.{Code, FitEach, FitsQuota, bool_code, list_code, number_code, quota_code, row_code}
 use Rattle.snapshot.specs.Parts.{FitsHold, FitsLetter, FitsLine, FitsTable, FitsUnit, hold_code, letter_code, line_code}
 use Rattle.snapshot.specs.Parts.{unit_code}
 

@@ -2,10 +2,7 @@
 
 ghost use Rattle.snapshot.specs.Parts.{counts_code, exchange_code, FitCounts, FitsExchange};
 
-use crate::coded::Coded;
-use crate::containers::{decode_list, encode_list};
-use crate::fault::DecodeFault;
-use crate::input::Input;
+use codec::{Coded, DecodeFault, Input, decode_list, encode_list};
 use model::{NoMemory, Source};
 use session::{Exchange, Sessions};
 use std::alloc::Global;

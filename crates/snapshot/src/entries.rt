@@ -1,15 +1,12 @@
 //! The open tenants under their names.
 
 ghost use Rattle.std.specs.Prelude.{◌≡◌, ◌++◌, ◌∷◌, [], ℕ, IfOk, List, Some, length, slice_get};
-ghost use Rattle.snapshot.specs.Codes.{each_code, AllFit, Decodes, DecodesEach, DecodesOnto, Encodes};
+ghost use Rattle.codec.specs.Codes.{each_code, AllFit, Decodes, DecodesEach, DecodesOnto, Encodes};
 ghost use Rattle.snapshot.specs.Hosts.{entries_code, entry_code, FitEntries, FitsEntry};
 ghost use Rattle.tenant.specs.Kept.{TenantState};
 
-use crate::coded::Coded;
-use crate::fault::DecodeFault;
-use crate::input::Input;
-use crate::portable::Portable;
 use crate::tenants::{decode_tenant, encode_tenant};
+use codec::{Coded, DecodeFault, Input, Portable};
 use handler::Handler;
 use indexmap::IndexMap;
 use model::{NoMemory, TenantName};

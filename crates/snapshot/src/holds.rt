@@ -2,14 +2,11 @@
 
 ghost use Rattle.std.specs.Prelude.{◌≡◌, ◌++◌, ◌∷◌, [], IfErr, IfOk, Some, length, slice_get};
 ghost use Rattle.output_commit.specs.declared.held.Held.{Held as HeldOf};
-ghost use Rattle.snapshot.specs.Codes.{each_code, list_code, AllFit, Decodes, Encodes, FitEach, Unless};
+ghost use Rattle.codec.specs.Codes.{each_code, list_code, AllFit, Decodes, Encodes, FitEach, Unless};
 ghost use Rattle.snapshot.specs.Parts.{held_code, hold_code, FitsHeld, FitsHold};
-ghost use Rattle.snapshot.specs.declared.fault.DecodeFault.{DecodeFault as FaultOf};
+ghost use Rattle.codec.specs.declared.fault.DecodeFault.{DecodeFault as FaultOf};
 
-use crate::coded::Coded;
-use crate::containers::decode_list;
-use crate::fault::DecodeFault;
-use crate::input::Input;
+use codec::{Coded, DecodeFault, Input, decode_list};
 use model::{NoMemory, Unit};
 use output_commit::{Held, Hold};
 use std::alloc::Global;

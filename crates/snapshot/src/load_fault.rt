@@ -1,6 +1,6 @@
 //! Why a snapshot was not loaded.
 
-use crate::fault::DecodeFault;
+use codec::DecodeFault;
 use model::NoMemory;
 use thiserror::Error;
 

@@ -3,14 +3,11 @@
 ghost use Rattle.std.specs.Prelude.{◌≡◌, ℕ, ◌++◌, All, Contains, IfErr, IfOk, OnOk};
 ghost use Rattle.shared_log.specs.Filled.{filled, pairs_at, AreLiveIn, HaveAllLive, HaveAllLivePlaces};
 ghost use Rattle.shared_log.specs.Logged.{places_of, IsHeld};
-ghost use Rattle.snapshot.specs.Codes.{Decodes, Encodes, Unless};
+ghost use Rattle.codec.specs.Codes.{Decodes, Encodes, Unless};
 ghost use Rattle.snapshot.specs.Logs.{log_code, FitsLog, ReadsLog, WritesLog};
-ghost use Rattle.snapshot.specs.declared.fault.DecodeFault.{DecodeFault as FaultOf};
+ghost use Rattle.codec.specs.declared.fault.DecodeFault.{DecodeFault as FaultOf};
 
-use crate::coded::Coded;
-use crate::containers::{decode_list, encode_list};
-use crate::fault::DecodeFault;
-use crate::input::Input;
+use codec::{Coded, DecodeFault, Input, decode_list, encode_list};
 use model::{NoMemory, Record, TenantName, Unit};
 use shared_log::{FillFault, MemoryStore, SharedLog};
 use std::alloc::Global;

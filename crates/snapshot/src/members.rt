@@ -1,18 +1,14 @@
 //! Units with what they hold.
 
 ghost use Rattle.std.specs.Prelude.{◌≡◌, [], IfErr, IfOk};
-ghost use Rattle.snapshot.specs.Codes.{each_code, list_code, AllFit, Decodes, DecodesEach, DecodesOnto, Encodes};
-ghost use Rattle.snapshot.specs.Codes.{FitEach, Unless, UnlessEach};
+ghost use Rattle.codec.specs.Codes.{each_code, list_code, AllFit, Decodes, DecodesEach, DecodesOnto, Encodes};
+ghost use Rattle.codec.specs.Codes.{FitEach, Unless, UnlessEach};
 ghost use Rattle.snapshot.specs.Tenants.{member_code, FitsMember};
-ghost use Rattle.snapshot.specs.declared.fault.DecodeFault.{DecodeFault as FaultOf};
+ghost use Rattle.codec.specs.declared.fault.DecodeFault.{DecodeFault as FaultOf};
 
-use crate::coded::Coded;
-use crate::containers::put;
-use crate::fault::DecodeFault;
 use crate::holds::{decode_hold, encode_hold};
-use crate::input::Input;
-use crate::portable::Portable;
 use crate::unit::{decode_unit, encode_unit};
+use codec::{Coded, DecodeFault, Input, Portable, put};
 use model::NoMemory;
 use std::alloc::Global;
 use tenant::Member;

@@ -1,15 +1,12 @@
 //! What the units of a tenant released.
 
 ghost use Rattle.std.specs.Prelude.{◌≡◌, IfErr, IfOk, length};
-ghost use Rattle.snapshot.specs.Codes.{each_code, list_code, AllFit, Decodes, DecodesEach, DecodesOnto, Encodes};
-ghost use Rattle.snapshot.specs.Codes.{FitEach, Unless, UnlessEach};
+ghost use Rattle.codec.specs.Codes.{each_code, list_code, AllFit, Decodes, DecodesEach, DecodesOnto, Encodes};
+ghost use Rattle.codec.specs.Codes.{FitEach, Unless, UnlessEach};
 ghost use Rattle.snapshot.specs.Parts.{line_code, pairs_of, FitsLine};
-ghost use Rattle.snapshot.specs.declared.fault.DecodeFault.{DecodeFault as FaultOf};
+ghost use Rattle.codec.specs.declared.fault.DecodeFault.{DecodeFault as FaultOf};
 
-use crate::coded::Coded;
-use crate::containers::{decode_list, encode_list};
-use crate::fault::DecodeFault;
-use crate::input::Input;
+use codec::{Coded, DecodeFault, Input, decode_list, encode_list};
 use model::{NoMemory, Text};
 use output_commit::{Outlet, Released};
 use std::alloc::Global;

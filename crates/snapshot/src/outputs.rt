@@ -2,9 +2,7 @@
 
 ghost use Rattle.snapshot.specs.Parts.{content_code, held_code, letter_code, FitsContent, FitsHeld, FitsLetter};
 
-use crate::coded::Coded;
-use crate::fault::DecodeFault;
-use crate::input::Input;
+use codec::{Coded, DecodeFault, Input};
 use depvector::SharedVector;
 use model::{Mark, NoMemory, Text, Unit};
 use output_commit::Held;

@@ -1,19 +1,15 @@
 //! How far a unit has come, and its snapshots.
 
 ghost use Rattle.std.specs.Prelude.{◌≡◌, ◌<◌, ◌^◌, [], IfErr, IfOk, length};
-ghost use Rattle.snapshot.specs.Codes.{list_code, option_code, Decodes, DecodesEach, DecodesOnto, Encodes, FitEach};
-ghost use Rattle.snapshot.specs.Codes.{FitsSome, Unless};
+ghost use Rattle.codec.specs.Codes.{list_code, option_code, Decodes, DecodesEach, DecodesOnto, Encodes, FitEach};
+ghost use Rattle.codec.specs.Codes.{FitsSome, Unless};
 ghost use Rattle.std.specs.Option.{option_copied};
-ghost use Rattle.snapshot.specs.Codes.{each_code, AllFit, UnlessEach};
+ghost use Rattle.codec.specs.Codes.{each_code, AllFit, UnlessEach};
 ghost use Rattle.snapshot.specs.Parts.{progress_code, shelf_code, snapshot_code, FitsProgress, FitsShelf, FitsSnapshot};
-ghost use Rattle.snapshot.specs.declared.fault.DecodeFault.{DecodeFault as FaultOf};
+ghost use Rattle.codec.specs.declared.fault.DecodeFault.{DecodeFault as FaultOf};
 
-use crate::coded::Coded;
-use crate::containers::put;
-use crate::fault::DecodeFault;
-use crate::input::Input;
-use crate::portable::Portable;
 use checkpoint::{Shelf, Snapshot};
+use codec::{Coded, DecodeFault, Input, Portable, put};
 use model::NoMemory;
 use rollback::Progress;
 use session::Sessions;

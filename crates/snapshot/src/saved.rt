@@ -6,13 +6,11 @@ ghost use Rattle.snapshot.specs.Hosts.{IsBody, IsSaved};
 ghost use Rattle.tenant.specs.Kept.{TenantState};
 
 use crate::entries::{decode_entries, encode_entries};
-use crate::input::Input;
 use crate::load_fault::LoadFault;
 use crate::log::{decode_log, encode_log};
-use crate::portable::Portable;
 use crate::sealing::{sealed, unsealed};
-use crate::texts::encode_bytes;
 use book::Host;
+use codec::{Input, Portable, encode_bytes};
 use model::NoMemory;
 use shared_log::MemoryStore;
 use std::alloc::Global;

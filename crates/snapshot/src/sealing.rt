@@ -2,14 +2,11 @@
 
 ghost use Rattle.std.specs.Prelude.{◌≡◌, ◌<◌, ◌^◌, ◌++◌, ℕ, IfOk, List, length};
 ghost use Rattle.sha2.specs.Sha256.{sha256};
-ghost use Rattle.snapshot.specs.Codes.{bytes_code, Decodes, Encodes};
+ghost use Rattle.codec.specs.Codes.{bytes_code, Decodes, Encodes};
 ghost use Rattle.snapshot.specs.Hosts.{head_code};
 
-use crate::coded::Coded;
-use crate::fault::DecodeFault;
-use crate::input::Input;
 use crate::load_fault::LoadFault;
-use crate::texts::encode_bytes;
+use codec::{Coded, DecodeFault, Input, decode_bytes, encode_bytes};
 use model::NoMemory;
 use sha2::{Digest, Sha256};
 use std::alloc::Global;
@@ -46,14 +43,6 @@ pub(crate) fn sealed(alloc: Global, body: &[u8]) -> Result<Vec<u8>, NoMemory>
     Ok(all)
 }
 
-/// Takes bytes off the input, and how many there are.
-fn take_bytes<'a>(alloc: Global, input: &mut Input<'a>) -> Result<&'a [u8], DecodeFault>
-    ensures { IfOk result (λ x. Decodes bytes_code (λ bytes. length bytes < 2 ^ 64) input.old x.now input.new) }
-{
-    let len = usize::decode(alloc, input)?;
-    input.bytes(len)
-}
-
 /// Takes the head off the input.
 fn check_head(input: &mut Input) -> Result<(), LoadFault>
     ensures { IfOk result (λ _. (rest : List ℕ) → input.old ≡ head_code rest → rest ≡ input.new) }
@@ -76,7 +65,7 @@ fn check_digest(alloc: Global, input: &mut Input) -> Result<(), LoadFault>
     ensures { IfOk result (λ _. (digest rest : List ℕ) → length digest < 2 ^ 64
         → input.old ≡ bytes_code digest rest → rest ≡ input.new) }
 {
-    let digest = take_bytes(alloc, input)?;
+    let digest = decode_bytes(alloc, input)?;
     let found = Sha256::digest(input.as_slice());
     if digest != found.as_slice() {
         return Err(LoadFault::Damaged);
@@ -89,7 +78,7 @@ fn check_about(alloc: Global, input: &mut Input, about: &str) -> Result<(), Load
     ensures { IfOk result (λ _. (named rest : List ℕ) → length named < 2 ^ 64
         → input.old ≡ bytes_code named rest → rest ≡ input.new) }
 {
-    let named = take_bytes(alloc, input)?;
+    let named = decode_bytes(alloc, input)?;
     if named != about.as_bytes() {
         return Err(LoadFault::AnotherHandler);
     }

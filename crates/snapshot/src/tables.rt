@@ -1,12 +1,9 @@
 //! Tables of rows.
 
-ghost use Rattle.snapshot.specs.Codes.{list_code, row_code};
+ghost use Rattle.codec.specs.Codes.{list_code, row_code};
 ghost use Rattle.snapshot.specs.Parts.{FitsTable};
 
-use crate::coded::Coded;
-use crate::containers::{decode_list, encode_list};
-use crate::fault::DecodeFault;
-use crate::input::Input;
+use codec::{Coded, DecodeFault, Input, decode_list, encode_list};
 use incarnation::StartTable;
 use model::{NoMemory, Row};
 use std::alloc::Global;

@@ -1,18 +1,14 @@
 //! Tenants.
 
 ghost use Rattle.std.specs.Prelude.{◌≡◌, IfErr, IfOk};
-ghost use Rattle.snapshot.specs.Codes.{Decodes, Encodes, Unless};
+ghost use Rattle.codec.specs.Codes.{Decodes, Encodes, Unless};
 ghost use Rattle.snapshot.specs.Tenants.{outlet_code, tenant_code, FitsOutlet, FitsTenant};
-ghost use Rattle.snapshot.specs.declared.fault.DecodeFault.{DecodeFault as FaultOf};
+ghost use Rattle.codec.specs.declared.fault.DecodeFault.{DecodeFault as FaultOf};
 ghost use Rattle.tenant.specs.Kept.{gone_of, released_of};
 
-use crate::coded::Coded;
-use crate::containers::{decode_list, encode_vec};
-use crate::fault::DecodeFault;
-use crate::input::Input;
 use crate::members::{decode_members, encode_members};
 use crate::outlets::{decode_outlet, encode_outlet};
-use crate::portable::Portable;
+use codec::{Coded, DecodeFault, Input, Portable, decode_list, encode_vec};
 use incarnation::StartTable;
 use model::{NoMemory, Quota};
 use output_commit::Outlet;

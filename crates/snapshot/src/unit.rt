@@ -2,18 +2,14 @@
 
 ghost use Rattle.std.specs.Prelude.{◌≡◌, ◌+◌, ◌∷◌, [], ◌++◌, IfErr, IfOk, drop, length};
 ghost use Rattle.rollback.specs.Units.{places};
-ghost use Rattle.snapshot.specs.Codes.{each_code, list_code, record_code, AllFit, Decodes, Encodes, FitEach};
-ghost use Rattle.snapshot.specs.Codes.{FitsRecord};
-ghost use Rattle.snapshot.specs.Codes.{Unless};
+ghost use Rattle.codec.specs.Codes.{each_code, list_code, record_code, AllFit, Decodes, Encodes, FitEach};
+ghost use Rattle.codec.specs.Codes.{FitsRecord};
+ghost use Rattle.codec.specs.Codes.{Unless};
 ghost use Rattle.snapshot.specs.Parts.{interval_code, unit_code, FitsInterval, FitsUnit};
-ghost use Rattle.snapshot.specs.declared.fault.DecodeFault.{DecodeFault as FaultOf};
+ghost use Rattle.codec.specs.declared.fault.DecodeFault.{DecodeFault as FaultOf};
 
-use crate::coded::Coded;
-use crate::containers::decode_list;
-use crate::fault::DecodeFault;
-use crate::input::Input;
-use crate::portable::Portable;
 use crate::progress::{decode_shelf, decode_some, encode_shelf, encode_some};
+use codec::{Coded, DecodeFault, Input, Portable, decode_list};
 use handler::Handler;
 use model::{NoMemory, Record, Seat};
 use rollback::{Interval, RecoveryUnit, UnitParts};

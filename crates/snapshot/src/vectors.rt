@@ -1,12 +1,9 @@
 //! Vectors, and what is kept of an interval.
 
-ghost use Rattle.snapshot.specs.Codes.{marks_code};
+ghost use Rattle.codec.specs.Codes.{marks_code};
 ghost use Rattle.snapshot.specs.Parts.{interval_code, FitsInterval, FitsVector};
 
-use crate::coded::Coded;
-use crate::containers::encode_list;
-use crate::fault::DecodeFault;
-use crate::input::Input;
+use codec::{Coded, DecodeFault, Input, encode_list};
 use depvector::SharedVector;
 use model::{Letter, Marks, NoMemory};
 use rollback::Interval;

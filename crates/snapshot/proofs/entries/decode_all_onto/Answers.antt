@@ -1,7 +1,7 @@
 use Rattle.std.proofs.Common.{◌≡◌, ◌++◌, ◌∷◌, [], ◌∙◌, ap, sym, subst, List, ℕ, drop, take, ◌+◌, length, arith}
-use Rattle.snapshot.specs.Codes.{AllFit, each_code}
+use Rattle.codec.specs.Codes.{AllFit, each_code}
 use Rattle.snapshot.specs.Hosts.{FitsEntry, entry_code}
-use Rattle.snapshot.proofs.Each.{there, from_start}
+use Rattle.codec.proofs.Each.{there, from_start}
 use Rattle.snapshot.proofs.entries.decode_all_onto.Goals as goal
 
 pub loop-preserved : goal.loop-preserved

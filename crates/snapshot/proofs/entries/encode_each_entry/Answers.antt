@@ -1,7 +1,7 @@
 use Rattle.std.proofs.Common.{◌≡◌, ◌++◌, ◌∷◌, ◌∙◌, ap, sym, subst, List, ℕ, drop, ◌+◌, ◌<◌, length, arith}
-use Rattle.snapshot.specs.Codes.{AllFit, each_code}
+use Rattle.codec.specs.Codes.{AllFit, each_code}
 use Rattle.snapshot.specs.Hosts.{FitsEntry, entry_code}
-use Rattle.snapshot.proofs.Each.{found, found_drop, from_start}
+use Rattle.codec.proofs.Each.{found, found_drop, from_start}
 use Rattle.snapshot.proofs.entries.encode_each_entry.Goals as goal
 
 pub loop-place-preserved : goal.loop-place-preserved

@@ -1,7 +1,7 @@
 use Rattle.std.proofs.Common.{rules, ◌≡◌, sym}
-use Rattle.snapshot.specs.Codes.{Unless}
+use Rattle.codec.specs.Codes.{Unless}
 use Rattle.snapshot.specs.Logs.{log_code, FitsLog}
-use Rattle.snapshot.specs.declared.fault.DecodeFault.TheVariants.{NoMemory}
+use Rattle.codec.specs.declared.fault.DecodeFault.TheVariants.{NoMemory}
 use Rattle.snapshot.proofs.log.decode_pairs.Goals as goal
 
 pub returns-in_err-pairs-clause-err : goal.returns-in_err-pairs-clause-err

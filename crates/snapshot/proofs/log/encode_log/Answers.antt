@@ -1,6 +1,6 @@
 use Rattle.std.proofs.Common.{◌≡◌, subst, List, ℕ, length}
 use Rattle.model.specs.declared.records.Record.{Record}
-use Rattle.snapshot.specs.Codes.{Encodes}
+use Rattle.codec.specs.Codes.{Encodes}
 use Rattle.snapshot.specs.Logs.{log_code, AreWritten, FitsLog}
 use Rattle.snapshot.proofs.log.encode_log.Goals as goal
 

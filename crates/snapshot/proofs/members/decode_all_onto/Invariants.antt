@@ -1,5 +1,5 @@
 use Rattle.std.proofs.Common.{◌≡◌, List, ℕ, length, drop, take}
-use Rattle.snapshot.specs.Codes.{AllFit, each_code}
+use Rattle.codec.specs.Codes.{AllFit, each_code}
 use Rattle.snapshot.specs.Tenants.{FitsMember, member_code}
 use Rattle.snapshot.proofs.members.decode_all_onto.Given as goal
 

@@ -1,7 +1,7 @@
 use Rattle.std.proofs.Common.{◌≡◌, ◌∙◌, sym}
-use Rattle.snapshot.specs.Codes.{Unless}
+use Rattle.codec.specs.Codes.{Unless}
 use Rattle.snapshot.specs.Tenants.{FitsMember, member_code}
-use Rattle.snapshot.specs.declared.fault.DecodeFault.TheVariants.{NoMemory}
+use Rattle.codec.specs.declared.fault.DecodeFault.TheVariants.{NoMemory}
 use Rattle.snapshot.proofs.Faults.{failed}
 use Rattle.snapshot.proofs.members.decode_member.Goals as goal
 

@@ -1,7 +1,7 @@
 use Rattle.std.proofs.Common.{◌≡◌, ◌++◌, ◌∷◌, ◌∙◌, ap, sym, subst, List, ℕ, drop, ◌+◌, arith}
-use Rattle.snapshot.specs.Codes.{AllFit, each_code}
+use Rattle.codec.specs.Codes.{AllFit, each_code}
 use Rattle.snapshot.specs.Tenants.{FitsMember, member_code}
-use Rattle.snapshot.proofs.Each.{at_drop, from_start}
+use Rattle.codec.proofs.Each.{at_drop, from_start}
 use Rattle.snapshot.proofs.members.encode_each_member.Goals as goal
 
 pub loop-member-preserved : goal.loop-member-preserved

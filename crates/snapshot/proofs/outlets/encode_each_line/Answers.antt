@@ -1,8 +1,8 @@
 use Rattle.std.proofs.Common.{◌≡◌, ◌++◌, ◌∷◌, ◌∙◌, ap, sym, subst, List, ℕ, drop, ◌+◌}
 use Rattle.output_commit.specs.Holds.{Line}
-use Rattle.snapshot.specs.Codes.{AllFit, each_code}
+use Rattle.codec.specs.Codes.{AllFit, each_code}
 use Rattle.snapshot.specs.Parts.{FitsLine, line_code, pairs_of}
-use Rattle.snapshot.proofs.Each.{at_drop}
+use Rattle.codec.proofs.Each.{at_drop}
 use Rattle.snapshot.proofs.outlets.encode_each_line.Goals as goal
 
 pub loop-line-preserved : goal.loop-line-preserved

@@ -1,8 +1,8 @@
 use Rattle.std.proofs.Common.{rules, ◌≡◌, ◌++◌, ◌∷◌, [], ◌∙◌, ap, sym, subst, List, ℕ, drop, take, ◌+◌, length, arith}
-use Rattle.snapshot.specs.Codes.{AllFit, UnlessEach, each_code}
+use Rattle.codec.specs.Codes.{AllFit, UnlessEach, each_code}
 use Rattle.snapshot.specs.Parts.{FitsSnapshot, snapshot_code}
-use Rattle.snapshot.specs.declared.fault.DecodeFault.TheVariants.{NoMemory}
-use Rattle.snapshot.proofs.Each.{there, from_start}
+use Rattle.codec.specs.declared.fault.DecodeFault.TheVariants.{NoMemory}
+use Rattle.codec.proofs.Each.{there, from_start}
 use Rattle.snapshot.proofs.progress.decode_all_onto.Goals as goal
 
 pub loop-preserved : goal.loop-preserved

@@ -1,7 +1,7 @@
 use Rattle.std.proofs.Common.{◌≡◌, ◌++◌, ◌∷◌, ◌∙◌, ap, sym, subst, List, ℕ, drop, ◌+◌}
-use Rattle.snapshot.specs.Codes.{AllFit, each_code}
+use Rattle.codec.specs.Codes.{AllFit, each_code}
 use Rattle.snapshot.specs.Parts.{FitsSnapshot, snapshot_code}
-use Rattle.snapshot.proofs.Each.{at_drop}
+use Rattle.codec.proofs.Each.{at_drop}
 use Rattle.snapshot.proofs.progress.encode_each_snapshot.Goals as goal
 
 pub loop-snapshot-preserved : goal.loop-snapshot-preserved

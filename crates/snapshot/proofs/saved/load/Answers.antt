@@ -3,7 +3,7 @@ use Rattle.tenant.specs.Kept.{TenantState}
 use Rattle.book.specs.Standing.{HostReplays, Hosted}
 use Rattle.sha2.specs.Sha256.{sha256}
 use Rattle.snapshot.specs.Hosts.{IsBody, IsSaved, body_code, head_code}
-use Rattle.snapshot.specs.Codes.{bytes_code}
+use Rattle.codec.specs.Codes.{bytes_code}
 use Rattle.snapshot.proofs.saved.load.Goals as goal
 
 pub returns-clause-same : goal.returns-clause-same

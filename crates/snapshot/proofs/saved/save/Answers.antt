@@ -1,6 +1,6 @@
 use Rattle.std.proofs.Common.{◌≡◌, ◌∙◌, ap, sym, subst, List, ℕ, ◌<◌, ◌^◌, length}
 use Rattle.sha2.specs.Sha256.{sha256}
-use Rattle.snapshot.specs.Codes.{bytes_code}
+use Rattle.codec.specs.Codes.{bytes_code}
 use Rattle.snapshot.specs.Hosts.{head_code}
 use Rattle.snapshot.proofs.saved.save.Goals as goal
 

@@ -1,5 +1,5 @@
 use Rattle.std.proofs.Common.{◌≡◌, ◌∙◌, ap, sym, subst, List, ℕ}
-use Rattle.snapshot.specs.Codes.{Encodes, FitEach, list_code}
+use Rattle.codec.specs.Codes.{Encodes, FitEach, list_code}
 use Rattle.snapshot.specs.Parts.{FitsLine, line_code}
 use Rattle.snapshot.proofs.Lines.{lines_are, same_length}
 use Rattle.snapshot.proofs.tenants.encode_lines.Goals as goal

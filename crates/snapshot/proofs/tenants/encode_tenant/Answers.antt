@@ -1,5 +1,5 @@
 use Rattle.std.proofs.Common.{◌≡◌, ◌++◌, ◌∙◌, subst, List, ℕ}
-use Rattle.snapshot.specs.Codes.{Encodes}
+use Rattle.codec.specs.Codes.{Encodes}
 use Rattle.snapshot.specs.Tenants.{FitsTenant, tenant_code}
 use Rattle.tenant.specs.Kept.{TenantState}
 use Rattle.snapshot.proofs.tenants.encode_tenant.Goals as goal

@@ -1,7 +1,7 @@
 use Rattle.std.proofs.Common.{◌≡◌, ◌++◌, ◌∷◌, ◌∙◌, ap, sym, subst, List, ℕ, drop, ◌+◌, ◌-◌, arith}
 use Rattle.std.specs.Prelude.{Some, slice_get}
-use Rattle.snapshot.specs.Codes.{AllFit, FitsRecord, each_code, record_code}
-use Rattle.snapshot.proofs.Each.{found_drop}
+use Rattle.codec.specs.Codes.{AllFit, FitsRecord, each_code, record_code}
+use Rattle.codec.proofs.Each.{found_drop}
 use Rattle.snapshot.proofs.unit.encode_each_record.Goals as goal
 
 pub loop-place-preserved : goal.loop-place-preserved

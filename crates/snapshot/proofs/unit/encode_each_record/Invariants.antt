@@ -1,5 +1,5 @@
 use Rattle.std.proofs.Common.{◌≡◌, ◌++◌, List, ℕ, drop}
-use Rattle.snapshot.specs.Codes.{AllFit, FitsRecord, each_code, record_code}
+use Rattle.codec.specs.Codes.{AllFit, FitsRecord, each_code, record_code}
 use Rattle.snapshot.proofs.unit.encode_each_record.Given as goal
 
 -- what was appended goes on with the bytes of those from this one on, and all fit if these do

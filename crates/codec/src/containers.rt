@@ -1,10 +1,10 @@
 //! Several values.
 
 ghost use Rattle.std.specs.Prelude.{◌≡◌, ◌<◌, ◌^◌, ◌++◌, ◌∷◌, [], IfErr, IfOk, List, length};
-ghost use Rattle.snapshot.specs.Codes.{AllFit, each_code, list_code, option_code, pair_code, Decodes, DecodesEach};
-ghost use Rattle.snapshot.specs.Codes.{Encodes};
-ghost use Rattle.snapshot.specs.Codes.{FitEach, FitsSome, Unless, UnlessEach};
-ghost use Rattle.snapshot.specs.declared.fault.DecodeFault.{DecodeFault as FaultOf};
+ghost use Rattle.codec.specs.Codes.{AllFit, each_code, list_code, option_code, pair_code, Decodes, DecodesEach};
+ghost use Rattle.codec.specs.Codes.{Encodes};
+ghost use Rattle.codec.specs.Codes.{FitEach, FitsSome, Unless, UnlessEach};
+ghost use Rattle.codec.specs.declared.fault.DecodeFault.{DecodeFault as FaultOf};
 
 use crate::coded::Coded;
 use crate::fault::DecodeFault;
@@ -24,7 +24,7 @@ fn encode_each<T: Coded>(items: &[T], out: &mut Vec<u8>) -> Result<(), NoMemory>
 }
 
 /// Appends the bytes of a list: how many items there are, and each.
-pub(crate) fn encode_list<T: Coded>(items: &[T], out: &mut Vec<u8>) -> Result<(), NoMemory>
+pub fn encode_list<T: Coded>(items: &[T], out: &mut Vec<u8>) -> Result<(), NoMemory>
     ensures code { IfOk result (λ _. Encodes (list_code T.code) items.now out.old.items out.new.items) }
     ensures fits { IfOk result (λ _. FitEach T.fits items.now) }
 {
@@ -33,7 +33,7 @@ pub(crate) fn encode_list<T: Coded>(items: &[T], out: &mut Vec<u8>) -> Result<()
 }
 
 /// Appends the bytes of the list of a vector.
-pub(crate) fn encode_vec<T: Coded>(items: &Vec<T>, out: &mut Vec<u8>) -> Result<(), NoMemory>
+pub fn encode_vec<T: Coded>(items: &Vec<T>, out: &mut Vec<u8>) -> Result<(), NoMemory>
     ensures code { IfOk result (λ _. Encodes (list_code T.code) items.now.items out.old.items out.new.items) }
     ensures fits { IfOk result (λ _. FitEach T.fits items.now.items) }
 {
@@ -41,7 +41,7 @@ pub(crate) fn encode_vec<T: Coded>(items: &Vec<T>, out: &mut Vec<u8>) -> Result<
 }
 
 /// Adds an item at the end.
-pub(crate) fn put<T: Drop>(items: &mut Vec<T>, item: T) -> Result<(), NoMemory>
+pub fn put<T: Drop>(items: &mut Vec<T>, item: T) -> Result<(), NoMemory>
     ensures { IfOk result (λ _. items.new.items ≡ items.old.items ++ item ∷ []) }
 {
     items.push(item)?;
@@ -66,7 +66,7 @@ fn decode_each<T: Coded>(
 }
 
 /// Takes the bytes of a list off the input: how many items there are, and each.
-pub(crate) fn decode_list<T: Coded>(alloc: Global, input: &mut Input) -> Result<Vec<T>, DecodeFault>
+pub fn decode_list<T: Coded>(alloc: Global, input: &mut Input) -> Result<Vec<T>, DecodeFault>
     ensures ok { IfOk result (λ xs. Decodes (list_code T.code) (FitEach T.fits) input.old xs.items input.new) }
     ensures err { IfErr result (λ e. Unless (list_code T.code) (FitEach T.fits) input.old (e ≡ FaultOf.NoMemory)) }
 {

@@ -1,6 +1,6 @@
 use Rattle.std.proofs.Common.{◌≡◌, ◌++◌, List, ℕ, drop}
-use Rattle.snapshot.specs.Codes.{AllFit, each_code}
-use Rattle.snapshot.proofs.containers.encode_each.Given as goal
+use Rattle.codec.specs.Codes.{AllFit, each_code}
+use Rattle.codec.proofs.containers.encode_each.Given as goal
 
 -- what was appended goes on with the bytes of the items from this one on, and all fit if these do
 abbrev pub invariant-loop-item : goal.invariant-loop-item

@@ -1,8 +1,8 @@
 //! Names of units, kinds, letters and intervals.
 
 ghost use Rattle.std.specs.Prelude.{◌<◌, ◌^◌};
-ghost use Rattle.snapshot.specs.Codes.{byte_code, mark_code, number_code, quota_code, row_code, seat_code, source_code};
-ghost use Rattle.snapshot.specs.Codes.{FitsMark, FitsQuota, FitsRow, FitsSeat, FitsSource};
+ghost use Rattle.codec.specs.Codes.{byte_code, mark_code, number_code, quota_code, row_code, seat_code, source_code};
+ghost use Rattle.codec.specs.Codes.{FitsMark, FitsQuota, FitsRow, FitsSeat, FitsSource};
 
 use crate::coded::Coded;
 use crate::fault::DecodeFault;

@@ -1,6 +1,6 @@
 //! Records.
 
-ghost use Rattle.snapshot.specs.Codes.{marks_code, record_code, FitMarks, FitsRecord};
+ghost use Rattle.codec.specs.Codes.{marks_code, record_code, FitMarks, FitsRecord};
 
 use crate::coded::Coded;
 use crate::containers::{decode_list, encode_list};

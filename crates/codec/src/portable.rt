@@ -1,8 +1,8 @@
 //! Handlers whose states can be written as bytes.
 
 ghost use Rattle.std.specs.Prelude.{◌≡◌, IfErr, IfOk};
-ghost use Rattle.snapshot.specs.Codes.{Decodes, Encodes, Unless};
-ghost use Rattle.snapshot.specs.declared.fault.DecodeFault.{DecodeFault as FaultOf};
+ghost use Rattle.codec.specs.Codes.{Decodes, Encodes, Unless};
+ghost use Rattle.codec.specs.declared.fault.DecodeFault.{DecodeFault as FaultOf};
 
 use crate::fault::DecodeFault;
 use crate::input::Input;

@@ -1,6 +1,6 @@
 use Rattle.std.proofs.Common.{◌≡◌, List, ℕ, length, drop, take}
-use Rattle.snapshot.specs.Codes.{AllFit, each_code}
-use Rattle.snapshot.proofs.containers.decode_each.Given as goal
+use Rattle.codec.specs.Codes.{AllFit, each_code}
+use Rattle.codec.proofs.containers.decode_each.Given as goal
 
 -- of items that fit, so many were read, and the others are left
 abbrev pub invariant-loop : goal.invariant-loop

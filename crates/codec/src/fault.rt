@@ -16,7 +16,7 @@ pub enum DecodeFault {
 
 impl From<NoMemory> for DecodeFault {
     ghost use Rattle.std.specs.Prelude.{◌≡◌};
-    ghost use Rattle.snapshot.specs.declared.fault.DecodeFault.TheVariants.{NoMemory};
+    ghost use Rattle.codec.specs.declared.fault.DecodeFault.TheVariants.{NoMemory};
 
     ghost from_gives = { λ _ e. e ≡ NoMemory };
 

@@ -1,7 +1,7 @@
 use Rattle.std.proofs.Common.{◌≡◌, ◌++◌, ◌∷◌, ◌∙◌, ap, sym, subst, List, ℕ, drop, ◌+◌}
-use Rattle.snapshot.specs.Codes.{AllFit, each_code}
-use Rattle.snapshot.proofs.Each.{at_drop}
-use Rattle.snapshot.proofs.containers.encode_each.Goals as goal
+use Rattle.codec.specs.Codes.{AllFit, each_code}
+use Rattle.codec.proofs.Each.{at_drop}
+use Rattle.codec.proofs.containers.encode_each.Goals as goal
 
 pub loop-item-preserved : goal.loop-item-preserved
 loop-item-preserved g c =

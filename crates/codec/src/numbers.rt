@@ -1,8 +1,8 @@
 //! Numbers, and whether something is so.
 
 ghost use Rattle.std.specs.Prelude.{◌≡◌, ◌<◌, ◌^◌, IfErr, IfOk};
-ghost use Rattle.snapshot.specs.Codes.{bool_code, byte_code, number_code, Decodes, Encodes, Unless};
-ghost use Rattle.snapshot.specs.declared.fault.DecodeFault.{DecodeFault as FaultOf};
+ghost use Rattle.codec.specs.Codes.{bool_code, byte_code, number_code, Decodes, Encodes, Unless};
+ghost use Rattle.codec.specs.declared.fault.DecodeFault.{DecodeFault as FaultOf};
 
 use crate::coded::Coded;
 use crate::fault::DecodeFault;

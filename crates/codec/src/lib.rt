@@ -1,0 +1,29 @@
+//! Values as bytes, and back.
+//!
+//! - `Coded`: a value that can be written as bytes; `Portable`: a handler whose states can.
+//! - `encode_list`, `decode_list`, `encode_vec`, `encode_bytes`, `decode_bytes`: lists and bytes, of which other values
+//!   are made.
+//! - `Input`: bytes that are left to be decoded. `DecodeFault`: why they were not.
+//!
+//! Numbers, options, pairs, texts and the names and records of `model` are coded here. Contracts see a value's bytes by
+//! a `Code`, with those that follow behind them (`specs/Codes`): what was written is read back equal, since no two
+//! values that fit have the same bytes.
+#![tactic(auto)]
+
+mod coded;
+mod containers;
+mod fault;
+mod input;
+mod names;
+mod numbers;
+mod portable;
+mod records;
+mod sample;
+mod texts;
+
+pub use coded::Coded;
+pub use containers::{decode_list, encode_list, encode_vec, put};
+pub use fault::DecodeFault;
+pub use input::Input;
+pub use portable::Portable;
+pub use texts::{decode_bytes, encode_bytes};
