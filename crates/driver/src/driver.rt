@@ -26,8 +26,8 @@ pub struct Done {
 #[derive(Drop)]
 pub struct Driver {
     alloc: Global,
-    flows: IndexMap<TenantName, Flow>,
-    done: Done,
+    pub(crate) flows: IndexMap<TenantName, Flow>,
+    pub(crate) done: Done,
 }
 
 /// The tenant and the unit that a line's step is about.

@@ -17,7 +17,7 @@ pub struct Waiting {
     /// Why it was refused when it was tried last; nothing where it wasn't tried yet.
     pub why: Option<Refusal>,
     // Whether that was told.
-    is_told: bool,
+    pub(crate) is_told: bool,
     // Whether it was taken, or dropped.
     is_gone: bool,
 }
@@ -46,21 +46,21 @@ impl Fate {
 
 /// A unit.
 #[derive(Clone, Copy, Debug, Default)]
-struct UnitFlow {
-    is_up: bool,
+pub(crate) struct UnitFlow {
+    pub(crate) is_up: bool,
     // It took something since it was flushed.
-    has_taken: bool,
+    pub(crate) has_taken: bool,
     // At most so many outputs are held.
-    held: u64,
+    pub(crate) held: u64,
 }
 
 /// What the driver remembers of one tenant: its units, and its letters that wait, in the order of their numbers.
 #[derive(Debug, Drop)]
 pub struct Flow {
-    units: ArrayVec<UnitFlow, MAX_UNITS>,
-    letters: Vec<Waiting>,
+    pub(crate) units: ArrayVec<UnitFlow, MAX_UNITS>,
+    pub(crate) letters: Vec<Waiting>,
     // Those to units that are down.
-    parked: Vec<Waiting>,
+    pub(crate) parked: Vec<Waiting>,
 }
 
 /// Steps to give, in order: one of each kind for each unit at most, and one more.
@@ -104,7 +104,7 @@ impl UnitFlow {
 
 impl Waiting {
     /// A letter that was made just now.
-    fn new(letter: Letter, unit: Unit) -> Waiting {
+    pub(crate) fn new(letter: Letter, unit: Unit) -> Waiting {
         Waiting {
             letter,
             unit,

@@ -4,6 +4,7 @@
 //!   letters are delivered, what they made is logged, and what is firm is released, a line for each text.
 //! - `Driver`: what it remembers between two lines, a `Flow` for each open tenant: which units are up and hold
 //!   something, and the letters that wait (`Waiting`).
+//!   `Driver::encode` and `decode` (`memory`) write it as bytes, and read it again.
 //! - `Chore`: a step that it gives. It delivers, flushes, notices and releases, and gives no other step.
 //! - `outputs`: the line of a text that left.
 //! - `released_is_told`, `book_released_is_told` (`laws`): each unit's output lines, and the outputs in its `release`
@@ -32,6 +33,7 @@ mod driver;
 mod driving;
 mod flow;
 mod laws;
+mod memory;
 mod outputs;
 
 pub use chore::Chore;

@@ -1,20 +1,17 @@
 //! The page beside a journal.
 
+use crate::replacing::replace_file;
 use serde_json::{Error as JsonError, Value, json};
 use std::alloc::{AllocError, Global};
 use std::fmt::{Display, Formatter};
-use std::fs::{File, Files, OpenOptions};
-use std::io::{ErrorKind, Write};
-use std::os::unix::fs::OpenOptionsExt;
+use std::fs::{File, Files};
+use std::io::ErrorKind;
 use std::time::{Clock, SystemTime, UNIX_EPOCH};
-use std::{fmt, fs, io};
+use std::{fmt, io};
 use terminal::Plural;
 
 /// What is added to the journal's name.
 const SUFFIX: &str = ".about";
-
-/// What is added to the page's while it is written.
-const NEW: &str = ".new";
 
 /// The program and the handler that a journal is of.
 #[derive(Clone, Copy, Debug)]
@@ -199,15 +196,7 @@ pub(crate) fn write_about<R: Files<File = File> + Clock>(
 ) -> io::Result<()> {
     let text = page(alloc, owner, earlier, now(rt))?;
     let path = path_of(alloc, journal)?;
-    let new = format!(in alloc; "{}{NEW}", path.as_str())?;
-    // A name left by an earlier run, or put there by somebody else, is no file of ours: it goes, and isn't followed.
-    let _ = fs::remove_file(rt, new.as_str());
-    let mut options = OpenOptions::new();
-    options.write(true).create_new(true).mode(0o600);
-    let mut file = options.open(rt, new.as_str())?;
-    file.write_all(text.as_bytes())?;
-    file.sync_all()?;
-    fs::rename(rt, new.as_str(), path.as_str())
+    replace_file(rt, alloc, path.as_str(), &[text.as_bytes()])
 }
 
 /// The text of the page. It says nothing of those before where there were none.

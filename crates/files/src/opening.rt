@@ -5,6 +5,8 @@ use crate::about::{About, Owner, write_about};
 use crate::fitness::{Unfit, why_unfit};
 use crate::lasting::LastingFile;
 use crate::place::Place;
+use crate::replacing::sync_folder;
+use crate::snapshots::Stand;
 use crate::tail::{make_last, trusted_length};
 use durable::{Extent, measure};
 use log::{Log, error, warn};
@@ -12,17 +14,39 @@ use std::alloc::Global;
 use std::fs::{File, Files, Metadata, OpenOptions, TryLockError};
 use std::io::{BufReader, ErrorKind, Read, Seek, SeekFrom};
 use std::os::unix::fs::OpenOptionsExt;
-use std::path::Path;
 use std::time::Clock;
 use std::{fs, io};
 use terminal::{BLOCK, Plural};
 
+/// A journal that this run has for itself, as it was found.
+#[derive(Drop)]
+pub struct LockedJournal<'a> {
+    path: &'a str,
+    file: File,
+    length: u64,
+    ownership: Ownership,
+}
+
+impl<'a> LockedJournal<'a> {
+    /// The file, to be read.
+    pub fn file(&self) -> &File {
+        &self.file
+    }
+
+    /// How many bytes it has.
+    pub fn len(&self) -> u64 {
+        self.length
+    }
+}
+
 /// A journal that this run has for itself, whose bytes are whole lines, synced. The next read of the file gives its
-/// first byte.
+/// first byte behind those that it is gone on from.
 #[derive(Drop)]
 pub struct JournalFile<'a, R> {
     pub file: LastingFile<'a, R>,
     pub extent: Extent,
+    /// What of it needs no step.
+    pub begun: Stand,
 }
 
 /// Which journals a run takes besides those that are known to be of its program and handler.
@@ -45,26 +69,53 @@ enum Ownership {
     Upgraded(About),
 }
 
-/// Opens the journal, or makes it, with mode 0600, and its page beside it. A last line that isn't whole is cut off, and
-/// what a crash of the machine left of it. How many lines there are is told, where there are some or one was cut off.
+/// Opens the journal, or makes it, with mode 0600, and has it for itself.
 ///
-/// Where that fails it is told, and the status to end with is given: 2 where `from` is past the last line, and then
-/// nothing is changed; 1 where another run has the journal, where the file is unfit or not known to be a journal of
-/// this program and its handler, and isn't to be taken over, or where it can't be opened, read, cut or synced.
-pub fn open_journal<'a, R: Files<File = File> + Clock, L: Log>(
-    rt: &'a R,
+/// Where that fails it is told, and the status to end with is given: 1 where another run has the journal, where the
+/// file is unfit or not known to be a journal of this program and its handler, and isn't to be taken over, or where it
+/// can't be opened.
+pub fn lock_journal<'a, R: Files<File = File>, L: Log>(
+    rt: &R,
     told: &L,
     alloc: Global,
     path: &'a str,
     owner: &Owner<'_>,
-    from: Option<u64>,
     takeover: Takeover,
-) -> Result<JournalFile<'a, R>, u8> {
+) -> Result<LockedJournal<'a>, u8> {
     let file = open_fit(rt, told, path)?;
     lock(rt, told, path, &file)?;
     let length = length_of(told, path, &file)?;
     let ownership = owned_by(rt, told, alloc, path, owner, length, takeover)?;
-    let extent = measured(told, alloc, path, &file, length, from)?;
+    Ok(LockedJournal {
+        path,
+        file,
+        length,
+        ownership,
+    })
+}
+
+/// Cuts the journal to whole lines that last, and writes its page beside it. A last line that isn't whole is cut off,
+/// and what a crash of the machine left of it. How many lines there are is told, where there are some or one was cut
+/// off. What stands before `begun` is not read.
+///
+/// Where that fails it is told, and the status to end with is given: 2 where `from` is past the last line, and then
+/// nothing is changed; 1 where the file can't be read, cut or synced.
+pub fn open_journal<'a, R: Files<File = File> + Clock, L: Log>(
+    rt: &'a R,
+    told: &L,
+    alloc: Global,
+    locked: LockedJournal<'a>,
+    owner: &Owner<'_>,
+    from: Option<u64>,
+    begun: Stand,
+) -> Result<JournalFile<'a, R>, u8> {
+    let LockedJournal {
+        path,
+        file,
+        length,
+        ownership,
+    } = locked;
+    let extent = measured(told, alloc, path, &file, length, from, &begun)?;
     if let Err(error) = make_whole(alloc, &file, length, &extent) {
         error!(told; "can't cut, write or sync the journal {path:?}: {error}");
         return Err(1);
@@ -78,7 +129,11 @@ pub fn open_journal<'a, R: Files<File = File> + Clock, L: Log>(
     }
     tell_extent(told, path, &extent, length);
     match LastingFile::new(rt, path, file, extent.whole) {
-        Ok(file) => Ok(JournalFile { file, extent }),
+        Ok(file) => Ok(JournalFile {
+            file,
+            extent,
+            begun,
+        }),
         Err(error) => {
             error!(told; "can't read the journal {path:?}: {error}");
             Err(1)
@@ -230,8 +285,9 @@ fn measured<L: Log>(
     file: &File,
     length: u64,
     from: Option<u64>,
+    begun: &Stand,
 ) -> Result<Extent, u8> {
-    let extent = match measure_file(alloc, file, length, from.unwrap_or(u64::MAX)) {
+    let extent = match measure_file(alloc, file, length, from.unwrap_or(u64::MAX), begun) {
         Ok(extent) => extent,
         Err(error) => return Err(cannot_read(told, path, &error)),
     };
@@ -244,14 +300,28 @@ fn measured<L: Log>(
     Ok(extent)
 }
 
-/// Measures the file from its beginning, and goes back there.
-fn measure_file(alloc: Global, file: &File, length: u64, from: u64) -> io::Result<Extent> {
+/// Measures the file from behind what it is gone on from, and goes back there.
+fn measure_file(
+    alloc: Global,
+    file: &File,
+    length: u64,
+    from: u64,
+    begun: &Stand,
+) -> io::Result<Extent> {
     let trusted = trusted_length(alloc, file, length)?;
     let mut bytes = file;
-    let mut reader = BufReader::with_capacity(alloc, BLOCK, bytes.take(trusted))?;
-    let extent = measure(&mut reader, from)?;
-    bytes.seek(SeekFrom::Start(0))?;
-    Ok(extent)
+    bytes.seek(SeekFrom::Start(begun.bytes))?;
+    let behind = {
+        let mut reader = BufReader::with_capacity(alloc, BLOCK, bytes.take(trusted.saturating_sub(begun.bytes)))?;
+        measure(&mut reader, from.saturating_sub(begun.lines))?
+    };
+    bytes.seek(SeekFrom::Start(begun.bytes))?;
+    Ok(Extent {
+        lines: behind.lines.saturating_add(begun.lines),
+        whole: behind.whole.saturating_add(begun.bytes),
+        torn: behind.torn,
+        before: behind.before.saturating_add(begun.bytes),
+    })
 }
 
 /// Cuts off what stands behind the last whole line, and makes all lines last.
@@ -260,16 +330,6 @@ fn make_whole(alloc: Global, file: &File, length: u64, extent: &Extent) -> io::R
         file.set_len(extent.whole)?;
     }
     make_last(alloc, file, extent.whole)
-}
-
-/// Syncs the folder that has the file.
-fn sync_folder<R: Files<File = File>>(rt: &R, path: &str) -> io::Result<()> {
-    let folder = match Path::new(path).parent() {
-        Some(folder) => folder.as_str(),
-        None => "",
-    };
-    let folder = if folder.is_empty() { "." } else { folder };
-    File::open(rt, folder)?.sync_all()
 }
 
 /// Tells how many lines there are, so that whoever gives the lines knows from where.

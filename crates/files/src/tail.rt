@@ -11,8 +11,8 @@ fn begin_of(length: u64) -> u64 {
     length.saturating_sub(BLOCK as u64)
 }
 
-/// The last block of the file, which has so many bytes.
-fn read_tail(alloc: Global, file: &File, length: u64) -> io::Result<Vec<u8>> {
+/// The last block of the file's first bytes, of which there are so many.
+pub(crate) fn read_tail(alloc: Global, file: &File, length: u64) -> io::Result<Vec<u8>> {
     let begin = begin_of(length);
     let count = length.saturating_sub(begin).min(BLOCK as u64);
     let mut block = Vec::new(alloc);

@@ -12,8 +12,9 @@ pub(crate) fn cores_for<R: Threads, L: Log>(
     told: &L,
     terminals: Terminals,
     run: &RunWords<'_>,
+    has_snapshots: bool,
 ) -> usize {
-    match (run.cores, word_for_one(run)) {
+    match (run.cores, word_for_one(run, has_snapshots)) {
         (None | Some(1), Some(_)) => 1,
         (Some(_), Some(word)) => {
             warn!(told; "one core is used: {word} takes the steps of all tenants in one order");
@@ -25,7 +26,7 @@ pub(crate) fn cores_for<R: Threads, L: Log>(
 }
 
 /// The word beside which one core is used, where there is one.
-fn word_for_one(run: &RunWords<'_>) -> Option<&'static str> {
+fn word_for_one(run: &RunWords<'_>, has_snapshots: bool) -> Option<&'static str> {
     if run.drives {
         Some("drive")
     } else if run.log.is_some() {
@@ -34,6 +35,8 @@ fn word_for_one(run: &RunWords<'_>) -> Option<&'static str> {
         Some("--audit")
     } else if run.explain {
         Some("--explain")
+    } else if has_snapshots {
+        Some("a snapshot")
     } else {
         None
     }

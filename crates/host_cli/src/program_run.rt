@@ -2,6 +2,7 @@
 
 use crate::journals::journal_as_asked;
 use crate::run_asked::{run_as_asked, shows_bar};
+use codec::Portable;
 use drawings::draw_on;
 use feed_runs::{feeds_on, open_feeds};
 use files::fill_descriptors;
@@ -39,7 +40,7 @@ pub fn run_program<
         + Eprint
         + Input
         + AllocGlobal,
-    H: Handler + Copy + Send + Sync,
+    H: Portable + Copy + Send + Sync,
 >(rt: &R, handler: H, program: &Program<'_>, terminals: Terminals) -> u8 {
     run_either(rt, handler, handler, program, terminals)
 }
@@ -56,8 +57,8 @@ pub fn run_either<
         + Eprint
         + Input
         + AllocGlobal,
-    H: Handler + Copy + Send + Sync,
-    P: Handler + Copy + Send + Sync,
+    H: Portable + Copy + Send + Sync,
+    P: Portable + Copy + Send + Sync,
 >(rt: &R, handler: H, programs: P, program: &Program<'_>, terminals: Terminals) -> u8 {
     let diagnostics = Diagnostics {
         rt,

@@ -4,14 +4,15 @@ ghost use denote.Param.Send.{IsSend};
 
 use crate::cores::cores_for;
 use crate::program_run::Terminals;
-use files::{LogFile, Owner, Takeover, make_log, open_journal};
-use handler::Handler;
-use log::{Log, Logged, info, warn};
-use runs::{Hosted, run_journaled, run_on, run_on_cores};
+use codec::Portable;
+use files::{LogFile, Owner, Takeover, has_snapshot, lock_journal, make_log};
+use log::{Log, Logged, error, info, warn};
+use runs::{Hosted, Snapshots, run_journaled, run_on, run_on_cores};
 use shared_log::MemoryStore;
 use stable_log::WriterStore;
+use std::alloc::{AllocError, Global};
 use std::fs::{File, Files};
-use std::io::{self, Input};
+use std::io::{self, Input, Read, Write};
 use std::sync::Wait;
 use std::thread;
 use std::thread::{Threads, scope_env};
@@ -24,16 +25,24 @@ pub(crate) fn shows_bar(terminals: Terminals, verbosity: Verbosity) -> bool {
     verbosity != Verbosity::Quiet && terminals.errors
 }
 
+/// Whether snapshots are kept beside the journal, or there is one: it is of one host, and of no history.
+fn goes_on<R: Files<File = File> + AllocGlobal>(rt: &R, asked: &RunWords<'_>) -> bool {
+    match asked.journal {
+        Some(path) => asked.snapshot.is_some() || has_snapshot(rt, rt.alloc(), path),
+        None => false,
+    }
+}
+
 /// `run` or `drive`: with a log that is written, where a file is named for it, or with one in memory. Reasons are
 /// told to a terminal unasked.
 pub(crate) fn run_as_asked<
     R: Threads + Wait + Sync + Files<File = File> + Clock + Print + Eprint + Input + AllocGlobal,
-    H: Handler + Copy + Send,
+    H: Portable + Copy + Send,
 >(rt: &R, handler: H, program: &Program<'_>, terminals: Terminals, asked: &RunWords<'_>) -> u8 {
     let shows = shows_bar(terminals, asked.verbosity);
     let is_alone = matches!(asked.cores, None | Some(1));
     let run = RunWords {
-        explain: asked.explain || shows && is_alone,
+        explain: asked.explain || shows && is_alone && !goes_on(rt, asked),
         ..*asked
     };
     let work = if shows { input_size(rt) } else { None };
@@ -55,7 +64,7 @@ pub(crate) fn run_as_asked<
         let command = if run.drives { "drive" } else { "run" };
         warn!(&told; "waiting for step lines from the terminal, up to Ctrl-D: `{name} {command} --help` lists them");
     }
-    let cores = cores_for(rt, &told, terminals, &run);
+    let cores = cores_for(rt, &told, terminals, &run, goes_on(rt, &run));
     let status = run_reported(rt, &told, handler, program, &run, cores, &bar);
     bar.clear();
     let pace = bar.pace_so_far();
@@ -69,7 +78,7 @@ pub(crate) fn run_as_asked<
 fn run_reported<
     R: Threads + Wait + Sync + Files<File = File> + Clock + Print + Eprint + Input + AllocGlobal,
     L: Log,
-    H: Handler + Copy + Send,
+    H: Portable + Copy + Send,
 >(
     rt: &R,
     told: &L,
@@ -106,7 +115,7 @@ fn run_reported<
 fn run_unreported<
     R: Threads + Wait + Sync + Files<File = File> + Clock + Print + Eprint + Input + AllocGlobal,
     L: Log,
-    H: Handler + Copy + Send,
+    H: Portable + Copy + Send,
 >(
     rt: &R,
     told: &L,
@@ -124,7 +133,7 @@ fn run_unreported<
 fn run_watched<
     R: Threads + Wait + Sync + Files<File = File> + Clock + Print + Eprint + Input + AllocGlobal,
     L: Log,
-    H: Handler + Copy + Send,
+    H: Portable + Copy + Send,
 >(
     rt: &R,
     told: &L,
@@ -142,21 +151,7 @@ fn run_watched<
     let input = Watched::new(bar, Patient::new(rt, rt.reader()));
     let output = Patient::new(rt, io::writer(rt));
     if let Some(path) = run.journal {
-        let owner = owner_of(program);
-        // What a driver writes is counted by its own lines, so that all of the journal's are answered.
-        let from = if run.drives {
-            run.from.map(|_| 0)
-        } else {
-            run.from
-        };
-        let takeover = Takeover {
-            adopt: run.adopt,
-            accept_upgrade: run.accept_upgrade,
-        };
-        return match open_journal(rt, told, alloc, path, &owner, from, takeover) {
-            Ok(journal) => run_journaled(rt, told, alloc, host, input, output, journal, cores, run),
-            Err(status) => status,
-        };
+        return run_in_journal(rt, told, host, input, output, program, path, cores, run);
     }
     let Some(path) = run.log else {
         if cores > 1 {
@@ -172,6 +167,53 @@ fn run_watched<
         }
         None => 1,
     }
+}
+
+/// `run` behind this journal.
+fn run_in_journal<
+    R: Threads + Sync + Files<File = File> + Clock + AllocGlobal,
+    L: Log,
+    I: Read + Drop,
+    O: Write + Drop,
+    H: Portable + Copy + Send,
+>(
+    rt: &R,
+    told: &L,
+    host: Hosted<'_, H>,
+    input: I,
+    output: O,
+    program: &Program<'_>,
+    path: &str,
+    cores: usize,
+    run: &RunWords<'_>,
+) -> u8 {
+    let alloc = rt.alloc();
+    let owner = owner_of(program);
+    let takeover = Takeover {
+        adopt: run.adopt,
+        accept_upgrade: run.accept_upgrade,
+    };
+    let locked = match lock_journal(rt, told, alloc, path, &owner, takeover) {
+        Ok(locked) => locked,
+        Err(status) => return status,
+    };
+    let Ok(about) = about_of(alloc, &owner, run) else {
+        error!(told; "there is no memory for the name of the handler");
+        return 1;
+    };
+    let snapshots = Snapshots {
+        files: rt,
+        path,
+        about: about.as_str(),
+        each: run.snapshot,
+    };
+    run_journaled(rt, told, alloc, host, input, output, locked, &owner, snapshots, cores, run)
+}
+
+/// What a snapshot is about: the handler and its version, and whether each line was carried on behind.
+fn about_of(alloc: Global, owner: &Owner<'_>, run: &RunWords<'_>) -> Result<String, AllocError> {
+    let command = if run.drives { "drive" } else { "run" };
+    format!(in alloc; "{command} {} {}", owner.handler, owner.handler_version)
 }
 
 /// Whose a journal of the program is.

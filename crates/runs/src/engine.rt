@@ -56,6 +56,20 @@ impl<H: Handler + Send, S: Store> Engine<H, S> {
         Engine { stepped, driver }
     }
 
+    /// The host of all tenants, where there is one.
+    pub(crate) fn host(&self) -> Option<&Host<H, S>> {
+        match &self.stepped {
+            Stepped::Host(host) => Some(host),
+            Stepped::Book(book) => Some(book.host()),
+            Stepped::Shards(_) => None,
+        }
+    }
+
+    /// What carries on, where something does.
+    pub(crate) fn driver(&self) -> Option<&Driver> {
+        self.driver.as_ref()
+    }
+
     /// Leaves it as it is, for the process to end with.
     pub(crate) fn forget(self) {
         let Engine { stepped, driver } = self;
@@ -145,6 +159,17 @@ impl<H: Handler + Send, S: Store> Engine<H, S> {
 }
 
 impl<H: Handler + Copy + Send> Engine<H, MemoryStore> {
+    /// One that goes on with a host, and with what a driver remembers of it, where it is driven.
+    pub(crate) fn going_on(
+        host: Host<H, MemoryStore>,
+        driver: Option<Driver>,
+    ) -> Engine<H, MemoryStore> {
+        Engine {
+            stepped: Stepped::Host(host),
+            driver,
+        }
+    }
+
     /// One of so many hosts, to which tenants are dealt: their steps are done side by side. `NoMemory` comes where
     /// there is none for their list.
     pub(crate) fn sharded(

@@ -2,13 +2,16 @@
 //! each of which stands in the journal before it is stepped.
 
 use crate::engine::Engine;
+use crate::first_lines::FirstLines;
 use crate::hosted::Hosted;
 use crate::judged::Judged;
 use crate::no_zeros::NoZeros;
 use crate::run::{WIDE_BLOCK, no_buffers};
 use crate::skipping::Skipping;
+use crate::snapshots::{Begun, Keeper, Snapshots};
+use codec::Portable;
 use durable::{Extent, Journaled};
-use files::{JournalFile, LastingFile, Standing};
+use files::{JournalFile, LastingFile, LockedJournal, Owner, Stand, Standing, open_journal};
 use handler::Handler;
 use journal::DurableReplies;
 use lines::{Counted, ServeFault};
@@ -20,6 +23,7 @@ use std::fs::{File, Files};
 use std::io;
 use std::io::{BufReader, BufWriter, Read, Write};
 use std::thread::Threads;
+use std::time::Clock;
 use terminal::{BLOCK, Plural};
 use words::RunWords;
 
@@ -57,16 +61,20 @@ type Input<'a, F, R> = Counted<BufReader<Journaled<NoZeros<R>, LastingFile<'a, F
 /// What writes the lines of a run.
 type Output<W> = Counted<DurableReplies<Skipping<W>>>;
 
-/// Steps the lines of the journal, answers those that were asked for, and then answers each line of the input. Tells
-/// the status to end with, as `run_on` does; 1 too where the journal fails, or where a step finds no memory: its line
-/// stands unanswered in the journal. Of several cores nothing that needs a book may be asked for, and no driver.
+/// Steps the lines of the journal, answers those that were asked for, and then answers each line of the input. Where a
+/// snapshot is beside the journal that the run can go on from, only the lines behind it are stepped; and others are
+/// kept behind each so many lines, where that is asked for. Tells the status to end with, as `run_on` does; 1 too where
+/// the journal fails, or where a step finds no memory: its line stands unanswered in the journal; 2 where a line is
+/// asked for that the journal doesn't have. Of several cores nothing that needs a book may be asked for, no driver, and
+/// no snapshot.
 pub fn run_journaled<
+    'a,
     T: Threads + Sync,
     L: Log,
-    F: Files<File = File>,
+    F: Files<File = File> + Clock,
     R: Read + Drop,
     W: Write + Drop,
-    H: Handler + Copy + Send,
+    H: Portable + Copy + Send,
 >(
     rt: &T,
     told: &L,
@@ -74,20 +82,45 @@ pub fn run_journaled<
     hosted: Hosted<'_, H>,
     input: R,
     output: W,
-    journal: JournalFile<'_, F>,
+    locked: LockedJournal<'a>,
+    owner: &Owner<'_>,
+    snapshots: Snapshots<'a, F>,
     cores: usize,
     asked: &RunWords<'_>,
 ) -> u8 {
     let Ok(writer) = BufWriter::with_capacity(alloc, BLOCK, output) else {
         return no_buffers(told);
     };
-    let Ok(made) = engine_on(alloc, hosted.handler, cores, asked) else {
+    let begun = snapshots.begun(told, alloc, hosted.handler, &locked, asked);
+    let stand = match &begun {
+        Some(begun) => begun.stand,
+        None => Stand::none(),
+    };
+    let Ok(made) = engine_on(alloc, hosted.handler, cores, asked, begun) else {
         return no_buffers(told);
     };
     let mut engine = made;
+    let from = first_answered(asked);
+    let journal = match open_journal(
+        snapshots.files,
+        told,
+        alloc,
+        locked,
+        owner,
+        from,
+        stand,
+    ) {
+        Ok(journal) => journal,
+        Err(status) => {
+            engine.forget();
+            return status;
+        }
+    };
     let block = if cores > 1 { WIDE_BLOCK } else { BLOCK };
-    let skipped = skipped_of(asked);
-    let mut writer = Counted::new(DurableReplies::new(Skipping::new(Judged::new(writer), skipped)));
+    let judged = Judged::new(writer);
+    let skipping = Skipping::new(judged, skipped_of(asked, &stand), stand.written);
+    let mut writer = Counted::new(DurableReplies::new(skipping));
+    let mut keeper = Keeper::new(snapshots, stand);
     let gone_on = go_on(
         rt,
         told,
@@ -97,6 +130,7 @@ pub fn run_journaled<
         journal,
         &mut writer,
         &mut engine,
+        &mut keeper,
         block,
         asked,
     );
@@ -116,23 +150,39 @@ pub fn run_journaled<
     status
 }
 
-/// What answers the lines on so many cores. `NoMemory` comes where there is none for several hosts.
-fn engine_on<H: Handler + Copy + Send>(
+/// What answers the lines: on so many cores, or from a snapshot on. `NoMemory` comes where there is none for several
+/// hosts.
+fn engine_on<H: Portable + Copy + Send>(
     alloc: Global,
     handler: H,
     cores: usize,
     asked: &RunWords<'_>,
+    begun: Option<Begun<H>>,
 ) -> Result<Engine<H, MemoryStore>, NoMemory> {
+    if let Some(begun) = begun {
+        let Begun { host, driver, .. } = begun;
+        return Ok(Engine::going_on(host, driver));
+    }
     if cores > 1 {
         return Engine::sharded(alloc, handler, cores);
     }
     Ok(Engine::new(alloc, handler, MemoryStore::new(alloc), asked))
 }
 
-/// How many lines of what a driver writes whoever goes on has already.
-fn skipped_of(asked: &RunWords<'_>) -> u64 {
+/// The line of the journal from which on lines are answered, where one is asked for. What a driver writes is counted by
+/// its own lines, so that all of the journal's are answered.
+fn first_answered(asked: &RunWords<'_>) -> Option<u64> {
     if asked.drives {
-        asked.from.unwrap_or(0)
+        asked.from.map(|_| 0)
+    } else {
+        asked.from
+    }
+}
+
+/// How many lines of what a driver writes whoever goes on has already, of those behind a snapshot.
+fn skipped_of(asked: &RunWords<'_>, stand: &Stand) -> u64 {
+    if asked.drives {
+        asked.from.unwrap_or(0).saturating_sub(stand.written)
     } else {
         0
     }
@@ -145,7 +195,7 @@ fn go_on<
     F: Files<File = File>,
     R: Read + Drop,
     W: Write,
-    H: Handler + Send,
+    H: Portable + Copy + Send,
 >(
     rt: &T,
     told: &L,
@@ -155,10 +205,15 @@ fn go_on<
     journal: JournalFile<'_, F>,
     writer: &mut Output<W>,
     engine: &mut Engine<H, MemoryStore>,
+    keeper: &mut Keeper<'_, F>,
     block: usize,
     asked: &RunWords<'_>,
 ) -> Result<(), Ending> {
-    let JournalFile { file, extent } = journal;
+    let JournalFile {
+        file,
+        extent,
+        begun,
+    } = journal;
     let lines = extent.lines;
     let again = step_again(
         rt,
@@ -167,6 +222,7 @@ fn go_on<
         hosted,
         file.file(),
         &extent,
+        &begun,
         writer,
         engine,
         block,
@@ -178,17 +234,73 @@ fn go_on<
     if fewer > 0 {
         return Err(Ending::Short { lines, fewer });
     }
+    keeper.pass(
+        lines.saturating_sub(begun.lines),
+        extent.whole.saturating_sub(begun.bytes),
+        writer.inner.inner.came,
+    );
+    keeper.keep(told, alloc, &hosted.handler, engine, file.file());
     let Some(mut reader) = journaling(alloc, input, file) else {
         return Err(stop_at(Place::Input, ServeFault::NoMemory, lines));
     };
     let explained = asked.explain.then_some(lines);
-    match engine.answer_all(rt, told, alloc, hosted, &mut reader, writer, explained) {
+    let answered = answer_input(
+        rt,
+        told,
+        alloc,
+        hosted,
+        &mut reader,
+        writer,
+        engine,
+        keeper,
+        explained,
+    );
+    match answered {
         Ok(count) => {
             info!(told; "answered {}, behind {} of the journal", Plural(count, "line"), Plural(lines, "line"));
             Ok(())
         }
         Err(fault) => Err(stop_at_input(reader.inner.get_ref(), fault, lines)),
     }
+}
+
+/// Answers each line of the input, and keeps a snapshot behind each so many, where that is asked for. Tells how many
+/// lines there were.
+fn answer_input<
+    T: Threads + Sync,
+    L: Log,
+    F: Files<File = File>,
+    R: Read + Drop,
+    W: Write,
+    H: Portable + Copy + Send,
+>(
+    rt: &T,
+    told: &L,
+    alloc: Global,
+    hosted: &Hosted<'_, H>,
+    reader: &mut Input<'_, F, R>,
+    writer: &mut Output<W>,
+    engine: &mut Engine<H, MemoryStore>,
+    keeper: &mut Keeper<'_, F>,
+    explained: Option<u64>,
+) -> Result<u64, ServeFault> {
+    let mut count = 0u64;
+    for _ in 0..u64::MAX {
+        let Some(left) = keeper.left() else {
+            break;
+        };
+        let mut next = Counted::new(FirstLines::new(&mut reader.inner, left));
+        let before = explained.map(|before| before.saturating_add(count));
+        let answered = engine.answer_all(rt, told, alloc, hosted, &mut next, writer, before)?;
+        count = count.saturating_add(answered);
+        if !next.inner.is_through() {
+            return Ok(count);
+        }
+        keeper.pass(next.inner.lines, next.inner.bytes, writer.inner.inner.came);
+        let journal = reader.inner.get_ref().file().file();
+        keeper.keep(told, alloc, &hosted.handler, engine, journal);
+    }
+    engine.answer_all(rt, told, alloc, hosted, reader, writer, explained)
 }
 
 fn stop_at(place: Place, fault: ServeFault, lines: u64) -> Ending {
@@ -213,8 +325,8 @@ fn stop_at_input<F: Files<File = File>, R>(
     stop_at(place, fault, before.saturating_add(journaled.lines()))
 }
 
-/// Steps each line of the journal as `serve` does: the replies to those before the one that is asked for
-/// go nowhere, and the others to the writer.
+/// Steps each line of the journal as `serve` does, behind those that it is gone on from: the replies to those before
+/// the one that is asked for go nowhere, and the others to the writer.
 fn step_again<T: Threads + Sync, L: Log, W: Write, H: Handler + Send>(
     rt: &T,
     told: &L,
@@ -222,6 +334,7 @@ fn step_again<T: Threads + Sync, L: Log, W: Write, H: Handler + Send>(
     hosted: &Hosted<'_, H>,
     file: &File,
     extent: &Extent,
+    begun: &Stand,
     writer: &mut Output<W>,
     engine: &mut Engine<H, MemoryStore>,
     block: usize,
@@ -229,14 +342,16 @@ fn step_again<T: Threads + Sync, L: Log, W: Write, H: Handler + Send>(
     let Ok(mut reader) = BufReader::with_capacity(alloc, block, file) else {
         return Err(ServeFault::NoMemory);
     };
-    let mut nowhere = Counted::new(DurableReplies::new(io::sink()));
-    let before = reader.by_ref().take(extent.before);
+    let nowhere = Skipping::new(io::sink(), u64::MAX, 0);
+    let mut nowhere = Counted::new(DurableReplies::new(nowhere));
+    let before = reader.by_ref().take(extent.before.saturating_sub(begun.bytes));
     let mut before = Counted::new(before);
     let seen = engine.answer_all(rt, told, alloc, hosted, &mut before, &mut nowhere, None);
     if seen.is_err() {
         writer.inner.is_refused = nowhere.inner.is_refused;
     }
     seen?;
+    writer.inner.inner.came = writer.inner.inner.came.saturating_add(nowhere.inner.inner.came);
     let behind = reader.take(extent.whole.saturating_sub(extent.before));
     let mut behind = Counted::new(behind);
     engine.answer_all(rt, told, alloc, hosted, &mut behind, writer, None)?;

@@ -9,21 +9,26 @@ pub(crate) struct Skipping<W> {
     pub inner: W,
     /// How many more are left out.
     pub left: u64,
+    /// How many came, those that are left out among them.
+    pub came: u64,
 }
 
 impl<W> Skipping<W> {
-    /// A writer that leaves out so many lines.
-    pub(crate) fn new(inner: W, left: u64) -> Skipping<W> {
-        Skipping { inner, left }
+    /// A writer that leaves out so many lines, behind so many that came before.
+    pub(crate) fn new(inner: W, left: u64, came: u64) -> Skipping<W> {
+        Skipping { inner, left, came }
     }
 }
 
 impl<W: Write> Write for Skipping<W> {
     fn write(&mut self, buf: &[u8]) -> io::Result<usize> {
         if self.left == 0 {
-            return self.inner.write(buf);
+            let count = self.inner.write(buf)?;
+            self.came = self.came.saturating_add(1);
+            return Ok(count);
         }
         self.left -= 1;
+        self.came = self.came.saturating_add(1);
         Ok(buf.len())
     }
 

@@ -42,6 +42,8 @@ pub struct RunWords<'a> {
     pub journal: Option<&'a str>,
     /// The line of the journal from which on replies are written; of `drive` the line of what the journal's lines give.
     pub from: Option<u64>,
+    /// Behind how many lines each a snapshot is kept beside the journal; none: never.
+    pub snapshot: Option<u64>,
     /// Take over a journal of which nothing tells whose it is.
     pub adopt: bool,
     /// Go on with a journal of another handler, or of another version of it.

@@ -78,6 +78,9 @@ const NUMBER: &str = "number";
 /// The option that has after how many seconds each progress is told.
 const REPORT: &str = "report";
 
+/// The option that has behind how many lines each a snapshot is kept.
+const SNAPSHOT: &str = "snapshot";
+
 /// The option that has on how many cores tenants are stepped.
 const CORES: &str = "cores";
 
@@ -216,6 +219,17 @@ fn from_option<'a>(alloc: Global, help: &'a str) -> Result<Arg<'a>, Error> {
     Ok(from)
 }
 
+/// The option that has behind how many lines each a snapshot is kept.
+fn snapshot_option<'a>(alloc: Global) -> Result<Arg<'a>, Error> {
+    let snapshot = whole_number(alloc, SNAPSHOT)
+        .value_parser(value_parser!(u64).range(1..))
+        .requires_arg(JOURNAL)?
+        .help(
+            "Keeps a snapshot of all tenants in FILE.snapshot behind each N lines: the next run steps only the lines behind it",
+        );
+    Ok(snapshot)
+}
+
 /// The flag that takes over a journal.
 fn adopt_flag<'a>(alloc: Global) -> Result<Arg<'a>, Error> {
     let adopt = Arg::new(alloc, ADOPT)
@@ -262,7 +276,7 @@ fn cores_option<'a>(alloc: Global) -> Arg<'a> {
     whole_number(alloc, CORES)
         .value_parser(value_parser!(u64).range(1..=MAX_CORES))
         .help(
-            "Steps tenants on N cores side by side; else on all, but on one where input or standard error is a terminal, or beside --log, --audit or --explain",
+            "Steps tenants on N cores side by side; else on all, but on one where input or standard error is a terminal, or beside --log, --audit, --explain or a snapshot",
         )
 }
 
@@ -320,6 +334,7 @@ fn with_running<'a>(
     pages: &'a Pages,
     command: Result<Command<'a>, Error>,
 ) -> Result<Command<'a>, Error> {
+    let command = with(command, snapshot_option(alloc));
     let command = with(command, adopt_flag(alloc));
     let command = with(command, accept_upgrade_flag(alloc));
     let command = with(command, Ok(explain_flag(alloc)));
@@ -544,6 +559,7 @@ fn running_words<'a>(pages: &Pages, run: &ArgMatches<'a>, drives: bool) -> RunWo
         log: None,
         journal: run.get_str(JOURNAL),
         from: run.get_one::<u64>(FROM),
+        snapshot: run.get_one::<u64>(SNAPSHOT),
         adopt: run.get_flag(ADOPT),
         accept_upgrade: run.get_flag(ACCEPT_UPGRADE),
         report: run.get_one::<u64>(REPORT),

@@ -1,0 +1,307 @@
+//! The file beside a journal that has a snapshot of its host: the journal's name and `.snapshot`.
+//!
+//! It has a head and the host's bytes. The head is `RECALLSJ`, the version of its form, the digest of what follows of
+//! it, how much of the journal the snapshot stands behind, a digest of the last bytes of that, and what a driver
+//! remembers.
+
+ghost use Rattle.std.specs.Prelude.{◌<◌, ◌^◌};
+ghost use Rattle.files.specs.Stands.{stand_code, FitsStand};
+
+use crate::fitness::{Unfit, why_unfit};
+use crate::replacing::{replace_file, sync_folder};
+use crate::tail::read_tail;
+use codec::{Coded, DecodeFault, Input, decode_bytes, encode_bytes};
+use model::NoMemory;
+use sha2::{Digest, Sha256};
+use std::alloc::{AllocError, Global};
+use std::fs::{File, Files};
+use std::io;
+use std::io::{ErrorKind, Read};
+use thiserror::Error;
+
+/// What is added to the journal's name.
+const SUFFIX: &str = ".snapshot";
+
+/// What the file begins with.
+const MAGIC: [u8; 8] = *b"RECALLSJ";
+
+/// The version of the head's form.
+const VERSION: u8 = 1;
+
+/// How much of a journal a snapshot stands behind.
+#[derive(Clone, Copy, Debug, PartialEq, Eq)]
+pub struct Stand {
+    /// The whole lines.
+    pub lines: u64,
+    /// Their bytes.
+    pub bytes: u64,
+    /// The lines that were written for them: as many as there are, and of a driver more.
+    pub written: u64,
+}
+
+/// A snapshot that fits its journal.
+#[derive(Debug, Drop)]
+pub struct FoundSnapshot {
+    pub stand: Stand,
+    /// What a driver remembers, as bytes: none where there is no driver.
+    pub driver: Vec<u8>,
+    /// The host's bytes.
+    pub host: Vec<u8>,
+}
+
+/// Why the file beside a journal can't be gone on from.
+#[derive(Clone, Copy, Debug, PartialEq, Eq, Error)]
+pub enum Misfit {
+    #[error("it can't be read")]
+    Unreadable,
+    #[error("{0}")]
+    Unfit(Unfit),
+    #[error("it is no snapshot of a journal")]
+    NotASnapshot,
+    #[error("it has a form of another version")]
+    AnotherVersion,
+    #[error("it is cut short")]
+    Cut,
+    #[error("it is damaged")]
+    Damaged,
+    #[error("it stands behind more than the journal has")]
+    Longer,
+    #[error("it is of another journal")]
+    AnotherJournal,
+    #[error("there is no memory for it")]
+    NoMemory,
+}
+
+impl From<NoMemory> for Misfit {
+    fn from(_error: NoMemory) -> Misfit {
+        Misfit::NoMemory
+    }
+}
+
+impl From<AllocError> for Misfit {
+    fn from(_error: AllocError) -> Misfit {
+        Misfit::NoMemory
+    }
+}
+
+impl From<DecodeFault> for Misfit {
+    fn from(fault: DecodeFault) -> Misfit {
+        match fault {
+            DecodeFault::Cut => Misfit::Cut,
+            DecodeFault::Damaged => Misfit::Damaged,
+            DecodeFault::NoMemory => Misfit::NoMemory,
+        }
+    }
+}
+
+impl Stand {
+    /// Behind nothing.
+    pub fn none() -> Stand {
+        Stand {
+            lines: 0,
+            bytes: 0,
+            written: 0,
+        }
+    }
+}
+
+impl Coded for Stand {
+    ghost code = { stand_code };
+
+    ghost fits = { FitsStand };
+
+    fn encode(&self, out: &mut Vec<u8>) -> Result<(), NoMemory> {
+        self.lines.encode(out)?;
+        self.bytes.encode(out)?;
+        self.written.encode(out)
+    }
+
+    fn decode(alloc: Global, input: &mut Input) -> Result<Stand, DecodeFault> {
+        let lines = u64::decode(alloc, input)?;
+        let bytes = u64::decode(alloc, input)?;
+        let written = u64::decode(alloc, input)?;
+        Ok(Stand {
+            lines,
+            bytes,
+            written,
+        })
+    }
+}
+
+/// The path of the snapshot beside a journal.
+fn path_of(alloc: Global, journal: &str) -> Result<String, AllocError> {
+    format!(in alloc; "{journal}{SUFFIX}")
+}
+
+/// Whether there is a file where the snapshot beside a journal would be.
+pub fn has_snapshot<R: Files<File = File>>(rt: &R, alloc: Global, journal: &str) -> bool {
+    match path_of(alloc, journal) {
+        Ok(path) => std::fs::metadata(rt, path.as_str()).is_ok(),
+        Err(_) => false,
+    }
+}
+
+/// The digest of the last block of the journal's first bytes, of which there are so many.
+fn tail_digest(alloc: Global, journal: &File, bytes: u64) -> io::Result<[u8; 32]> {
+    let block = read_tail(alloc, journal, bytes)?;
+    Ok(Sha256::digest(block.as_slice()))
+}
+
+/// What the head of a snapshot says.
+fn said_of(
+    alloc: Global,
+    stand: &Stand,
+    digest: &[u8],
+    driver: &[u8],
+) -> Result<Vec<u8>, NoMemory> {
+    let mut said = Vec::new(alloc);
+    stand.encode(&mut said)?;
+    encode_bytes(digest, &mut said)?;
+    encode_bytes(driver, &mut said)?;
+    Ok(said)
+}
+
+/// A head that says this.
+fn head_of(alloc: Global, said: &[u8]) -> Result<Vec<u8>, NoMemory> {
+    let mut head = Vec::new(alloc);
+    head.extend_from_slice(&MAGIC)?;
+    head.push(VERSION)?;
+    head.extend_from_slice(&Sha256::digest(said))?;
+    encode_bytes(said, &mut head)?;
+    Ok(head)
+}
+
+fn no_memory() -> io::Error {
+    io::Error::from(ErrorKind::OutOfMemory)
+}
+
+/// Writes the snapshot beside a journal anew: one that stands so, with these bytes of a driver and of the host. It is
+/// synced, and whole or not there at all; so is the folder.
+///
+/// # Errors
+///
+/// That of the system. What was there before stays then, but where the folder alone can't be synced.
+pub fn keep_snapshot<R: Files<File = File>>(
+    rt: &R,
+    alloc: Global,
+    path: &str,
+    journal: &File,
+    stand: &Stand,
+    driver: &[u8],
+    host: &[u8],
+) -> io::Result<()> {
+    let digest = tail_digest(alloc, journal, stand.bytes)?;
+    let Ok(said) = said_of(alloc, stand, &digest, driver) else {
+        return Err(no_memory());
+    };
+    let Ok(head) = head_of(alloc, said.as_slice()) else {
+        return Err(no_memory());
+    };
+    let at = path_of(alloc, path)?;
+    replace_file(rt, alloc, at.as_str(), &[head.as_slice(), host])?;
+    sync_folder(rt, path)
+}
+
+/// The bytes of the file beside a journal, if there is one.
+fn read_beside<R: Files<File = File>>(
+    rt: &R,
+    alloc: Global,
+    path: &str,
+) -> Result<Option<Vec<u8>>, Misfit> {
+    let at = path_of(alloc, path)?;
+    let mut file = match File::open(rt, at.as_str()) {
+        Ok(file) => file,
+        Err(error) if error.kind() == ErrorKind::NotFound => return Ok(None),
+        Err(_) => return Err(Misfit::Unreadable),
+    };
+    match file.metadata() {
+        Ok(found) => {
+            if let Some(why) = why_unfit(rt, &found) {
+                return Err(Misfit::Unfit(why));
+            }
+        }
+        Err(_) => return Err(Misfit::Unreadable),
+    }
+    let mut bytes = Vec::new(alloc);
+    match file.read_to_end(&mut bytes) {
+        Ok(_) => Ok(Some(bytes)),
+        Err(error) if error.kind() == ErrorKind::OutOfMemory => Err(Misfit::NoMemory),
+        Err(_) => Err(Misfit::Unreadable),
+    }
+}
+
+/// Takes the head off the input, and gives what it says.
+fn take_head<'a>(alloc: Global, input: &mut Input<'a>) -> Result<&'a [u8], Misfit> {
+    let Ok(magic) = input.bytes(MAGIC.len()) else {
+        return Err(Misfit::NotASnapshot);
+    };
+    if magic != &MAGIC {
+        return Err(Misfit::NotASnapshot);
+    }
+    if input.byte()? != VERSION {
+        return Err(Misfit::AnotherVersion);
+    }
+    let digest = input.bytes(32)?;
+    let said = decode_bytes(alloc, input)?;
+    if digest != Sha256::digest(said).as_slice() {
+        return Err(Misfit::Damaged);
+    }
+    Ok(said)
+}
+
+/// Sees to it that the journal, which has so many bytes, has those that the snapshot stands behind.
+fn check_journal(
+    alloc: Global,
+    journal: &File,
+    length: u64,
+    stand: &Stand,
+    digest: &[u8],
+) -> Result<(), Misfit> {
+    if stand.bytes > length {
+        return Err(Misfit::Longer);
+    }
+    let Ok(found) = tail_digest(alloc, journal, stand.bytes) else {
+        return Err(Misfit::Unreadable);
+    };
+    if digest != found.as_slice() {
+        return Err(Misfit::AnotherJournal);
+    }
+    Ok(())
+}
+
+/// The same bytes.
+fn copied(alloc: Global, bytes: &[u8]) -> Result<Vec<u8>, AllocError> {
+    let mut copy = Vec::new(alloc);
+    copy.extend_from_slice(bytes)?;
+    Ok(copy)
+}
+
+/// The snapshot beside a journal that has so many bytes, if there is a file.
+///
+/// # Errors
+///
+/// Why it can't be gone on from. All lines are in the journal then as well.
+pub fn find_snapshot<R: Files<File = File>>(
+    rt: &R,
+    alloc: Global,
+    path: &str,
+    journal: &File,
+    length: u64,
+) -> Result<Option<FoundSnapshot>, Misfit> {
+    let Some(bytes) = read_beside(rt, alloc, path)? else {
+        return Ok(None);
+    };
+    let mut input = Input::new(bytes.as_slice());
+    let said = take_head(alloc, &mut input)?;
+    let mut said = Input::new(said);
+    let stand = Stand::decode(alloc, &mut said)?;
+    let digest = decode_bytes(alloc, &mut said)?;
+    check_journal(alloc, journal, length, &stand, digest)?;
+    let driver = copied(alloc, decode_bytes(alloc, &mut said)?)?;
+    let host = copied(alloc, input.as_slice())?;
+    Ok(Some(FoundSnapshot {
+        stand,
+        driver,
+        host,
+    }))
+}

@@ -1,0 +1,95 @@
+//! The next lines of a reader.
+
+use std::io;
+use std::io::{BufRead, Read};
+
+/// A reader of so many lines of another, at most: it ends behind them, though there may be more.
+#[derive(Drop)]
+pub(crate) struct FirstLines<R> {
+    inner: R,
+    left: u64,
+    /// How many lines ended in what was read.
+    pub lines: u64,
+    /// How many bytes were read.
+    pub bytes: u64,
+}
+
+/// How many line feeds there are.
+fn line_feeds(bytes: &[u8]) -> u64 {
+    let mut count = 0u64;
+    for byte in bytes {
+        if *byte == b'\n' {
+            count += 1;
+        }
+    }
+    count
+}
+
+/// How many of the bytes belong to so many lines at most.
+fn len_of_lines(bytes: &[u8], lines: u64) -> usize {
+    let mut left = lines;
+    for at in 0..bytes.len() {
+        if bytes[at] == b'\n' {
+            left = left.saturating_sub(1);
+            if left == 0 {
+                return at + 1;
+            }
+        }
+    }
+    bytes.len()
+}
+
+impl<R> FirstLines<R> {
+    /// A reader of so many lines.
+    pub(crate) fn new(inner: R, lines: u64) -> FirstLines<R> {
+        FirstLines {
+            inner,
+            left: lines,
+            lines: 0,
+            bytes: 0,
+        }
+    }
+
+    /// Whether all these lines were read.
+    pub(crate) fn is_through(&self) -> bool {
+        self.left == 0
+    }
+
+    /// Counts bytes that are read.
+    fn count(&mut self, bytes: u64, lines: u64) {
+        self.left = self.left.saturating_sub(lines);
+        self.lines = self.lines.saturating_add(lines);
+        self.bytes = self.bytes.saturating_add(bytes);
+    }
+}
+
+impl<R: BufRead> Read for FirstLines<R> {
+    fn read(&mut self, buf: &mut [u8]) -> io::Result<usize> {
+        let block = self.fill_buf()?;
+        let count = block.len().min(buf.len());
+        buf[..count].copy_from_slice(&block[..count]);
+        self.consume(count);
+        Ok(count)
+    }
+}
+
+impl<R: BufRead> BufRead for FirstLines<R> {
+    fn fill_buf(&mut self) -> io::Result<&[u8]> {
+        if self.left == 0 {
+            return Ok(&[]);
+        }
+        let block = self.inner.fill_buf()?;
+        let count = len_of_lines(block, self.left);
+        Ok(&block[..count])
+    }
+
+    fn consume(&mut self, amount: usize) {
+        let Ok(block) = self.inner.fill_buf() else {
+            return;
+        };
+        let count = block.len().min(amount);
+        let lines = line_feeds(&block[..count]);
+        self.inner.consume(count);
+        self.count(count as u64, lines);
+    }
+}

@@ -1,0 +1,220 @@
+//! Snapshots beside a journal: what a run goes on from, and what it keeps.
+
+use crate::engine::Engine;
+use book::Host;
+use codec::{Coded, DecodeFault, Input, Portable};
+use driver::Driver;
+use files::{FoundSnapshot, LockedJournal, Stand, find_snapshot, has_snapshot, keep_snapshot};
+use log::{Log, info, warn};
+use shared_log::MemoryStore;
+use snapshot::{load, save};
+use std::alloc::Global;
+use std::fmt::Display;
+use std::fs::{File, Files};
+use std::io;
+use std::io::ErrorKind;
+use terminal::Plural;
+use words::RunWords;
+
+/// Where a run finds the snapshot of its journal, and keeps others.
+#[derive(Clone, Copy)]
+pub struct Snapshots<'a, F> {
+    pub files: &'a F,
+    /// The journal.
+    pub path: &'a str,
+    /// Which handler the snapshots are about, and of which version.
+    pub about: &'a str,
+    /// Behind how many lines each one is kept; none: never.
+    pub each: Option<u64>,
+}
+
+/// What a run goes on from.
+#[derive(Drop)]
+pub struct Begun<H: Portable> {
+    pub stand: Stand,
+    pub host: Host<H, MemoryStore>,
+    /// What a driver remembers, where the run drives.
+    pub driver: Option<Driver>,
+}
+
+impl<'a, F: Files<File = File>> Snapshots<'a, F> {
+    /// What a run of this journal goes on from, where it can: the snapshot beside it. Where there is one that it can't go
+    /// on from, that is told: all lines are in the journal as well.
+    pub fn begun<L: Log, H: Portable + Copy>(
+        &self,
+        told: &L,
+        alloc: Global,
+        handler: H,
+        locked: &LockedJournal<'_>,
+        asked: &RunWords<'_>,
+    ) -> Option<Begun<H>> {
+        let found = self.found(told, alloc, locked, asked)?;
+        let FoundSnapshot {
+            stand,
+            driver,
+            host,
+        } = found;
+        let Ok(driver) = remembered(alloc, driver.as_slice(), asked.drives) else {
+            self.leave(told, &"what the driver remembers is damaged");
+            return None;
+        };
+        let host = match load(alloc, handler, self.about, host.as_slice()) {
+            Ok(host) => host,
+            Err(fault) => {
+                self.leave(told, &fault);
+                return None;
+            }
+        };
+        info!(told; "a snapshot stands behind {} of the journal", Plural(stand.lines, "line"));
+        Some(Begun {
+            stand,
+            host,
+            driver,
+        })
+    }
+
+    /// The snapshot beside the journal, where the run can go on from it.
+    fn found<L: Log>(
+        &self,
+        told: &L,
+        alloc: Global,
+        locked: &LockedJournal<'_>,
+        asked: &RunWords<'_>,
+    ) -> Option<FoundSnapshot> {
+        if asked.audit || asked.explain {
+            if has_snapshot(self.files, alloc, self.path) {
+                let word = if asked.audit { "--audit" } else { "--explain" };
+                warn!(told; "{word} needs the history: the lines of the journal are stepped from the first");
+            }
+            return None;
+        }
+        let found = match find_snapshot(self.files, alloc, self.path, locked.file(), locked.len()) {
+            Ok(found) => found?,
+            Err(misfit) => {
+                self.leave(told, &misfit);
+                return None;
+            }
+        };
+        let behind = if asked.drives { found.stand.written } else { found.stand.lines };
+        if let Some(from) = asked.from {
+            if from < behind {
+                warn!(told; "the snapshot stands behind line {from}: the lines of the journal are stepped from the first");
+                return None;
+            }
+        }
+        Some(found)
+    }
+
+    /// Says that the snapshot is left aside.
+    fn leave<L: Log>(&self, told: &L, why: &impl Display) {
+        let path = self.path;
+        warn!(told; "the snapshot beside the journal {path:?} is left aside: {why}: the lines of the journal are stepped from the first");
+    }
+}
+
+/// What a driver remembers by these bytes, where the run drives.
+fn remembered(alloc: Global, bytes: &[u8], drives: bool) -> Result<Option<Driver>, DecodeFault> {
+    if !drives {
+        return Ok(None);
+    }
+    let mut input = Input::new(bytes);
+    let driver = Driver::decode(alloc, &mut input)?;
+    Ok(Some(driver))
+}
+
+/// The bytes of what a driver remembers: none where there is none.
+fn bytes_of(alloc: Global, driver: Option<&Driver>) -> io::Result<Vec<u8>> {
+    let mut bytes = Vec::new(alloc);
+    match driver {
+        Some(driver) if driver.encode(&mut bytes).is_err() => Err(no_memory()),
+        _ => Ok(bytes),
+    }
+}
+
+fn no_memory() -> io::Error {
+    io::Error::from(ErrorKind::OutOfMemory)
+}
+
+/// The snapshots of a run that goes on.
+pub(crate) struct Keeper<'a, F> {
+    snapshots: Snapshots<'a, F>,
+    stand: Stand,
+    // How many lines the last one is behind.
+    since: u64,
+}
+
+impl<'a, F: Files<File = File>> Keeper<'a, F> {
+    /// The snapshots of a run that goes on from there.
+    pub(crate) fn new(snapshots: Snapshots<'a, F>, begun: Stand) -> Keeper<'a, F> {
+        Keeper {
+            snapshots,
+            stand: begun,
+            since: 0,
+        }
+    }
+
+    /// How many lines are stepped until the next one, where there is any.
+    pub(crate) fn left(&self) -> Option<u64> {
+        let each = self.snapshots.each?;
+        Some(each.saturating_sub(self.since))
+    }
+
+    /// So many lines were stepped, of so many bytes, and so many lines were written in all.
+    pub(crate) fn pass(&mut self, lines: u64, bytes: u64, written: u64) {
+        let Stand {
+            lines: had,
+            bytes: size,
+            ..
+        } = self.stand;
+        self.stand = Stand {
+            lines: had.saturating_add(lines),
+            bytes: size.saturating_add(bytes),
+            written,
+        };
+        self.since = self.since.saturating_add(lines);
+    }
+
+    /// Keeps a snapshot, where it is time for one. Where that fails it is told, and nothing is lost.
+    pub(crate) fn keep<L: Log, H: Portable + Copy + Send>(
+        &mut self,
+        told: &L,
+        alloc: Global,
+        handler: &H,
+        engine: &Engine<H, MemoryStore>,
+        journal: &File,
+    ) {
+        if self.left() != Some(0) {
+            return;
+        }
+        self.since = 0;
+        if let Err(error) = self.write(alloc, handler, engine, journal) {
+            let path = self.snapshots.path;
+            warn!(told; "can't write the snapshot beside the journal {path:?}: {error}: the run goes on without it");
+        }
+    }
+
+    fn write<H: Portable + Copy + Send>(
+        &self,
+        alloc: Global,
+        handler: &H,
+        engine: &Engine<H, MemoryStore>,
+        journal: &File,
+    ) -> io::Result<()> {
+        let Some(host) = engine.host() else {
+            return Ok(());
+        };
+        let Ok(host) = save(alloc, handler, self.snapshots.about, host) else {
+            return Err(no_memory());
+        };
+        let driver = bytes_of(alloc, engine.driver())?;
+        keep_snapshot(
+            self.snapshots.files,
+            alloc,
+            self.snapshots.path,
+            journal,
+            &self.stand,
+            driver.as_slice(),
+            host.as_slice(),
+        )
+    }
+}
