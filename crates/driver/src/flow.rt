@@ -19,7 +19,7 @@ pub struct Waiting {
     // Whether that was told.
     pub(crate) is_told: bool,
     // Whether it was taken, or dropped.
-    is_gone: bool,
+    pub(crate) is_gone: bool,
 }
 
 /// What became of a letter that was tried.
@@ -104,7 +104,7 @@ impl UnitFlow {
 
 impl Waiting {
     /// A letter that was made just now.
-    pub(crate) fn new(letter: Letter, unit: Unit) -> Waiting {
+    fn new(letter: Letter, unit: Unit) -> Waiting {
         Waiting {
             letter,
             unit,

@@ -72,9 +72,11 @@ fn decode_letter(alloc: Global, input: &mut Input) -> Result<Waiting, DecodeFaul
     let why = decode_why(alloc, input)?;
     let is_told = bool::decode(alloc, input)?;
     Ok(Waiting {
+        letter,
+        unit,
         why,
         is_told,
-        ..Waiting::new(letter, unit)
+        is_gone: false,
     })
 }
 

@@ -235,7 +235,7 @@ fn take_head<'a>(alloc: Global, input: &mut Input<'a>) -> Result<&'a [u8], Misfi
     let Ok(magic) = input.bytes(MAGIC.len()) else {
         return Err(Misfit::NotASnapshot);
     };
-    if magic != &MAGIC {
+    if magic != MAGIC.as_slice() {
         return Err(Misfit::NotASnapshot);
     }
     if input.byte()? != VERSION {
