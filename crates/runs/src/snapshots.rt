@@ -17,7 +17,7 @@ use terminal::Plural;
 use words::RunWords;
 
 /// Where a run finds the snapshot of its journal, and keeps others.
-#[derive(Clone, Copy)]
+#[derive(Drop)]
 pub struct Snapshots<'a, F> {
     pub files: &'a F,
     /// The journal.
@@ -136,6 +136,7 @@ fn no_memory() -> io::Error {
 }
 
 /// The snapshots of a run that goes on.
+#[derive(Drop)]
 pub(crate) struct Keeper<'a, F> {
     snapshots: Snapshots<'a, F>,
     stand: Stand,
