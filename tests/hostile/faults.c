@@ -6,6 +6,8 @@
  *   RECALL_WRITE=n    after n bytes a write to its standard output fails with ENOSPC
  *   RECALL_APPEND=n  after n bytes a write to a file that it opened fails with ENOSPC
  *   RECALL_SYNC=n    its n-th sync of a file fails with EIO (from 1)
+ *   RECALL_RENAME=n  its n-th rename fails with EIO (from 1)
+ *   RECALL_END=n     it is killed at its n-th write to a file that it opened, sync or rename, a write half done (from 1)
  *   RECALL_FETCH=n   its n-th read of a file that it opened fails with EIO (from 1)
  *   RECALL_CUT=1     no file can be cut: ftruncate fails with EIO
  *   RECALL_THREADS=1  no thread can be started
@@ -19,6 +21,7 @@
 #include <fcntl.h>
 #include <limits.h>
 #include <pthread.h>
+#include <signal.h>
 #include <stdatomic.h>
 #include <stdio.h>
 #include <stdlib.h>
@@ -34,7 +37,7 @@ extern void *__libc_calloc(size_t, size_t);
 
 static atomic_long own_count;
 static atomic_long *requests = &own_count;
-static long refused, to_read = -1, to_write = -1, to_append = -1, to_sync, to_fetch;
+static long refused, to_read = -1, to_write = -1, to_append = -1, to_sync, to_fetch, to_rename, to_end;
 static int counts, by_line, interrupts, lacks_threads, keeps_lengths;
 
 static long number(const char *name, long otherwise) {
@@ -65,6 +68,8 @@ __attribute__((constructor)) static void begin(void) {
     to_append = number("RECALL_APPEND", -1);
     to_sync = number("RECALL_SYNC", 0);
     to_fetch = number("RECALL_FETCH", 0);
+    to_rename = number("RECALL_RENAME", 0);
+    to_end = number("RECALL_END", 0);
     keeps_lengths = number("RECALL_CUT", 0);
     by_line = number("RECALL_LINES", 0);
     interrupts = number("RECALL_INTERRUPT", 0);
@@ -125,11 +130,18 @@ ssize_t read(int file, void *to, size_t size) {
     return got;
 }
 
+/* Whether the program ends at this call. */
+static int is_end(void) { return counts && to_end > 0 && --to_end == 0; }
+
 ssize_t write(int file, const void *from, size_t size) {
     static long writes;
     static ssize_t (*real)(int, const void *, size_t);
     if (!real) real = (ssize_t (*)(int, const void *, size_t))dlsym(RTLD_NEXT, "write");
     if (file == 0 || file == 2 || !counts) return real(file, from, size);
+    if (file != 1 && is_end()) {
+        real(file, from, size / 2);
+        kill(getpid(), SIGKILL);
+    }
     long *left = file == 1 ? &to_write : &to_append;
     if (is_interrupted(&writes) || allowed(left, &size, ENOSPC)) return -1;
     if (interrupts && size > SHORT) size = SHORT;
@@ -140,6 +152,7 @@ ssize_t write(int file, const void *from, size_t size) {
 
 /* Whether this sync fails. */
 static int is_lost(void) {
+    if (is_end()) kill(getpid(), SIGKILL);
     if (!counts || to_sync == 0 || --to_sync != 0) return 0;
     errno = EIO;
     return 1;
@@ -155,6 +168,17 @@ int fdatasync(int file) {
     static int (*real)(int);
     if (!real) real = (int (*)(int))dlsym(RTLD_NEXT, "fdatasync");
     return is_lost() ? -1 : real(file);
+}
+
+int rename(const char *from, const char *to) {
+    static int (*real)(const char *, const char *);
+    if (!real) real = (int (*)(const char *, const char *))dlsym(RTLD_NEXT, "rename");
+    if (is_end()) kill(getpid(), SIGKILL);
+    if (counts && to_rename > 0 && --to_rename == 0) {
+        errno = EIO;
+        return -1;
+    }
+    return real(from, to);
 }
 
 int ftruncate(int file, off_t length) {

@@ -13,6 +13,7 @@ sys.path.append(os.path.join(os.path.dirname(os.path.abspath(__file__)), "..", "
 
 import crashes
 import faults
+import snapshots
 from program import Program
 
 
@@ -27,7 +28,8 @@ def main():
     passed, failed, counts = 0, 0, 0
     with tempfile.TemporaryDirectory() as room, tempfile.TemporaryDirectory(dir=QUICK) as quick:
         program = Program(sys.argv[1], room)
-        for name, check in crashes.checks(program.path, room) + faults.checks(program, quick):
+        checks = crashes.checks(program.path, room) + faults.checks(program, quick) + snapshots.checks(program, quick)
+        for name, check in checks:
             if word not in name:
                 continue
             try:

@@ -48,13 +48,13 @@ def feed(process, given, chance, is_last):
         pass
 
 
-def run_once(program, journal, lines, seen, chance, is_last):
+def run_once(program, journal, lines, seen, chance, is_last, more=()):
     """One run, which is killed at a random moment, or comes to its end where it is the last: what was seen of what it
     wrote (each second time its reader is lost with it, and with that a random part), whether it was killed, and what
     was wrong."""
     durable = whole_lines(journal)
     wanted = len(lines) if is_last else min(seen + chance.randrange(MOST_REPLIES), len(lines))
-    words = [program, "run", "--journal", journal, "--from", str(seen)]
+    words = [program, "run", "--journal", journal, "--from", str(seen), *more]
     pipe = subprocess.PIPE
     process = subprocess.Popen(words, stdin=pipe, stdout=pipe, stderr=pipe, bufsize=0)
     feeder = threading.Thread(target=feed, args=(process, b"".join(lines[durable:wanted]), chance, is_last))
@@ -115,23 +115,23 @@ def wrong_in(said, status, durable, is_last):
     return None
 
 
-def crash(program, room, seed, kills=KILLS):
-    """An input whose runs are killed so often, and that then comes to its end: how many runs were killed, and what was
-    wrong."""
+def crash(program, room, seed, words=()):
+    """An input whose runs, with these words more, are killed so often, and that then comes to its end: how many runs
+    were killed, and what was wrong."""
     lines, chance = small_input(seed), random.Random(seed + 1000)
-    journal = os.path.join(room, f"journal-{seed}")
+    journal = os.path.join(room, "-".join(("journal", str(seed), *words)))
     wanted, collected, killed = plain(program, lines), b"", 0
-    for count in range(kills + 1):
+    for count in range(KILLS + 1):
         seen = collected.count(b"\n")
-        written, was_killed, wrong = run_once(program, journal, lines, seen, chance, count == kills)
+        written, was_killed, wrong = run_once(program, journal, lines, seen, chance, count == KILLS, words)
         if wrong:
             return killed, wrong
         collected += written[: written.rfind(b"\n") + 1]
         killed += was_killed
     if collected != wanted:
         return killed, f"what was collected differs from a plain run: {first_difference(collected, wanted)}"
-    if killed != kills:
-        return killed, f"{killed} of {kills} runs were killed before they came to their end"
+    if killed != KILLS:
+        return killed, f"{killed} of {KILLS} runs were killed before they came to their end"
     return killed, None
 
 

@@ -81,6 +81,8 @@ pub struct About {
     pub maker: Maker,
     /// Whose it was before, in order.
     pub earlier: Vec<Earlier>,
+    /// How many of its first lines were trimmed away, where some were.
+    pub trimmed: Option<u64>,
 }
 
 impl About {
@@ -118,12 +120,17 @@ impl About {
         Ok(About {
             maker: Maker::of(alloc, value)?,
             earlier: earlier_in(alloc, value)?,
+            trimmed: value.get("trimmed").and_then(Value::as_u64),
         })
     }
 
     /// What is said of the journal once another has it, from behind so many lines on: those that had it before.
     pub(crate) fn ended(self, lines: u64) -> Result<Vec<Earlier>, AllocError> {
-        let About { maker, mut earlier } = self;
+        let About {
+            maker,
+            mut earlier,
+            ..
+        } = self;
         earlier.push(Earlier { maker, lines })?;
         Ok(earlier)
     }
@@ -193,17 +200,51 @@ pub(crate) fn write_about<R: Files<File = File> + Clock>(
     journal: &str,
     owner: &Owner<'_>,
     earlier: &[Earlier],
+    trimmed: Option<u64>,
 ) -> io::Result<()> {
-    let text = page(alloc, owner, earlier, now(rt))?;
+    let text = page(alloc, owner, earlier, trimmed, now(rt))?;
     let path = path_of(alloc, journal)?;
     replace_file(rt, alloc, path.as_str(), &[text.as_bytes()])
 }
 
-/// The text of the page. It says nothing of those before where there were none.
+/// Notes in the page beside a journal that so many of its first lines are trimmed away.
+pub(crate) fn note_trimmed<R: Files<File = File> + Clock>(
+    rt: &R,
+    alloc: Global,
+    journal: &str,
+    lines: u64,
+) -> io::Result<()> {
+    let Some(about) = About::read(rt, alloc, journal)? else {
+        return Err(io::Error::new(ErrorKind::InvalidData, "there is no page beside it"));
+    };
+    let maker = &about.maker;
+    let owner = Owner {
+        version: maker.version().unwrap_or("?"),
+        handler: maker.handler().unwrap_or("?"),
+        handler_version: maker.handler_version().unwrap_or("?"),
+    };
+    let earlier = about.earlier.as_slice();
+    write_about(rt, alloc, journal, &owner, earlier, Some(lines))
+}
+
+/// How many of a journal's first lines its page says are trimmed away, where it says so.
+pub(crate) fn lines_gone<R: Files<File = File>>(
+    rt: &R,
+    alloc: Global,
+    journal: &str,
+) -> Option<u64> {
+    match About::read(rt, alloc, journal) {
+        Ok(Some(about)) => about.trimmed,
+        Ok(None) | Err(_) => None,
+    }
+}
+
+/// The text of the page. It says nothing of those before where there were none, nor of lines that went.
 fn page(
     alloc: Global,
     owner: &Owner<'_>,
     earlier: &[Earlier],
+    trimmed: Option<u64>,
     when: u64,
 ) -> Result<String, AllocError> {
     let mut value = json!(in alloc; {
@@ -219,6 +260,9 @@ fn page(
                 earlier_value(alloc, earlier)?,
             )?;
         }
+    }
+    if let (Some(lines), Some(members)) = (trimmed, value.as_object_mut()) {
+        members.insert(String::from_str(alloc, "trimmed")?, Value::from(lines))?;
     }
     let mut text = value.to_string(alloc)?;
     text.push('\n')?;

@@ -1,13 +1,14 @@
 //! The file of `run --journal`: found fit, locked, known to be a journal of this program, and cut to whole lines that
 //! last.
 
-use crate::about::{About, Owner, write_about};
+use crate::about::{About, Owner, lines_gone, write_about};
 use crate::fitness::{Unfit, why_unfit};
 use crate::lasting::LastingFile;
 use crate::place::Place;
 use crate::replacing::sync_folder;
 use crate::snapshots::Stand;
 use crate::tail::{make_last, trusted_length};
+use crate::trimming::{Trimmed, trimmed_of};
 use durable::{Extent, measure};
 use log::{Log, error, warn};
 use std::alloc::Global;
@@ -25,9 +26,28 @@ pub struct LockedJournal<'a> {
     file: File,
     length: u64,
     ownership: Ownership,
+    trimmed: Option<Trimmed>,
 }
 
 impl<'a> LockedJournal<'a> {
+    /// Its path.
+    pub fn path(&self) -> &str {
+        self.path
+    }
+
+    /// What its first line says, where lines went before.
+    pub(crate) fn trimmed(&self) -> Option<Trimmed> {
+        self.trimmed
+    }
+
+    /// How many lines went before its first one.
+    pub fn lines_gone(&self) -> u64 {
+        match self.trimmed {
+            Some(trimmed) => trimmed.lines,
+            None => 0,
+        }
+    }
+
     /// The file, to be read.
     pub fn file(&self) -> &File {
         &self.file
@@ -86,11 +106,23 @@ pub fn lock_journal<'a, R: Files<File = File>, L: Log>(
     lock(rt, told, path, &file)?;
     let length = length_of(told, path, &file)?;
     let ownership = owned_by(rt, told, alloc, path, owner, length, takeover)?;
+    let trimmed = match trimmed_of(alloc, &file, length) {
+        Ok(trimmed) => trimmed,
+        Err(error) => return Err(cannot_read(told, path, &error)),
+    };
+    let trimmed = match (trimmed, &ownership) {
+        (Some(_), Ownership::New) => {
+            error!(told; "the journal {path:?} begins as one whose first lines were trimmed away, and no page beside it says so: it can't be taken over");
+            return Err(1);
+        }
+        _ => trimmed.filter(|said| lines_gone(rt, alloc, path) == Some(said.lines)),
+    };
     Ok(LockedJournal {
         path,
         file,
         length,
         ownership,
+        trimmed,
     })
 }
 
@@ -109,12 +141,15 @@ pub fn open_journal<'a, R: Files<File = File> + Clock, L: Log>(
     from: Option<u64>,
     begun: Stand,
 ) -> Result<JournalFile<'a, R>, u8> {
+    let gone = locked.lines_gone();
     let LockedJournal {
         path,
         file,
         length,
         ownership,
+        ..
     } = locked;
+    check_gone(told, path, gone, from, &begun)?;
     let extent = measured(told, alloc, path, &file, length, from, &begun)?;
     if let Err(error) = make_whole(alloc, &file, length, &extent) {
         error!(told; "can't cut, write or sync the journal {path:?}: {error}");
@@ -136,6 +171,30 @@ pub fn open_journal<'a, R: Files<File = File> + Clock, L: Log>(
         }),
         Err(error) => {
             error!(told; "can't read the journal {path:?}: {error}");
+            Err(1)
+        }
+    }
+}
+
+/// Sees to it that no line is needed that went before the journal's first one.
+fn check_gone<L: Log>(
+    told: &L,
+    path: &str,
+    gone: u64,
+    from: Option<u64>,
+    begun: &Stand,
+) -> Result<(), u8> {
+    if begun.lines >= gone {
+        return Ok(());
+    }
+    let went = Plural(gone, "line");
+    match from {
+        Some(from) if from < gone => {
+            error!(told; "the first {went} of the journal {path:?} were trimmed away: there is no line {from} to go on from");
+            Err(2)
+        }
+        _ => {
+            error!(told; "the first {went} of the journal {path:?} were trimmed away, and there is no snapshot to go on from");
             Err(1)
         }
     }
@@ -269,10 +328,10 @@ fn make_page<R: Files<File = File> + Clock>(
 ) -> io::Result<()> {
     match ownership {
         Ownership::Own => Ok(()),
-        Ownership::New => write_about(rt, alloc, path, owner, &[]),
+        Ownership::New => write_about(rt, alloc, path, owner, &[], None),
         Ownership::Upgraded(about) => {
             let earlier = about.ended(lines)?;
-            write_about(rt, alloc, path, owner, earlier.as_slice())
+            write_about(rt, alloc, path, owner, earlier.as_slice(), None)
         }
     }
 }
@@ -312,7 +371,11 @@ fn measure_file(
     let mut bytes = file;
     bytes.seek(SeekFrom::Start(begun.bytes))?;
     let behind = {
-        let mut reader = BufReader::with_capacity(alloc, BLOCK, bytes.take(trusted.saturating_sub(begun.bytes)))?;
+        let mut reader = BufReader::with_capacity(
+            alloc,
+            BLOCK,
+            bytes.take(trusted.saturating_sub(begun.bytes)),
+        )?;
         measure(&mut reader, from.saturating_sub(begun.lines))?
     };
     bytes.seek(SeekFrom::Start(begun.bytes))?;

@@ -8,6 +8,7 @@ ghost use Rattle.std.specs.Prelude.{◌<◌, ◌^◌};
 ghost use Rattle.files.specs.Stands.{stand_code, FitsStand};
 
 use crate::fitness::{Unfit, why_unfit};
+use crate::opening::LockedJournal;
 use crate::replacing::{replace_file, sync_folder};
 use crate::tail::read_tail;
 use codec::{Coded, DecodeFault, Input, decode_bytes, encode_bytes};
@@ -43,6 +44,8 @@ pub struct Stand {
 #[derive(Debug, Drop)]
 pub struct FoundSnapshot {
     pub stand: Stand,
+    /// The digest of the last block of what it stands behind.
+    pub tail: [u8; 32],
     /// What a driver remembers, as bytes: none where there is no driver.
     pub driver: Vec<u8>,
     /// The host's bytes.
@@ -249,24 +252,40 @@ fn take_head<'a>(alloc: Global, input: &mut Input<'a>) -> Result<&'a [u8], Misfi
     Ok(said)
 }
 
-/// Sees to it that the journal, which has so many bytes, has those that the snapshot stands behind.
-fn check_journal(
+/// Where a snapshot stands in a journal, which must have the bytes that it stands behind. Of a journal whose first lines
+/// are gone they may be just those.
+fn stand_in(
     alloc: Global,
-    journal: &File,
-    length: u64,
+    locked: &LockedJournal<'_>,
     stand: &Stand,
-    digest: &[u8],
-) -> Result<(), Misfit> {
-    if stand.bytes > length {
+    tail: &[u8; 32],
+) -> Result<Stand, Misfit> {
+    if let Some(trimmed) = locked.trimmed() {
+        if trimmed.lines == stand.lines && trimmed.tail == *tail {
+            return Ok(Stand {
+                bytes: trimmed.bytes,
+                ..*stand
+            });
+        }
+    }
+    if stand.bytes > locked.len() {
         return Err(Misfit::Longer);
     }
-    let Ok(found) = tail_digest(alloc, journal, stand.bytes) else {
+    let Ok(found) = tail_digest(alloc, locked.file(), stand.bytes) else {
         return Err(Misfit::Unreadable);
     };
-    if digest != found.as_slice() {
+    if found != *tail {
         return Err(Misfit::AnotherJournal);
     }
-    Ok(())
+    Ok(*stand)
+}
+
+/// The digest of these bytes, if there are as many as it has.
+fn digest_in(bytes: &[u8]) -> Result<[u8; 32], Misfit> {
+    match <[u8; 32]>::try_from(bytes) {
+        Ok(digest) => Ok(digest),
+        Err(_) => Err(Misfit::Damaged),
+    }
 }
 
 /// The same bytes.
@@ -276,31 +295,30 @@ fn copied(alloc: Global, bytes: &[u8]) -> Result<Vec<u8>, AllocError> {
     Ok(copy)
 }
 
-/// The snapshot beside a journal that has so many bytes, if there is a file.
+/// The snapshot beside a journal, if there is a file.
 ///
 /// # Errors
 ///
-/// Why it can't be gone on from. All lines are in the journal then as well.
+/// Why it can't be gone on from.
 pub fn find_snapshot<R: Files<File = File>>(
     rt: &R,
     alloc: Global,
-    path: &str,
-    journal: &File,
-    length: u64,
+    locked: &LockedJournal<'_>,
 ) -> Result<Option<FoundSnapshot>, Misfit> {
-    let Some(bytes) = read_beside(rt, alloc, path)? else {
+    let Some(bytes) = read_beside(rt, alloc, locked.path())? else {
         return Ok(None);
     };
     let mut input = Input::new(bytes.as_slice());
     let said = take_head(alloc, &mut input)?;
     let mut said = Input::new(said);
     let stand = Stand::decode(alloc, &mut said)?;
-    let digest = decode_bytes(alloc, &mut said)?;
-    check_journal(alloc, journal, length, &stand, digest)?;
+    let tail = digest_in(decode_bytes(alloc, &mut said)?)?;
+    let stand = stand_in(alloc, locked, &stand, &tail)?;
     let driver = copied(alloc, decode_bytes(alloc, &mut said)?)?;
     let host = copied(alloc, input.as_slice())?;
     Ok(Some(FoundSnapshot {
         stand,
+        tail,
         driver,
         host,
     }))

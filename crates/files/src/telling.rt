@@ -2,20 +2,23 @@
 
 use crate::about::{About, Maker, earlier_value, text_or_null};
 use crate::tail::trusted_length;
+use crate::trimming::{Trimmed, trimmed_of};
 use durable::measure;
 use serde_json::{Value, json};
 use std::alloc::{AllocError, Global};
 use std::fmt::{Display, Formatter};
 use std::fs::{File, Files};
-use std::io::{BufReader, Read, Seek, SeekFrom, Take};
+use std::io::{BufReader, ErrorKind, Read, Seek, SeekFrom, Take};
 use std::{fmt, io};
 use terminal::{BLOCK, Plural};
 
 /// What a journal has.
 #[derive(Debug, Drop)]
 pub struct Told {
-    /// Whole lines.
+    /// Whole lines, with those that were trimmed away.
     pub lines: u64,
+    /// Those that were trimmed away.
+    pub trimmed: u64,
     /// Their bytes.
     pub bytes: u64,
     /// Bytes behind them, which the next run cuts off.
@@ -30,7 +33,7 @@ pub struct Told {
 ///
 /// That of the system, where the file or the page beside it can't be read.
 pub fn tell_journal<R: Files<File = File>>(rt: &R, alloc: Global, path: &str) -> io::Result<Told> {
-    let (told, _) = read_journal(rt, alloc, path)?;
+    let (told, _) = look_at(rt, alloc, path)?;
     Ok(told)
 }
 
@@ -38,8 +41,22 @@ pub fn tell_journal<R: Files<File = File>>(rt: &R, alloc: Global, path: &str) ->
 ///
 /// # Errors
 ///
-/// That of the system, where the file or the page beside it can't be read.
+/// That of the system, where the file or the page beside it can't be read; `InvalidData` where its first lines were
+/// trimmed away.
 pub fn read_journal<R: Files<File = File>>(
+    rt: &R,
+    alloc: Global,
+    path: &str,
+) -> io::Result<(Told, Take<File>)> {
+    let found = look_at(rt, alloc, path)?;
+    if found.0.trimmed > 0 {
+        return Err(io::Error::new(ErrorKind::InvalidData, "its first lines were trimmed away"));
+    }
+    Ok(found)
+}
+
+/// What the journal has, and a reader of the whole lines that are in the file.
+fn look_at<R: Files<File = File>>(
     rt: &R,
     alloc: Global,
     path: &str,
@@ -52,13 +69,36 @@ pub fn read_journal<R: Files<File = File>>(
         measure(&mut reader, 0)?
     };
     file.seek(SeekFrom::Start(0))?;
+    let trimmed = trimmed_of(alloc, &file, length)?;
+    let about = About::read(rt, alloc, path)?;
+    let trimmed = trimmed.filter(|said| gone_by(&about) == Some(said.lines));
     let told = Told {
-        lines: whole.lines,
+        lines: lines_of(whole.lines, trimmed),
+        trimmed: match trimmed {
+            Some(said) => said.lines,
+            None => 0,
+        },
         bytes: whole.whole,
         torn: length.saturating_sub(whole.whole),
-        about: About::read(rt, alloc, path)?,
+        about,
     };
     Ok((told, file.take(whole.whole)))
+}
+
+/// How many lines the page says went.
+fn gone_by(about: &Option<About>) -> Option<u64> {
+    match about {
+        Some(about) => about.trimmed,
+        None => None,
+    }
+}
+
+/// How many lines a journal has that has so many with the first one, which is no step of one that was trimmed.
+fn lines_of(lines: u64, trimmed: Option<Trimmed>) -> u64 {
+    match trimmed {
+        Some(said) => said.lines.saturating_add(lines.saturating_sub(1)),
+        None => lines,
+    }
 }
 
 impl Told {
@@ -80,6 +120,7 @@ impl Told {
             "lines": self.lines,
             "recall": version,
             "torn": self.torn,
+            "trimmed": self.trimmed,
         })?;
         value.to_string(alloc)
     }
@@ -90,6 +131,13 @@ impl Display for Told {
         let lines = Plural(self.lines, "line");
         let bytes = Plural(self.bytes, "byte");
         write!(out, "{lines}, {bytes}")?;
+        if self.trimmed > 0 {
+            let trimmed = Plural(self.trimmed, "line");
+            write!(
+                out,
+                ", without the first {trimmed}, which were trimmed away"
+            )?;
+        }
         if self.torn > 0 {
             let torn = Plural(self.torn, "byte");
             write!(out, ", and {torn} behind them, which the next run cuts off")?;

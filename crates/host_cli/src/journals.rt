@@ -1,10 +1,14 @@
-//! `journal`: what a journal has.
+//! `journal`: what a journal has, and `trim`: a journal without the lines that its snapshot stands behind.
 
-use files::{Told, tell_journal};
+use crate::owners::{about_of, owner_of};
+use codec::Portable;
+use files::{Takeover, Told, has_snapshot, lock_journal, tell_journal};
 use log::{Log, error};
+use runs::trim_on;
 use std::alloc::{AllocError, Global};
 use std::fs::{File, Files};
-use words::JournalWords;
+use std::time::Clock;
+use words::{JournalWords, Program, TrimWords};
 
 /// Writes what the journal has to standard output, and tells the status to end with.
 pub(crate) fn journal_as_asked<R: Files<File = File> + Print, L: Log>(
@@ -38,5 +42,35 @@ fn text_of(alloc: Global, path: &str, found: &Told, json: bool) -> Result<String
         found.to_json(alloc)
     } else {
         format!(in alloc; "{path:?}: {found}")
+    }
+}
+
+/// Takes the lines of the journal away that its snapshot stands behind, and tells the status to end with.
+pub(crate) fn trim_as_asked<R: Files<File = File> + Clock, L: Log, H: Portable + Copy>(
+    rt: &R,
+    told: &L,
+    alloc: Global,
+    handler: H,
+    program: &Program<'_>,
+    asked: &TrimWords<'_>,
+) -> u8 {
+    let path = asked.file;
+    // A journal that isn't there is not made.
+    if !has_snapshot(rt, alloc, path) {
+        error!(told; "there is no snapshot beside the journal {path:?}: `run --snapshot` keeps one");
+        return 1;
+    }
+    let owner = owner_of(program);
+    let takeover = Takeover {
+        adopt: false,
+        accept_upgrade: false,
+    };
+    let Ok(about) = about_of(alloc, &owner, asked.drives) else {
+        error!(told; "there is no memory for the name of the handler");
+        return 1;
+    };
+    match lock_journal(rt, told, alloc, path, &owner, takeover) {
+        Ok(locked) => trim_on(rt, told, alloc, handler, &locked, about.as_str()),
+        Err(status) => status,
     }
 }

@@ -2,7 +2,7 @@
 //!
 //! - `run_program` (`program_run`): reads the words and does what they ask for; `run_either`: so with a second handler;
 //! - `run_asked`: `run` and `drive`, with a bar or lines of progress, thin over `runs`; `cores`: on how many cores;
-//! - `journals`: `journal`, thin over `files`.
+//! - `journals`: `journal` and `trim`, thin over `files` and `runs`; `owners`: whose a journal and its snapshots are.
 //!
 //! `run`, `feeds`, `draw`, `why`, `status` and `load` stand in `runs`, `feed_runs`, `drawings`, `views` and `images`.
 //!
@@ -21,6 +21,7 @@
 
 mod cores;
 mod journals;
+mod owners;
 mod program_run;
 mod run_asked;
 

@@ -1,6 +1,6 @@
 //! What the words ask for, done.
 
-use crate::journals::journal_as_asked;
+use crate::journals::{journal_as_asked, trim_as_asked};
 use crate::run_asked::{run_as_asked, shows_bar};
 use codec::Portable;
 use drawings::draw_on;
@@ -116,6 +116,14 @@ pub fn run_either<
             }
         }
         Asked::Load(load) => load_on(rt, &told, &load),
+        Asked::Trim(trim) => {
+            let hosting = program.hosting(trim.programs);
+            if trim.programs {
+                trim_as_asked(rt, &told, rt.alloc(), programs, &hosting, &trim)
+            } else {
+                trim_as_asked(rt, &told, rt.alloc(), handler, &hosting, &trim)
+            }
+        }
         Asked::Journal(journal) => journal_as_asked(rt, &told, rt.alloc(), &journal),
         Asked::Ended(status) => status,
     }

@@ -3,14 +3,14 @@
 ghost use denote.Param.Send.{IsSend};
 
 use crate::cores::cores_for;
+use crate::owners::{about_of, owner_of};
 use crate::program_run::Terminals;
 use codec::Portable;
-use files::{LogFile, Owner, Takeover, has_snapshot, lock_journal, make_log};
+use files::{LogFile, Takeover, has_snapshot, lock_journal, make_log};
 use log::{Log, Logged, error, info, warn};
 use runs::{Hosted, Snapshots, run_journaled, run_on, run_on_cores};
 use shared_log::MemoryStore;
 use stable_log::WriterStore;
-use std::alloc::{AllocError, Global};
 use std::fs::{File, Files};
 use std::io::{self, Input, Read, Write};
 use std::sync::Wait;
@@ -197,7 +197,7 @@ fn run_in_journal<
         Ok(locked) => locked,
         Err(status) => return status,
     };
-    let Ok(about) = about_of(alloc, &owner, run) else {
+    let Ok(about) = about_of(alloc, &owner, run.drives) else {
         error!(told; "there is no memory for the name of the handler");
         return 1;
     };
@@ -207,20 +207,7 @@ fn run_in_journal<
         about: about.as_str(),
         each: run.snapshot,
     };
-    run_journaled(rt, told, alloc, host, input, output, locked, &owner, snapshots, cores, run)
-}
-
-/// What a snapshot is about: the handler and its version, and whether each line was carried on behind.
-fn about_of(alloc: Global, owner: &Owner<'_>, run: &RunWords<'_>) -> Result<String, AllocError> {
-    let command = if run.drives { "drive" } else { "run" };
-    format!(in alloc; "{command} {} {}", owner.handler, owner.handler_version)
-}
-
-/// Whose a journal of the program is.
-fn owner_of<'a>(program: &Program<'a>) -> Owner<'a> {
-    Owner {
-        version: program.version,
-        handler: program.handler,
-        handler_version: program.handler_version,
-    }
+    run_journaled(
+        rt, told, alloc, host, input, output, locked, &owner, snapshots, cores, run,
+    )
 }

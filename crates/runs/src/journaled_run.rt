@@ -101,15 +101,7 @@ pub fn run_journaled<
     };
     let mut engine = made;
     let from = first_answered(asked);
-    let journal = match open_journal(
-        snapshots.files,
-        told,
-        alloc,
-        locked,
-        owner,
-        from,
-        stand,
-    ) {
+    let journal = match open_journal(snapshots.files, told, alloc, locked, owner, from, stand) {
         Ok(journal) => journal,
         Err(status) => {
             engine.forget();
@@ -344,14 +336,20 @@ fn step_again<T: Threads + Sync, L: Log, W: Write, H: Handler + Send>(
     };
     let nowhere = Skipping::new(io::sink(), u64::MAX, 0);
     let mut nowhere = Counted::new(DurableReplies::new(nowhere));
-    let before = reader.by_ref().take(extent.before.saturating_sub(begun.bytes));
+    let before = reader
+        .by_ref()
+        .take(extent.before.saturating_sub(begun.bytes));
     let mut before = Counted::new(before);
     let seen = engine.answer_all(rt, told, alloc, hosted, &mut before, &mut nowhere, None);
     if seen.is_err() {
         writer.inner.is_refused = nowhere.inner.is_refused;
     }
     seen?;
-    writer.inner.inner.came = writer.inner.inner.came.saturating_add(nowhere.inner.inner.came);
+    writer.inner.inner.came = writer
+        .inner
+        .inner
+        .came
+        .saturating_add(nowhere.inner.inner.came);
     let behind = reader.take(extent.whole.saturating_sub(extent.before));
     let mut behind = Counted::new(behind);
     engine.answer_all(rt, told, alloc, hosted, &mut behind, writer, None)?;

@@ -8,8 +8,8 @@
 //! - `explained`: each refusal with its reason, thin over `serve` or `drive` for each line, and over `reasons`;
 //! - `waits`: the letters of a driver that wait, and what it did;
 //! - `Hosted`: a handler, and the names of the kinds that it knows;
-//! - `Snapshots`: what a journaled run goes on from, and keeps, thin over `snapshot` and `files`; `FirstLines`: the
-//!   next lines of a reader;
+//! - `Snapshots`: what a journaled run goes on from, and keeps, thin over `snapshot` and `files`; `trim_on`: `trim`;
+//!   `FirstLines`: the next lines of a reader;
 //! - `Judged`: a writer of replies that counts those which refuse; `Skipping`: one that leaves out
 //!   the first; `NoZeros`: a reader without the byte 0.
 //!
@@ -36,4 +36,4 @@ mod waits;
 pub use hosted::Hosted;
 pub use journaled_run::run_journaled;
 pub use run::{run_on, run_on_cores};
-pub use snapshots::Snapshots;
+pub use snapshots::{Snapshots, trim_on};

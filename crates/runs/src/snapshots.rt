@@ -4,15 +4,18 @@ use crate::engine::Engine;
 use book::Host;
 use codec::{Coded, DecodeFault, Input, Portable};
 use driver::Driver;
-use files::{FoundSnapshot, LockedJournal, Stand, find_snapshot, has_snapshot, keep_snapshot};
-use log::{Log, info, warn};
+use files::{
+    FoundSnapshot, LockedJournal, Stand, find_snapshot, has_snapshot, keep_snapshot, trim_journal,
+};
+use log::{Log, error, info, warn};
 use shared_log::MemoryStore;
 use snapshot::{load, save};
 use std::alloc::Global;
 use std::fmt::Display;
 use std::fs::{File, Files};
-use std::io;
 use std::io::ErrorKind;
+use std::time::Clock;
+use std::{io, mem};
 use terminal::Plural;
 use words::RunWords;
 
@@ -38,8 +41,8 @@ pub struct Begun<H: Portable> {
 }
 
 impl<'a, F: Files<File = File>> Snapshots<'a, F> {
-    /// What a run of this journal goes on from, where it can: the snapshot beside it. Where there is one that it can't go
-    /// on from, that is told: all lines are in the journal as well.
+    /// What a run of this journal goes on from, where it can: the snapshot beside it. Where there is one that it can't
+    /// go on from, that is told.
     pub fn begun<L: Log, H: Portable + Copy>(
         &self,
         told: &L,
@@ -53,6 +56,7 @@ impl<'a, F: Files<File = File>> Snapshots<'a, F> {
             stand,
             driver,
             host,
+            ..
         } = found;
         let Ok(driver) = remembered(alloc, driver.as_slice(), asked.drives) else {
             self.leave(told, &"what the driver remembers is damaged");
@@ -88,14 +92,18 @@ impl<'a, F: Files<File = File>> Snapshots<'a, F> {
             }
             return None;
         }
-        let found = match find_snapshot(self.files, alloc, self.path, locked.file(), locked.len()) {
+        let found = match find_snapshot(self.files, alloc, locked) {
             Ok(found) => found?,
             Err(misfit) => {
                 self.leave(told, &misfit);
                 return None;
             }
         };
-        let behind = if asked.drives { found.stand.written } else { found.stand.lines };
+        let behind = if asked.drives {
+            found.stand.written
+        } else {
+            found.stand.lines
+        };
         if let Some(from) = asked.from {
             if from < behind {
                 warn!(told; "the snapshot stands behind line {from}: the lines of the journal are stepped from the first");
@@ -109,6 +117,46 @@ impl<'a, F: Files<File = File>> Snapshots<'a, F> {
     fn leave<L: Log>(&self, told: &L, why: &impl Display) {
         let path = self.path;
         warn!(told; "the snapshot beside the journal {path:?} is left aside: {why}: the lines of the journal are stepped from the first");
+    }
+}
+
+/// Takes the lines of a journal away that the snapshot beside it stands behind, where a run can go on from that. Tells
+/// how many there were, and the status to end with: 1 where there is no such snapshot, or where a file can't be read,
+/// written, synced or renamed.
+pub fn trim_on<L: Log, F: Files<File = File> + Clock, H: Portable + Copy>(
+    files: &F,
+    told: &L,
+    alloc: Global,
+    handler: H,
+    locked: &LockedJournal<'_>,
+    about: &str,
+) -> u8 {
+    let path = locked.path();
+    let found = match find_snapshot(files, alloc, locked) {
+        Ok(Some(found)) => found,
+        Ok(None) => {
+            error!(told; "there is no snapshot beside the journal {path:?}: `run --snapshot` keeps one");
+            return 1;
+        }
+        Err(misfit) => {
+            error!(told; "the snapshot beside the journal {path:?} can't be gone on from: {misfit}");
+            return 1;
+        }
+    };
+    match load(alloc, handler, about, found.host.as_slice()) {
+        Ok(host) => mem::forget(host),
+        Err(fault) => {
+            error!(told; "the snapshot beside the journal {path:?} can't be gone on from: {fault}");
+            return 1;
+        }
+    }
+    match trim_journal(files, told, alloc, locked, &found) {
+        Ok(count) => {
+            let (went, first) = (Plural(count, "line"), found.stand.lines);
+            warn!(told; "{went} of the journal {path:?} were trimmed away: it begins with line {first} (from 0)");
+            0
+        }
+        Err(status) => status,
     }
 }
 

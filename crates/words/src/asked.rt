@@ -13,6 +13,8 @@ pub enum Asked<'a> {
     Draw(DrawWords<'a>),
     /// `journal`.
     Journal(JournalWords<'a>),
+    /// `trim`.
+    Trim(TrimWords<'a>),
     /// `why`.
     Why(WhyWords<'a>),
     /// `status`.
@@ -91,6 +93,17 @@ pub struct JournalWords<'a> {
     pub file: &'a str,
     /// Tell it as JSON.
     pub json: bool,
+}
+
+/// What `trim` is to shorten.
+#[derive(Clone, Copy, Debug)]
+pub struct TrimWords<'a> {
+    /// The journal is of the second handler.
+    pub programs: bool,
+    /// The journal is one of `drive`.
+    pub drives: bool,
+    /// The journal.
+    pub file: &'a str,
 }
 
 /// Which lines `why` and `status` look at.

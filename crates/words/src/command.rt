@@ -1,8 +1,8 @@
 //! The words, read with `clap`.
 
 use crate::asked::{
-    Asked, DrawWords, FeedsWords, JournalWords, LoadWords, RunWords, StatusWords, ViewWords,
-    WhyWords,
+    Asked, DrawWords, FeedsWords, JournalWords, LoadWords, RunWords, StatusWords, TrimWords,
+    ViewWords, WhyWords,
 };
 use crate::pages::Pages;
 use crate::verbosity::Verbosity;
@@ -362,6 +362,19 @@ fn journal_command<'a>(alloc: Global) -> Result<Command<'a>, Error> {
     with(with(Ok(journal), Ok(file)), Ok(json_flag(alloc)))
 }
 
+/// The command `trim`.
+fn trim_command<'a>(alloc: Global, pages: &'a Pages) -> Result<Command<'a>, Error> {
+    let trim = Command::new(alloc, "trim").about(
+        "Takes the lines of a journal away that its snapshot stands behind: they can't be audited, nor answered again",
+    );
+    let file = Arg::new(alloc, FILE).required(true).help("The journal");
+    let drive = Arg::new(alloc, DRIVE)
+        .long(DRIVE)
+        .action(ArgAction::SetTrue)
+        .help("The journal is one of `drive`");
+    with_programs(alloc, pages, with(with(Ok(trim), Ok(file)), Ok(drive)))
+}
+
 /// The flag that asks for JSON.
 fn json_flag<'a>(alloc: Global) -> Arg<'a> {
     Arg::new(alloc, JSON)
@@ -583,6 +596,7 @@ fn command_of<'a>(alloc: Global, pages: &'a Pages) -> Result<Command<'a>, Error>
     let command = with_command(command, draw_command(alloc, pages));
     let command = with_command(command, journal_command(alloc));
     let command = with_command(command, status_command(alloc, pages));
+    let command = with_command(command, trim_command(alloc, pages));
     let command = with_command(command, why_command(alloc, pages));
     if pages.has_programs {
         with_command(command, load_command(alloc))
@@ -629,6 +643,13 @@ fn asked_by<'a>(
         return Ok(Asked::Status(StatusWords {
             view: view_words(pages, status),
             json: status.get_flag(JSON),
+        }));
+    }
+    if let Some(trim) = matches.subcommand_matches("trim") {
+        return Ok(Asked::Trim(TrimWords {
+            programs: asks_programs(pages, trim),
+            drives: trim.get_flag(DRIVE),
+            file: trim.get_str(FILE).unwrap_or(""),
         }));
     }
     if let Some(why) = matches.subcommand_matches("why") {

@@ -23,8 +23,8 @@ mod program;
 mod verbosity;
 
 pub use asked::{
-    Asked, DrawWords, FeedsWords, JournalWords, LoadWords, RunWords, StatusWords, ViewWords,
-    WhyWords,
+    Asked, DrawWords, FeedsWords, JournalWords, LoadWords, RunWords, StatusWords, TrimWords,
+    ViewWords, WhyWords,
 };
 pub use command::read_words;
 pub use pages::Pages;

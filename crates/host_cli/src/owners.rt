@@ -1,0 +1,24 @@
+//! Whose a journal and its snapshots are.
+
+use files::Owner;
+use std::alloc::{AllocError, Global};
+use words::Program;
+
+/// Whose a journal of the program is.
+pub(crate) fn owner_of<'a>(program: &Program<'a>) -> Owner<'a> {
+    Owner {
+        version: program.version,
+        handler: program.handler,
+        handler_version: program.handler_version,
+    }
+}
+
+/// What a snapshot is about: the command, the handler and its version.
+pub(crate) fn about_of(
+    alloc: Global,
+    owner: &Owner<'_>,
+    drives: bool,
+) -> Result<String, AllocError> {
+    let command = if drives { "drive" } else { "run" };
+    format!(in alloc; "{command} {} {}", owner.handler, owner.handler_version)
+}
