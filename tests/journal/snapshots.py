@@ -2,15 +2,20 @@
 gone on from costs time alone.
 """
 
+import json
 import os
 import random
 import shutil
 import signal
-import subprocess
+import sys
+
+sys.path.append(os.path.join(os.path.dirname(os.path.abspath(__file__)), "..", "drive"))
 
 from crashes import crash, first_difference, plain
-from inputs import TENANTS, line, small_input
+from inputs import line, small_input
+from program import rows as worked_rows
 from program import whole_lines
+from scripts import script as driven_script
 
 KILLED, SCRIPTS = 20, 120
 EACH = "7"
@@ -53,8 +58,9 @@ class Kept:
 def script(own, number):
     """A random script that is cut somewhere: behind the cut both give the same."""
     chance = random.Random(number)
-    command = ("drive",) if number % 3 == 0 else ("run",)
-    lines = small_input(5000 + number)
+    is_driven = number % 3 == 0
+    command = ("drive",) if is_driven else ("run",)
+    lines = [step + b"\n" for step in driven_script(number)] if is_driven else small_input(5000 + number)
     cut = 1 + chance.randrange(len(lines) - 1)
     wanted = own.program.run(b"".join(lines), *command)[0]
     kept = Kept(own.program, own.room, f"script-{number}", lines[:cut], *command)
@@ -79,10 +85,8 @@ def scripts(own):
 
 def rows(own):
     """Each worked row, with a snapshot behind each of its lines."""
-    from program import rows as worked
-
     count = 0
-    for name, steps, replies in worked():
+    for name, steps, replies in worked_rows():
         lines = [step + b"\n" for step in steps]
         wanted = b"".join(reply + b"\n" for reply in replies)
         for cut in range(1, len(lines), max(1, len(lines) // 12)):
@@ -176,7 +180,8 @@ def misfits(own):
     for count, (why, words, how) in enumerate(cases):
         if wrong := left(why, *words, **how):
             return count, wrong
-    return len(cases), unfit(kept, more) or asked_before(own, kept, lines, more) or needs_history(own, kept, lines, more)
+    wrong = unfit(kept, more) or asked_before(own, kept, lines, more) or needs_history(kept, more)
+    return len(cases), wrong
 
 
 def unfit(kept, more):
@@ -184,7 +189,9 @@ def unfit(kept, more):
     there = kept.copy("-open")
     os.chmod(there.snapshot, 0o666)
     out, said, status = there.run(b"".join(more), "-v")
-    return None if status == 0 and LEFT in said and b"chmod go-w" in said else f"one that others may write: {said.decode()}"
+    if status or LEFT not in said or b"chmod go-w" not in said:
+        return f"one that others may write: {said.decode()}"
+    return None
 
 
 def asked_before(own, kept, lines, more):
@@ -201,7 +208,7 @@ def asked_before(own, kept, lines, more):
     return None
 
 
-def needs_history(own, kept, lines, more):
+def needs_history(kept, more):
     """An audit steps from the first line."""
     there = kept.copy("-audit")
     out, said, status = there.run(b"".join(more), "--audit")
@@ -211,7 +218,8 @@ def needs_history(own, kept, lines, more):
 
 
 def faults(own):
-    """Each write, sync and rename fails in turn, and the run is killed at each, with a snapshot behind each two lines."""
+    """Each write, sync and rename fails in turn, and the run is killed at each; a snapshot is kept behind each two
+    lines."""
     lines, more = small_state()
     given, wanted = lines + more, plain(own.program.path, lines + more)
     count = 0
@@ -261,6 +269,93 @@ def memory(own):
     return requests, None if requests else "no request was counted"
 
 
+def trimmed(own):
+    """A journal whose lines before the snapshot are taken away is gone on with, and tells what it lacks."""
+    lines, more = small_state()
+    program, later = own.program, [line("status", "a", unit=unit) for unit in (0, 1)]
+    wanted = plain(program.path, lines + more + later).splitlines(True)
+    kept = Kept(program, own.room, "trimmed", lines)
+    path, count = kept.journal, len(lines)
+    said = program.run(b"", "trim", path)
+    if said[2] or b"%d lines trimmed away; its first one is line %d (from 0)\n" % (count, count) not in said[0]:
+        return 1, f"trim: {said}"
+    first, _, rest = open(path, "rb").read().partition(b"\n")
+    if rest or not first.startswith(b'{"journal":%d,"tail":"' % count):
+        return 1, f"the file is {first!r} and {rest!r}"
+    told = json.loads(program.run(b"", "journal", "--json", path)[0])
+    if (told["lines"], told["trimmed"], told["torn"]) != (count, count, 0):
+        return 1, f"it is told as {told}"
+    out, said, status = kept.run(b"".join(more), "-v", "--from", str(count), "--snapshot", "3")
+    if status or out != b"".join(wanted[count : count + len(more)]) or GOES_ON % count not in said:
+        return 1, f"going on: {status}: {said.decode()}: {first_difference(out, b''.join(wanted[count:]))}"
+    refused = (
+        (("--from", str(count - 1)), 2, b"there is no line %d to go on from" % (count - 1)),
+        (("--audit",), 1, b"there is no snapshot to go on from"),
+    )
+    for words, status, why in refused:
+        had = kept.run(b"", *words)
+        if had[2] != status or why not in had[1]:
+            return 1, f"{words}: {had}"
+    for words in (("draw", "--journal"), ("status", "--journal"), ("why", "--tenant", "a", "--unit", "0", "--journal")):
+        if words[0] != "draw" and b"trimmed away" not in program.run(b"", *words, path)[1]:
+            return 1, f"{words[0]} steps lines that are gone"
+    behind = count + len(more)
+    out, said, status = kept.run(b"".join(later), "-v", "--from", str(count))
+    if status or out != b"".join(wanted[count:]) and GOES_ON not in said:
+        return 1, f"going on once more: {status}: {said.decode()}"
+    return 1, again(own, kept, behind) or lost(own, kept)
+
+
+def again(own, kept, behind):
+    """It can be trimmed once more."""
+    there = kept.copy("-again")
+    had = own.program.run(b"", "trim", there.journal)
+    told = json.loads(own.program.run(b"", "journal", "--json", there.journal)[0])
+    if had[2] or not behind - 3 < told["trimmed"] <= behind or told["lines"] != behind + 2:
+        return f"trimmed once more: {had}: {told}"
+    out, said, status = there.run(b"", "-v")
+    return f"going on behind that: {status}: {said.decode()}" if status else None
+
+
+def lost(own, kept):
+    """Without its snapshot, or its page, a trimmed journal is refused, and isn't changed."""
+    there = kept.copy("-lost")
+    os.remove(there.snapshot)
+    had = there.run(b"")
+    if had[2] != 1 or b"there is no snapshot to go on from" not in had[1]:
+        return f"without its snapshot: {had}"
+    os.remove(there.journal + ".about")
+    had = there.run(b"", "--adopt")
+    if had[2] != 1 or b"it can't be taken over" not in had[1]:
+        return f"without its page: {had}"
+    had = own.program.run(b"", "trim", there.journal)
+    if had[2] != 1 or b"there is no snapshot" not in had[1]:
+        return f"trimmed without a snapshot: {had}"
+    if open(there.journal, "rb").read() != open(kept.journal, "rb").read():
+        return "a journal that is refused is changed"
+    return None
+
+
+def trims_that_fail(own):
+    """Each write, sync and rename of a trim fails in turn, and it is killed at each: the journal is gone on with."""
+    lines, more = small_state()
+    wanted = plain(own.program.path, lines + more)[len(plain(own.program.path, lines)) :]
+    kept, count = Kept(own.program, own.room, "untrimmed", lines), 0
+    for word in ("append", "sync", "rename", "end"):
+        for value in range(0, 1000, 7) if word == "append" else range(1, 100):
+            there = kept.copy(f"-{word}-{value}")
+            had = own.program.run(b"", "trim", there.journal, **{word: value})
+            count += 1
+            if had[2] not in (0, 1, -signal.SIGKILL):
+                return count, f"{word} {value}: {had}"
+            out, said, status = there.run(b"".join(more), "--from", str(len(lines)), "-v")
+            if status or out != wanted:
+                return count, f"{word} {value}: going on: {status}: {said.decode()}"
+            if had[2] == 0:
+                break
+    return count, None
+
+
 class Room:
     def __init__(self, program, room):
         self.program, self.room = program, room
@@ -276,6 +371,8 @@ def checks(program, room):
         ("snapshots that don't fit", misfits),
         ("snapshots that can't be written", faults),
         ("memory of a snapshot that is refused", memory),
+        ("journals that are trimmed", trimmed),
+        ("trims that fail", trims_that_fail),
     )
     killed = [
         (f"kills with snapshots of input {seed}", lambda seed=seed: killed_runs(program.path, room, seed))

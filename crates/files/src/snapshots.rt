@@ -252,8 +252,8 @@ fn take_head<'a>(alloc: Global, input: &mut Input<'a>) -> Result<&'a [u8], Misfi
     Ok(said)
 }
 
-/// Where a snapshot stands in a journal, which must have the bytes that it stands behind. Of a journal whose first lines
-/// are gone they may be just those.
+/// Where a snapshot stands in a journal, which must have the bytes that it stands behind. Of a journal whose first
+/// lines are gone they may be just those.
 fn stand_in(
     alloc: Global,
     locked: &LockedJournal<'_>,

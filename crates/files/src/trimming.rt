@@ -1,8 +1,8 @@
 //! Journals whose first lines are gone: `recall trim`.
 //!
 //! Such a journal begins with a line that is no step. It says how many lines went before, and the digest of the last
-//! block of them, by which the snapshot that stands behind them is known. The page beside the journal says how many went
-//! too: a first line that only looks so is a line like any other.
+//! block of them, by which the snapshot that stands behind them is known. The page beside the journal says how many
+//! went, too: a first line that only looks so is a line like any other.
 
 use crate::about::note_trimmed;
 use crate::opening::LockedJournal;

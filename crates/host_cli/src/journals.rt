@@ -8,6 +8,7 @@ use runs::trim_on;
 use std::alloc::{AllocError, Global};
 use std::fs::{File, Files};
 use std::time::Clock;
+use terminal::Plural;
 use words::{JournalWords, Program, TrimWords};
 
 /// Writes what the journal has to standard output, and tells the status to end with.
@@ -46,7 +47,7 @@ fn text_of(alloc: Global, path: &str, found: &Told, json: bool) -> Result<String
 }
 
 /// Takes the lines of the journal away that its snapshot stands behind, and tells the status to end with.
-pub(crate) fn trim_as_asked<R: Files<File = File> + Clock, L: Log, H: Portable + Copy>(
+pub(crate) fn trim_as_asked<R: Files<File = File> + Clock + Print, L: Log, H: Portable + Copy>(
     rt: &R,
     told: &L,
     alloc: Global,
@@ -69,8 +70,25 @@ pub(crate) fn trim_as_asked<R: Files<File = File> + Clock, L: Log, H: Portable +
         error!(told; "there is no memory for the name of the handler");
         return 1;
     };
-    match lock_journal(rt, told, alloc, path, &owner, takeover) {
-        Ok(locked) => trim_on(rt, told, alloc, handler, &locked, about.as_str()),
+    let locked = match lock_journal(rt, told, alloc, path, &owner, takeover) {
+        Ok(locked) => locked,
+        Err(status) => return status,
+    };
+    match trim_on(rt, told, alloc, handler, &locked, about.as_str()) {
+        Ok((count, first)) => tell_trimmed(rt, told, path, count, first),
         Err(status) => status,
     }
+}
+
+/// Writes to standard output how many lines were trimmed away, and tells the status to end with.
+fn tell_trimmed<R: Print, L: Log>(rt: &R, told: &L, path: &str, count: u64, first: u64) -> u8 {
+    let went = Plural(count, "line");
+    if println!(rt;
+        "{path:?}: {went} trimmed away; its first one is line {first} (from 0)"
+    ).is_err()
+    {
+        error!(told; "the output can't be written");
+        return 1;
+    }
+    0
 }

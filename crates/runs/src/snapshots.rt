@@ -121,7 +121,9 @@ impl<'a, F: Files<File = File>> Snapshots<'a, F> {
 }
 
 /// Takes the lines of a journal away that the snapshot beside it stands behind, where a run can go on from that. Tells
-/// how many there were, and the status to end with: 1 where there is no such snapshot, or where a file can't be read,
+/// how many there were, and which is the first now.
+///
+/// Where that fails it is told, and the status to end with is 1: there is no such snapshot, or a file can't be read,
 /// written, synced or renamed.
 pub fn trim_on<L: Log, F: Files<File = File> + Clock, H: Portable + Copy>(
     files: &F,
@@ -130,34 +132,28 @@ pub fn trim_on<L: Log, F: Files<File = File> + Clock, H: Portable + Copy>(
     handler: H,
     locked: &LockedJournal<'_>,
     about: &str,
-) -> u8 {
+) -> Result<(u64, u64), u8> {
     let path = locked.path();
     let found = match find_snapshot(files, alloc, locked) {
         Ok(Some(found)) => found,
         Ok(None) => {
             error!(told; "there is no snapshot beside the journal {path:?}: `run --snapshot` keeps one");
-            return 1;
+            return Err(1);
         }
         Err(misfit) => {
             error!(told; "the snapshot beside the journal {path:?} can't be gone on from: {misfit}");
-            return 1;
+            return Err(1);
         }
     };
     match load(alloc, handler, about, found.host.as_slice()) {
         Ok(host) => mem::forget(host),
         Err(fault) => {
             error!(told; "the snapshot beside the journal {path:?} can't be gone on from: {fault}");
-            return 1;
+            return Err(1);
         }
     }
-    match trim_journal(files, told, alloc, locked, &found) {
-        Ok(count) => {
-            let (went, first) = (Plural(count, "line"), found.stand.lines);
-            warn!(told; "{went} of the journal {path:?} were trimmed away: it begins with line {first} (from 0)");
-            0
-        }
-        Err(status) => status,
-    }
+    let count = trim_journal(files, told, alloc, locked, &found)?;
+    Ok((count, found.stand.lines))
 }
 
 /// What a driver remembers by these bytes, where the run drives.
