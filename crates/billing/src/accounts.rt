@@ -77,6 +77,20 @@ impl Accounts {
         }
     }
 
+    /// These accounts.
+    pub(crate) fn of(accounts: Vec<Account>) -> Accounts
+        ensures { result ≡ accounts.items }
+    {
+        Accounts { accounts }
+    }
+
+    /// The accounts.
+    pub(crate) fn as_slice(&self) -> &[Account]
+        ensures { result.now ≡ self.now }
+    {
+        self.accounts.as_slice()
+    }
+
     /// Equal accounts.
     pub(crate) fn copy(&self, alloc: Global) -> Result<Accounts, NoMemory>
         ensures { IfOk result (λ a. a ≡ self.now) }

@@ -9,6 +9,7 @@
 //! - `request`: a text as a charge or a refund;
 //! - `accounts`: the balances, which are the state of a unit;
 //! - `ledger`, `card`: the turn of a unit of each role; `turns`: those that they share;
+//! - `portable`: the state of a unit as bytes, for a host that is saved and loaded;
 //! - `laws`: what follows for whoever runs it.
 //!
 //! `specs/Billing` says what all of it means.
@@ -19,6 +20,7 @@ mod billing;
 mod card;
 mod laws;
 mod ledger;
+mod portable;
 mod request;
 mod role;
 mod turns;

@@ -4,3 +4,4 @@ pub mod Courses
 pub mod Loading
 pub mod Turns
 pub mod Programs
+pub mod Coding

@@ -29,12 +29,17 @@
 //! What a program may not do traps: the state stays, nothing is sent, and one text is put out, `trap: REASON at
 //! ADDRESS`. A turn has 1,000,000 instructions, and 64 texts.
 //!
+//! **As bytes.** `Programs` is `Portable`: its states can be written as bytes and read again. Of a memory the pages are
+//! written that aren't zeros, 4 KiB each, and a byte for each other page (`specs/Coding`).
+//!
 //! `specs/Programs` says what all of it means.
 #![tactic(auto)]
 
 mod course;
 mod layout;
 mod loading;
+mod memories;
+mod portable;
 mod process;
 mod programs;
 mod state;

@@ -3,6 +3,7 @@
 -- Kept: what was stored is loaded (`words_are_kept`).
 -- Operands: what a word says has the operands of the word (`operands_are_fields`).
 -- Pages: pages and bytes of a memory (`page_read`).
+-- Places: pages of a memory by their places (`page_in`).
 -- Quotients: the signed quotient and its remainder (`signed_divides`).
 -- Signs: numbers read by their signs (`product_bits`).
 -- Steps: steps, one behind the other (`steps_add`).
@@ -12,6 +13,7 @@ pub mod KeptCode
 pub mod Kept
 pub mod Operands
 pub mod Pages
+pub mod Places
 pub mod Quotients
 pub mod Signs
 pub mod Steps

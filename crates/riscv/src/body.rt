@@ -74,6 +74,17 @@ impl Body {
         }
     }
 
+    /// These words.
+    pub(crate) fn of(words: Vec<u32>) -> Body
+        requires { length words.items ≡ 1024 }
+        ensures { result ≡ words.items }
+    {
+        Body {
+            words: Storage::Own(words),
+            code: Storage::Nowhere,
+        }
+    }
+
     /// An equal page, which shares the place where that was shared.
     #[inline]
     pub(crate) fn copy(&self, alloc: Global) -> Result<Body, AllocError>
@@ -103,8 +114,10 @@ impl Body {
         }
     }
 
-    fn as_slice(&self) -> &[u32]
-        ensures { result.now ≡ self.now }
+    /// The words.
+    pub(crate) fn as_slice(&self) -> &[u32]
+        ensures value { result.now ≡ self.now }
+        ensures size { length self.now ≡ 1024 }
     {
         match &self.words {
             Storage::Nowhere => zeros(),

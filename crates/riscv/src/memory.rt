@@ -1,14 +1,15 @@
 //! The memory of a machine.
 
-ghost use Rattle.std.specs.Prelude.{◌≡◌, ◌≢◌, ◌+◌, ◌/◌, ◌<◌, ◌≤◌, ◌%◌, IfOk, IfNone, IfSome, OnOk, OnErr, length};
+ghost use Rattle.std.specs.Prelude.{◌≡◌, ◌≢◌, ◌+◌, ◌/◌, ◌<◌, ◌≤◌, ◌%◌, IfOk, IfNone, IfSome, OnOk, OnErr, [], length};
+ghost use Rattle.std.specs.Prelude.{slice_index_or, slice_set};
 ghost use Rattle.std.proofs.Common.{rules};
 ghost use Rattle.std.specs.Cmp.Rules.{comparing};
 ghost use Rattle.riscv.specs.Decoding.{instruction_of};
 ghost use Rattle.riscv.specs.Predecoding.{meaning};
 ghost use Rattle.riscv.specs.Harts.{Says};
 ghost use Rattle.riscv.specs.Bytes.{byte_in, half_in, with_byte, with_half};
-ghost use Rattle.riscv.specs.Memories.{pages_equal, zeros, byte_at, half_at, word_at, put_byte, put_half, put_word};
-ghost use Rattle.riscv.specs.Memories.{bytes_from, put_bytes};
+ghost use Rattle.riscv.specs.Memories.{pages_equal, zero_page, zeros, byte_at, half_at, word_at, put_byte, put_half};
+ghost use Rattle.riscv.specs.Memories.{put_word, bytes_from, put_bytes};
 
 use crate::page::Page;
 use crate::predecoded::{Predecoded, predecode};
@@ -403,6 +404,60 @@ impl Memory {
     {
         let word = put_half_in(self.word(address), address % 4, n);
         self.set_word(alloc, address, word)
+    }
+
+    /// The words of a page; nothing where all are zeros. Takes no memory.
+    #[tactic(auto, using(crate::proofs::Places::zero_page_in, crate::proofs::Places::page_in))]
+    pub fn page(&self, index: usize) -> Option<&[u32]>
+        requires { index < 64 }
+        ensures none { IfNone result (slice_index_or self.now index [] ≡ zero_page) }
+        ensures some { IfSome result (λ words. words.now ≡ slice_index_or self.now index []) }
+        ensures written { IfSome result (λ words. words.now ≢ zero_page) }
+        ensures size { IfSome result (λ words. length words.now ≡ 1024) }
+        ensures count { length self.now ≡ 64 }
+    {
+        match self.pages() {
+            Some(pages) => pages[index].words(),
+            None => None,
+        }
+    }
+
+    /// Puts 1,024 words in the place of those of a page.
+    ///
+    /// # Errors
+    ///
+    /// `AllocError` where there is no memory for the page. The memory stays as it was.
+    pub fn set_page(
+        &mut self,
+        alloc: Global,
+        index: usize,
+        words: Vec<u32>,
+    ) -> Result<(), AllocError>
+        requires within { index < 64 }
+        requires size { length words.items ≡ 1024 }
+        ensures ok { OnOk result (self.new ≡ slice_set self.old index words.items) }
+        ensures err { OnErr result (self.new ≡ self.old) }
+    {
+        let page = Page::of(alloc, words)?;
+        match &mut self.pages {
+            Storage::Own(pages) => {
+                pages[index] = page;
+                Ok(())
+            }
+            _ => self.set_page_apart(alloc, index, page),
+        }
+    }
+
+    /// The same, where the pages have no place of their own yet.
+    fn set_page_apart(&mut self, alloc: Global, index: usize, page: Page) -> Result<(), AllocError>
+        requires { index < 64 }
+        ensures ok { OnOk result (self.new ≡ slice_set self.old index page) }
+        ensures err { OnErr result (self.new ≡ self.old) }
+    {
+        let mut pages = self.to_vec(alloc)?;
+        pages[index] = page;
+        self.pages = Storage::Own(pages);
+        Ok(())
     }
 
     /// So many bytes from an address on. They end within the memory.

@@ -1,6 +1,6 @@
 //! One page of memory.
 
-ghost use Rattle.std.specs.Prelude.{◌≡◌, ◌<◌, IfOk, OnOk, OnErr, length, slice_index, slice_set};
+ghost use Rattle.std.specs.Prelude.{◌≡◌, ◌≢◌, ◌<◌, IfNone, IfOk, IfSome, OnOk, OnErr, length, slice_index, slice_set};
 ghost use Rattle.std.specs.Str.{bytes_eq};
 ghost use Rattle.std.proofs.Common.{rules};
 ghost use Rattle.std.specs.Cmp.Rules.{comparing};
@@ -58,6 +58,15 @@ impl Page {
         Page { body: None }
     }
 
+    /// These words.
+    pub(crate) fn of(alloc: Global, words: Vec<u32>) -> Result<Page, AllocError>
+        requires { length words.items ≡ 1024 }
+        ensures { IfOk result (λ p. p ≡ words.items) }
+    {
+        let body = Box::new(alloc, Body::of(words))?;
+        Ok(Page { body: Some(body) })
+    }
+
     /// An equal page, which shares the place of the words where that was shared.
     #[inline]
     pub(crate) fn copy(&self, alloc: Global) -> Result<Page, AllocError>
@@ -88,6 +97,25 @@ impl Page {
         match &self.body {
             None => true,
             Some(body) => body.is_zero(),
+        }
+    }
+
+    /// The words; nothing where all are zeros.
+    pub(crate) fn words(&self) -> Option<&[u32]>
+        ensures none { IfNone result (self.now ≡ zero_page) }
+        ensures some { IfSome result (λ words. words.now ≡ self.now) }
+        ensures written { IfSome result (λ words. words.now ≢ zero_page) }
+        ensures size { IfSome result (λ words. length words.now ≡ 1024) }
+    {
+        match &self.body {
+            None => None,
+            Some(body) => {
+                if body.is_zero() {
+                    None
+                } else {
+                    Some(body.as_slice())
+                }
+            }
         }
     }
 
