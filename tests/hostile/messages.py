@@ -172,6 +172,30 @@ def held(runs, change):
     runs.said += said.decode().splitlines()
 
 
+def snapshots(runs):
+    """Snapshots that are gone on from, left aside, or can't be written, and journals that are trimmed."""
+    kept = ("run", "--journal", "kept")
+    runs.run(LINES, *kept, "--snapshot", "4", "--cores", "2")
+    whole = open(os.path.join(runs.room, "kept.snapshot"), "rb").read()
+    runs.run(b"", *kept, "--verbose")
+    runs.run(b"", *kept, "--audit")
+    runs.run(b"", *kept, "--from", "1")
+    runs.run(LINES, "run", "--journal", "unwritten", "--snapshot", "2", rename=2)
+    runs.run(b"", "trim", "none")
+    runs.run(b"", "trim", "kept", rename=2)
+    runs.refused(b"", "trim", "kept")
+    runs.run(b"", *kept, "--from", "1")
+    runs.run(b"", "trim", "--drive", "kept")
+    runs.run(b"", "trim", "kept", write=0)
+    runs.file("kept.snapshot", whole[:-1])
+    runs.run(b"", *kept)
+    runs.file("kept.snapshot", whole[:9])
+    runs.run(b"", "trim", "kept")
+    os.remove(os.path.join(runs.room, "kept.about"))
+    runs.run(b"", *kept, "--adopt")
+    os.remove(os.path.join(runs.room, "kept.snapshot"))
+
+
 def streams(runs):
     """Input and output that fail."""
     for words in (["run"], ["draw"], ["feeds", "given"], ["run", "--audit"], ["status"], WHY):
@@ -241,7 +265,7 @@ def each_text(program):
     """Whether each text was seen."""
     with tempfile.TemporaryDirectory(dir=program.room) as room:
         runs = Runs(program, room)
-        for scene in (files, journals, streams, driven, views, images, memory):
+        for scene in (files, journals, snapshots, streams, driven, views, images, memory):
             scene(runs)
     wanted = texts()
     wrong = [f"{text!r} is no text of the sources" for text in UNSEEN if text not in wanted]
