@@ -75,12 +75,13 @@ def program_file(path):
 
 
 class Run:
-    """One run of the program. While a reply is waited for, `meanwhile` is asked, which may raise why to end."""
+    """One run of the program, with these words more. While a reply is waited for, `meanwhile` is asked, which may raise
+    why to end."""
 
-    def __init__(self, program, meanwhile=lambda: None):
+    def __init__(self, program, meanwhile=lambda: None, words=()):
         self.meanwhile = meanwhile
         try:
-            self.process = subprocess.Popen([program, "run"], stdin=subprocess.PIPE, stdout=subprocess.PIPE)
+            self.process = subprocess.Popen([program, "run", *words], stdin=subprocess.PIPE, stdout=subprocess.PIPE)
         except OSError as fault:
             raise Fault(2, f"the program {program} can't be run: {fault.strerror}")
         self.pieces, self.lines, self.waits_since = [], collections.deque(), None
@@ -129,6 +130,14 @@ class Run:
         """Ends it, and waits for that."""
         self.process.kill()
         self.process.wait()
+
+
+class NoRun:
+    """What a lease is renewed for before there is a run: nothing that could be stuck."""
+
+    @staticmethod
+    def is_stuck(seconds):
+        return False
 
 
 def partition_of(line, partitions):

@@ -19,14 +19,16 @@ MOST, WORD = 8 << 20, 32 << 20  # (bytes: appended at once; of a message that a 
 Step = collections.namedtuple("Step", "at line sender number")
 
 
-def words_of(page, server, address):
-    """The words of a script that works on one partition of a server of this kind."""
+def words_of(page, server, address, has_snapshots=False):
+    """The words of a script that works on one partition of a server of this kind, which may keep snapshots."""
     reader = argparse.ArgumentParser(description=page, formatter_class=argparse.RawDescriptionHelpFormatter)
     reader.add_argument("program")
     reader.add_argument("partition", type=int)
     reader.add_argument(f"--{server}", dest="server", default=address)
     reader.add_argument("--name", default="recall")
     reader.add_argument("--lease", type=int, default=5000)
+    if has_snapshots:
+        reader.add_argument("--snapshot", type=int, default=10_000)
     return reader.parse_args()
 
 
@@ -57,10 +59,10 @@ class Keeping(threading.Thread):
 
 class Worker:
     """What a worker has while it holds its lease: the run, how many replies are recorded, and the last of these with
-    its step's place."""
+    its step's place. The run may stand behind some of the steps already: so many replies fewer are dropped."""
 
-    def __init__(self, run, count, last):
-        self.run, self.count, self.drop, self.last = run, count, count, last
+    def __init__(self, run, count, last, behind=0):
+        self.run, self.count, self.drop, self.last = run, count, count - behind, last
         self.batches = queue.Queue(AHEAD)
 
     def steps(self):
@@ -74,6 +76,10 @@ class Worker:
     def check(self):
         """Raises why to end, if there is anything; asked again and again."""
         raise NotImplementedError
+
+    def is_full(self):
+        """Whether the worker should end, and another one go on."""
+        return False
 
     def feed(self):
         """Gives the run the steps. A fault is passed on as a batch."""
@@ -119,7 +125,7 @@ class Worker:
     def work(self, stopping):
         """Records replies until it is told to stop."""
         threading.Thread(target=self.feed, daemon=True).start()
-        while not stopping.is_set():
+        while not stopping.is_set() and not self.is_full():
             self.check()
             try:
                 batch = self.batches.get(timeout=PAUSE)
@@ -134,8 +140,8 @@ class Worker:
 
 def main(words, reach, serve):
     """Runs a worker of these words until it is told to stop. `reach` gives the partition. `serve` takes it, the
-    program's file, the event of being told, and what says a line; `note` of the partition takes the status and the line
-    of a fault."""
+    program's file, the words, the event of being told, and what says a line; `note` of the partition takes the status
+    and the line of a fault."""
     stopping, name = threading.Event(), f"worker of {words.name}:{words.partition}"
     say = lambda what: print(f"{name}: {what}", file=sys.stderr, flush=True)
     for number in (signal.SIGTERM, signal.SIGINT):
@@ -145,7 +151,7 @@ def main(words, reach, serve):
         program = running.program_file(words.program)
         partition = reach(words)
         try:
-            serve(partition, program, words.lease, stopping, say)
+            serve(partition, program, words, stopping, say)
         except Fault as fault:
             try:
                 partition.note(*fault.args)

@@ -224,10 +224,10 @@ def reach(words):
 
 
 @jet.told()
-def serve(partition, program, length, stopping, say):
+def serve(partition, program, words, stopping, say):
     """Waits for the lease, works until it is told to stop or something fails, and gives the lease back."""
     partition.make()
-    lease = Lease(partition, length)
+    lease = Lease(partition, words.lease)
     while not lease.take():
         if stopping.wait(PAUSE):
             return

@@ -145,6 +145,29 @@ local function append(keys, args)
   return redis.call('PEXPIRE', keys[1], args[2])
 end
 
+-- recall_keep LEASE REPLIES SNAPSHOT, lease, milliseconds, count, id, page, bytes: keeps the snapshot of a run behind so
+-- many steps, the last of which has this id, with the page beside its journal. All of them must have their replies, so
+-- that the next worker may go on from it. It renews the lease.
+local function keep(keys, args)
+  if #args ~= 6 then
+    return redis.error_reply('WORDS a snapshot has ' .. #args .. ' words')
+  end
+  if not is_whole(args[3]) then
+    return no_number('the steps of a snapshot', args[3])
+  end
+  local refused = unless_time(args[2]) or unless_held(keys[1], args[1], 'a snapshot')
+  if refused then
+    return refused
+  end
+  local count = tonumber(args[3])
+  local last = redis.call('XRANGE', keys[2], args[4], args[4])
+  if redis.call('XLEN', keys[2]) < count or #last == 0 then
+    return fenced('a snapshot: the replies to its ' .. count .. ' steps are gone')
+  end
+  redis.call('HSET', keys[3], 'lines', args[3], 'at', args[4], 'about', args[5], 'bytes', args[6])
+  return redis.call('PEXPIRE', keys[1], args[2])
+end
+
 -- recall_read REPLIES, id, count, bytes: the entries behind this id, so many at most, and no more once they have so
 -- many bytes. XREAD has no limit of bytes: a thousand replies may be more than the server has memory for. Where the
 -- entry with this id is gone (and the id isn't 0), a crash or a failover took it: what came in its place may have
@@ -251,6 +274,7 @@ redis.register_function('recall_take', take)
 redis.register_function('recall_renew', renew)
 redis.register_function('recall_give_back', give_back)
 redis.register_function('recall_append', append)
+redis.register_function('recall_keep', keep)
 redis.register_function('recall_put', put)
 redis.register_function('recall_begin', begin)
 redis.register_function('recall_fault', fault)

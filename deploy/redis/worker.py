@@ -1,10 +1,12 @@
 #!/usr/bin/python3 -B
 """A worker of one partition: feeds its steps to a `recall run`, in order, and records each reply.
 
-    worker.py PROGRAM PARTITION [--redis URL] [--name NAME] [--lease MILLISECONDS]
+    worker.py PROGRAM PARTITION [--redis URL] [--name NAME] [--lease MILLISECONDS] [--snapshot STEPS]
 
-It waits for the partition's lease, starts PROGRAM, and gives it the steps of the epoch from the first one. As many
-replies as the stream of replies has are dropped; those behind them are appended. Each write carries the lease with its
+It waits for the partition's lease, starts PROGRAM, and gives it the steps of the epoch behind the snapshot that the
+server has, or from the first one. Those replies that the stream of replies has are dropped; those behind them are
+appended. A snapshot is kept behind each 10,000 steps, or as many as are said (0: never), in a folder of the worker's
+and then in the server, once the replies before it are recorded. Each write carries the lease with its
 fencing number, and the server refuses it where that is over (recall.lua). Whatever goes wrong ends the worker: start it
 anew.
 
@@ -32,6 +34,7 @@ import redis
 import reaching  # (this finds the modules of the folder above)
 import running
 from running import PAUSE, Fault
+from snapshots import MOST, Snapshots
 import working
 from working import BATCH, WORD, Step
 
@@ -87,17 +90,18 @@ class Lease:
         self.partition, self.key, self.length, self.keeping = partition, partition.key("lease"), length, None
 
     def take(self):
-        """Takes it, if nobody has it."""
+        """Takes it, if nobody has it, and renews it from now on."""
         keys = [self.key, *map(self.partition.key, ("fence", "holder"))]
         self.held = self.partition.call(
             "take", keys, secrets.token_hex(8), self.length, socket.gethostname(), os.getpid()
         )
+        if self.held is not None:
+            self.keeping = working.Keeping(self.length / 1000, running.NoRun, self.renew)
         return self.held is not None
 
-    def run(self, program):
-        """Starts a run of the program, and renews the lease from now on."""
-        run = running.Run(program, self.check)
-        self.keeping = working.Keeping(self.length / 1000, run, self.renew)
+    def run(self, program, words):
+        """Starts a run of the program with these words: where it is stuck, the lease is renewed no more."""
+        run = self.keeping.run_of_program = running.Run(program, self.check, words)
         return run
 
     @reaching.told()
@@ -112,6 +116,11 @@ class Lease:
         words = [(step.at, step.sender, step.number, reply) for step, reply in zip(steps, replies)]
         self.partition.call("append", [self.key, *streams], self.held, self.length, count, *sum(words, ()))
 
+    def keep(self, keys, snapshot, at):
+        """Has the server keep a snapshot whose last step has this place."""
+        lines, about, data = snapshot
+        self.partition.call("keep", [self.key, *keys], self.held, self.length, lines, at, about, data)
+
     def give_back(self):
         """Gives it back, if it is still there to be given."""
         if self.keeping:
@@ -120,26 +129,49 @@ class Lease:
 
 
 class Worker(working.Worker):
-    """A worker of two streams."""
+    """A worker of two streams, and of snapshots where these are kept."""
 
-    def __init__(self, partition, lease, run):
+    def __init__(self, partition, lease, program, each):
+        epoch = partition.epoch()
         self.server, self.lease = partition.server, lease
-        self.streams = [partition.key(stream, partition.epoch()) for stream in ("steps", "replies")]
+        self.streams = [partition.key(stream, epoch) for stream in ("steps", "replies")]
+        self.snapshots = Snapshots(self.server, partition.key("snapshot", epoch), each) if each else None
+        self.behind, self.first = self.snapshots.begin(program) if each else (0, b"0")
+        self.places = {}
         last = [(at, words[b"reply"]) for at, words in self.server.xrevrange(self.streams[1], count=1)]
-        super().__init__(run, self.server.xlen(self.streams[1]), *(last or [None]))
+        run = lease.run(program, self.snapshots.words() if each else ())
+        super().__init__(run, self.server.xlen(self.streams[1]), *(last or [None]), self.behind)
 
     def steps(self):
-        last = b"0"
+        last, count = self.first, self.behind
         while True:
             for _, entries in self.server.xread({self.streams[0]: last}, count=BATCH, block=1000):
                 yield [step_of(at, words) for at, words in entries]
                 last = entries[-1][0]
+                self.places.update((count + more, at) for more, (at, _) in enumerate(entries, 1))
+                count += len(entries)
 
     def append(self, steps, replies):
         self.lease.append(self.streams, self.count, steps, replies)
 
+    def record(self, steps):
+        super().record(steps)
+        snapshot = self.snapshots and self.snapshots.newer(self.count)
+        if not snapshot:
+            return
+        lines, _, data = snapshot
+        if len(data) <= MOST:
+            self.lease.keep([self.streams[1], self.snapshots.key], snapshot, self.places[lines])
+        for count in list(self.places):
+            if count < lines:
+                del self.places[count]
+
     def check(self):
         self.lease.check()
+
+    def is_full(self):
+        """Whether the worker should end, for the next one to begin with an empty folder."""
+        return self.snapshots is not None and self.snapshots.is_full()
 
 
 @reaching.told()
@@ -151,22 +183,24 @@ def reach(words):
 
 
 @reaching.told()
-def serve(partition, program, length, stopping, say):
+def serve(partition, program, words, stopping, say):
     """Waits for the lease, works until it is told to stop or something fails, and gives the lease back."""
-    lease = Lease(partition, length)
+    lease, worker = Lease(partition, words.lease), None
     look_at_limits(partition.server)
     while not lease.take():
         if stopping.wait(PAUSE):
             return
-    run = lease.run(program)
     try:
-        worker = Worker(partition, lease, run)
-        say(f"lease {lease.held.decode()}, {worker.streams[1]} has {worker.count}, program {run.process.pid}")
+        worker = Worker(partition, lease, program, words.snapshot)
+        begun = f" behind {worker.behind}" if worker.behind else ""
+        pid = worker.run.process.pid
+        say(f"lease {lease.held.decode()}, {worker.streams[1]} has {worker.count}, program {pid}{begun}")
         worker.work(stopping)
     finally:
-        run.kill()
+        if worker:
+            worker.run.kill()
         lease.give_back()
 
 
 if __name__ == "__main__":
-    working.main(working.words_of(__doc__, "redis", reaching.URL), reach, serve)
+    working.main(working.words_of(__doc__, "redis", reaching.URL, True), reach, serve)

@@ -173,8 +173,8 @@ def misfits(own):
     cases = (
         ("it is of another journal", (), {"snapshot": other.snapshot}),
         ("it stands behind more than the journal has", (), {"snapshot": longer.snapshot}),
-        ("another handler", (), {"first": "drive"}),
-        ("another handler", ("--programs", "--accept-upgrade"), {}),
+        ("a snapshot about another handler", (), {"first": "drive"}),
+        ("a snapshot about another handler", ("--programs", "--accept-upgrade"), {}),
         ("it is of another journal", (), {"journal": [line("open", "c", units=["echo"])] + lines}),
     )
     for count, (why, words, how) in enumerate(cases):

@@ -58,16 +58,17 @@ impl<'a, F: Files<File = File>> Snapshots<'a, F> {
             host,
             ..
         } = found;
-        let Ok(driver) = remembered(alloc, driver.as_slice(), asked.drives) else {
-            self.leave(told, &"what the driver remembers is damaged");
-            return None;
-        };
         let host = match load(alloc, handler, self.about, host.as_slice()) {
             Ok(host) => host,
             Err(fault) => {
                 self.leave(told, &fault);
                 return None;
             }
+        };
+        let Ok(driver) = remembered(alloc, driver.as_slice(), asked.drives) else {
+            mem::forget(host);
+            self.leave(told, &"what the driver remembers is damaged");
+            return None;
         };
         info!(told; "a snapshot stands behind {} of the journal", Plural(stand.lines, "line"));
         Some(Begun {
