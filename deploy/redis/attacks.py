@@ -17,6 +17,7 @@ from trials import ANSWERS, LEASE, LONG, TEXTS, Held, Link, Wrong, free_port, li
 from trials import one_long_reply, outcome, plain_run, slow_program, until
 
 RATE = 8_000_000  # (bytes a second of a slow program, and of a slow link: a reply of 25 MB takes three leases)
+EACH = 4  # (steps behind which a snapshot is kept)
 CLIENTS = 128 << 20  # (bytes that a server lets its clients have in hand, where many long replies are made at once)
 
 
@@ -30,9 +31,10 @@ class Place:
         self.partitions = put.partitions_of(server.client, "recall", 1)
         self.steps, self.replies = (self.partitions[0].key(stream, 0) for stream in ("steps", "replies"))
 
-    def held(self, program, url, lease=LEASE):
-        """A worker's process."""
-        return Held([os.path.join(self.scripts, "worker.py"), program, "0", "--redis", url, "--lease", str(lease)], 0)
+    def held(self, program, url, lease=LEASE, each=EACH):
+        """A worker's process, with a snapshot behind each so many steps."""
+        words = [program, "0", "--redis", url, "--lease", str(lease), "--snapshot", str(each)]
+        return Held([os.path.join(self.scripts, "worker.py"), *words], 0)
 
     @contextlib.contextmanager
     def worker(self, program=None, url=None):
@@ -623,6 +625,73 @@ def followed(place):
     return f"{len(lines)} lines that came into a file have their replies in another, each once"
 
 
+# A snapshot that can't be gone on from.
+
+
+def begun_behind(held):
+    """How many steps the worker's snapshot stands behind; 0 where it began with the first step."""
+    words = next(said for said in held.said if ": lease " in said).replace(",", "").split()
+    return int(words[words.index("behind") + 1]) if "behind" in words else 0
+
+
+def refused_snapshots(place, key, kept):
+    """A snapshot of a lease that is over, of steps without replies, or with words that are none, isn't kept."""
+    keys = [place.partitions[0].key("lease"), place.replies, key]
+    lease = [keys[0], *map(place.partitions[0].key, ("fence", "holder"))]
+    held = place.client.fcall("recall_take", 3, *lease, "word", 60_000, "host", 1)
+    at, count = kept[b"at"], int(kept[b"lines"])
+    calls = [
+        (("1:other", 60_000, count, at, "{}", "new"), "FENCED"),
+        ((held, 60_000, place.client.xlen(place.replies) + 1, at, "{}", "new"), "FENCED"),
+        ((held, 60_000, count, "1-1", "{}", "new"), "FENCED"),
+        ((held, 60_000, count, at, "{}"), "WORDS"),
+        *(((held, 60_000, number, at, "{}", "new"), "NUMBER") for number in NUMBERS),
+        *(((held, number, count, at, "{}", "new"), "NUMBER") for number in NUMBERS),
+    ]
+    for words, why in calls:
+        try:
+            raise Wrong(f"a snapshot of {words} was answered {place.client.fcall('recall_keep', 3, *keys, *words)}")
+        except redis.ResponseError as refused:
+            if why not in str(refused) or place.client.hgetall(key) != kept:
+                raise Wrong(f"a snapshot of {words}: {refused}")
+    place.client.delete(keys[0])
+
+
+def snapshots(place):
+    """The next worker begins behind the snapshot; where that is spoilt, of another program, or gone, it begins with the
+    first step. Whichever it is, the replies are those of one plain run."""
+    lines = [line("open", units=["count"]), *(line("post", unit=0, number=number, text="x") for number in range(39))]
+    key, seen = place.partitions[0].key("snapshot", 0), []
+    place.give("first", lines[:20])
+    with place.worker():
+        place.answered(20)
+        until("a snapshot", lambda: place.client.hget(key, "lines") == b"20")
+    kept = place.client.hgetall(key)
+    refused_snapshots(place, key, kept)
+    spoils = (
+        ("as it is", {}, 20),
+        ("a byte of it changed", {"bytes": kept[b"bytes"][:-1] + b"?"}, 0),
+        ("cut short", {"bytes": kept[b"bytes"][:50]}, 0),
+        ("of another handler", {"about": json.dumps({**json.loads(kept[b"about"]), "handler": "other"})}, 0),
+        ("gone", None, 0),
+    )
+    for at, (what, spoilt, behind) in enumerate(spoils):
+        place.client.delete(key)
+        if spoilt is not None:
+            place.client.hset(key, mapping={**kept, **spoilt})
+        with place.worker() as held:
+            seen.append(begun_behind(held))
+            place.give("first", lines[: 22 + 2 * at])
+            place.answered(22 + 2 * at)
+        if seen[-1] != behind:
+            raise Wrong(f"a snapshot {what}: the worker began behind {seen[-1]} steps")
+    with place.worker():
+        place.give("first", lines)
+        place.answered(len(lines))
+    place.compare(("first", lines))
+    return f"behind a snapshot, and behind {len(spoils) - 1} that can't be gone on from, the replies are the same"
+
+
 ATTACKS = {
     "slow-replies": slow_replies,
     "long-replies": long_replies,
@@ -631,4 +700,5 @@ ATTACKS = {
     "server-gone": server_gone,
     "stuck": stuck,
     "followed": followed,
+    "snapshots": snapshots,
 }

@@ -145,9 +145,9 @@ local function append(keys, args)
   return redis.call('PEXPIRE', keys[1], args[2])
 end
 
--- recall_keep LEASE REPLIES SNAPSHOT, lease, milliseconds, count, id, page, bytes: keeps the snapshot of a run behind so
--- many steps, the last of which has this id, with the page beside its journal. All of them must have their replies, so
--- that the next worker may go on from it. It renews the lease.
+-- recall_keep LEASE REPLIES SNAPSHOT, lease, milliseconds, count, id, page, bytes: keeps the snapshot of a run behind
+-- so many steps, the last of which has this id, with the page beside its journal. All of them must have their replies,
+-- so that the next worker may go on from it. It renews the lease.
 local function keep(keys, args)
   if #args ~= 6 then
     return redis.error_reply('WORDS a snapshot has ' .. #args .. ' words')

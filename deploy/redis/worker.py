@@ -192,9 +192,9 @@ def serve(partition, program, words, stopping, say):
             return
     try:
         worker = Worker(partition, lease, program, words.snapshot)
-        begun = f" behind {worker.behind}" if worker.behind else ""
+        begun = f", begun behind {worker.behind}" if worker.behind else ""
         pid = worker.run.process.pid
-        say(f"lease {lease.held.decode()}, {worker.streams[1]} has {worker.count}, program {pid}{begun}")
+        say(f"lease {lease.held.decode()}, {worker.streams[1]} has {worker.count}{begun}, program {pid}")
         worker.work(stopping)
     finally:
         if worker:
