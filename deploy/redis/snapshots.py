@@ -48,17 +48,25 @@ class Snapshots:
         kept = self.server.hgetall(self.key)
         if not kept:
             return 0, b"0"
-        lines, tail = stand_of(kept[b"bytes"])
-        first = json.dumps({"journal": lines, "tail": tail}, separators=(",", ":")) + "\n"
-        about = json.dumps({**json.loads(kept[b"about"]), "trimmed": lines})
-        for end, data in (("", first.encode()), (".about", about.encode()), (".snapshot", kept[b"bytes"])):
-            self.write(end, data)
+        try:
+            lines = self.lay_out(kept[b"about"], kept[b"bytes"])
+        except (IndexError, KeyError, TypeError, ValueError):
+            return 0, b"0"  # (it is no snapshot)
         if self.goes_on(program):
             self.seen = self.look()
             return lines, kept[b"at"]
         for end in ("", ".about", ".snapshot"):
             os.remove(self.journal + end)
         return 0, b"0"
+
+    def lay_out(self, page, data):
+        """Writes the files of a journal whose lines up to the snapshot are gone: how many these are."""
+        lines, tail = stand_of(data)
+        first = json.dumps({"journal": lines, "tail": tail}, separators=(",", ":")) + "\n"
+        about = json.dumps({**json.loads(page), "trimmed": lines})
+        for end, words in (("", first.encode()), (".about", about.encode()), (".snapshot", data)):
+            self.write(end, words)
+        return lines
 
     def write(self, end, data):
         with open(self.journal + end, "wb", opener=lambda path, flags: os.open(path, flags, 0o600)) as file:

@@ -154,8 +154,8 @@ class Worker(working.Worker):
     def append(self, steps, replies):
         self.lease.append(self.streams, self.count, steps, replies)
 
-    def record(self, steps):
-        super().record(steps)
+    def keep(self):
+        """Has the server keep the snapshot that the program wrote last, where there is a newer one."""
         snapshot = self.snapshots and self.snapshots.newer(self.count)
         if not snapshot:
             return
@@ -168,6 +168,7 @@ class Worker(working.Worker):
 
     def check(self):
         self.lease.check()
+        self.keep()
 
     def is_full(self):
         """Whether the worker should end, for the next one to begin with an empty folder."""
