@@ -63,6 +63,10 @@ case $journal in
 -*) journal=./$journal ;;
 esac
 told=$("$recall" journal --json "$journal") || exit 2
+case $told in
+*'"trimmed":0'*) ;;
+*) fail "the first lines of the journal were trimmed away: no run from the first can be compared" ;;
+esac
 lines=${told##*\"lines\":}
 lines=${lines%%[!0-9]*}
 room=$(mktemp -d)
