@@ -46,12 +46,17 @@ class Kept:
         command = self.words or ("run",)
         return self.program.run(given, *command, "--journal", self.journal, *words, **faults)
 
+    def trimmed(self):
+        """How many of its lines were trimmed away."""
+        return json.loads(self.program.run(b"", "journal", "--json", self.journal)[0])["trimmed"]
+
     def copy(self, name):
         """The same in files of another name."""
         other = Kept.__new__(Kept)
         other.program, other.words, other.journal = self.program, self.words, self.journal + name
-        for end in ("", ".about", ".snapshot"):
-            shutil.copyfile(self.journal + end, other.journal + end)
+        for end in ("", ".about", ".snapshot", ".base"):
+            if os.path.exists(self.journal + end):
+                shutil.copyfile(self.journal + end, other.journal + end)
         return other
 
 
@@ -301,7 +306,7 @@ def trimmed(own):
             return 1, f"{words[0]} steps lines that are gone"
     behind = count + len(more)
     out, said, status = kept.run(b"".join(later), "-v", "--from", str(count))
-    if status or out != b"".join(wanted[count:]) and GOES_ON not in said:
+    if status or out != b"".join(wanted[count:]) or GOES_ON % count not in said:
         return 1, f"going on once more: {status}: {said.decode()}"
     return 1, again(own, kept, behind) or lost(own, kept)
 
@@ -318,12 +323,17 @@ def again(own, kept, behind):
 
 
 def lost(own, kept):
-    """Without its snapshot, or its page, a trimmed journal is refused, and isn't changed."""
+    """Without its snapshot a trimmed journal is gone on with from its base, and without that, or its page, it is
+    refused, and isn't changed."""
     there = kept.copy("-lost")
     os.remove(there.snapshot)
+    had = there.run(b"", "-v")
+    if had[2] or GOES_ON % there.trimmed() not in had[1]:
+        return f"without its snapshot: {had}"
+    os.remove(there.journal + ".base")
     had = there.run(b"")
     if had[2] != 1 or b"there is no snapshot to go on from" not in had[1]:
-        return f"without its snapshot: {had}"
+        return f"without its base: {had}"
     os.remove(there.journal + ".about")
     had = there.run(b"", "--adopt")
     if had[2] != 1 or b"it can't be taken over" not in had[1]:

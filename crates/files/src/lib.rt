@@ -8,6 +8,7 @@
 //!   it;
 //! - `Told` (`telling`): how many lines and bytes a journal has;
 //! - `find_snapshot`, `keep_snapshot` (`snapshots`): the file beside a journal that has a snapshot of its host;
+//!   `find_base`: that which stands behind the lines that were trimmed away;
 //! - `trim_journal` (`trimming`): takes the lines of a journal away that a snapshot stands behind;
 //! - `make_log` (`log_file`): the file of `run --log`, and `LogFile`, which tells that it fails;
 //! - `Fitness` (`fitness`): why a file must not be written to.
@@ -35,6 +36,8 @@ pub use fitness::{Unfit, why_unfit};
 pub use lasting::{LastingFile, Standing};
 pub use log_file::{LogFile, make_log};
 pub use opening::{JournalFile, LockedJournal, Takeover, lock_journal, open_journal};
-pub use snapshots::{FoundSnapshot, Misfit, Stand, find_snapshot, has_snapshot, keep_snapshot};
+pub use snapshots::{
+    FoundSnapshot, Misfit, Stand, find_base, find_snapshot, has_snapshot, keep_snapshot,
+};
 pub use telling::{Told, read_journal, tell_journal};
 pub use trimming::trim_journal;

@@ -1,4 +1,5 @@
-//! The file beside a journal that has a snapshot of its host: the journal's name and `.snapshot`.
+//! The file beside a journal that has a snapshot of its host: the journal's name and `.snapshot`. Beside one whose
+//! first lines were trimmed away there is another, which stands behind just these: the journal's name and `.base`.
 //!
 //! It has a head and the host's bytes. The head is `RECALLSJ`, the version of its form, the digest of what follows of
 //! it, how much of the journal the snapshot stands behind, a digest of the last bytes of that, and what a driver
@@ -22,6 +23,9 @@ use thiserror::Error;
 
 /// What is added to the journal's name.
 const SUFFIX: &str = ".snapshot";
+
+/// What is added to the name of a trimmed one for the snapshot that stands behind the lines that went.
+const BASE: &str = ".base";
 
 /// What the file begins with.
 const MAGIC: [u8; 8] = *b"RECALLSJ";
@@ -131,14 +135,14 @@ impl Coded for Stand {
     }
 }
 
-/// The path of the snapshot beside a journal.
-fn path_of(alloc: Global, journal: &str) -> Result<String, AllocError> {
-    format!(in alloc; "{journal}{SUFFIX}")
+/// The path of a file beside a journal.
+fn path_of(alloc: Global, journal: &str, suffix: &str) -> Result<String, AllocError> {
+    format!(in alloc; "{journal}{suffix}")
 }
 
 /// Whether there is a file where the snapshot beside a journal would be.
 pub fn has_snapshot<R: Files<File = File>>(rt: &R, alloc: Global, journal: &str) -> bool {
-    match path_of(alloc, journal) {
+    match path_of(alloc, journal, SUFFIX) {
         Ok(path) => std::fs::metadata(rt, path.as_str()).is_ok(),
         Err(_) => false,
     }
@@ -200,9 +204,22 @@ pub fn keep_snapshot<R: Files<File = File>>(
     let Ok(head) = head_of(alloc, said.as_slice()) else {
         return Err(no_memory());
     };
-    let at = path_of(alloc, path)?;
+    let at = path_of(alloc, path, SUFFIX)?;
     replace_file(rt, alloc, at.as_str(), &[head.as_slice(), host])?;
     sync_folder(rt, path)
+}
+
+/// Keeps the snapshot beside a journal as the one that stands behind the lines that are to be trimmed away.
+pub(crate) fn keep_base<R: Files<File = File>>(
+    rt: &R,
+    alloc: Global,
+    path: &str,
+) -> io::Result<()> {
+    let Ok(Some(bytes)) = read_beside(rt, alloc, path, SUFFIX) else {
+        return Err(io::Error::new(ErrorKind::InvalidData, "its snapshot can't be read"));
+    };
+    let at = path_of(alloc, path, BASE)?;
+    replace_file(rt, alloc, at.as_str(), &[bytes.as_slice()])
 }
 
 /// The bytes of the file beside a journal, if there is one.
@@ -210,8 +227,9 @@ fn read_beside<R: Files<File = File>>(
     rt: &R,
     alloc: Global,
     path: &str,
+    suffix: &str,
 ) -> Result<Option<Vec<u8>>, Misfit> {
-    let at = path_of(alloc, path)?;
+    let at = path_of(alloc, path, suffix)?;
     let mut file = match File::open(rt, at.as_str()) {
         Ok(file) => file,
         Err(error) if error.kind() == ErrorKind::NotFound => return Ok(None),
@@ -305,7 +323,29 @@ pub fn find_snapshot<R: Files<File = File>>(
     alloc: Global,
     locked: &LockedJournal<'_>,
 ) -> Result<Option<FoundSnapshot>, Misfit> {
-    let Some(bytes) = read_beside(rt, alloc, locked.path())? else {
+    find_beside(rt, alloc, locked, SUFFIX)
+}
+
+/// The snapshot that stands behind the lines that were trimmed away from a journal, if there is a file.
+///
+/// # Errors
+///
+/// Why it can't be gone on from.
+pub fn find_base<R: Files<File = File>>(
+    rt: &R,
+    alloc: Global,
+    locked: &LockedJournal<'_>,
+) -> Result<Option<FoundSnapshot>, Misfit> {
+    find_beside(rt, alloc, locked, BASE)
+}
+
+fn find_beside<R: Files<File = File>>(
+    rt: &R,
+    alloc: Global,
+    locked: &LockedJournal<'_>,
+    suffix: &str,
+) -> Result<Option<FoundSnapshot>, Misfit> {
+    let Some(bytes) = read_beside(rt, alloc, locked.path(), suffix)? else {
         return Ok(None);
     };
     let mut input = Input::new(bytes.as_slice());

@@ -7,7 +7,7 @@
 use crate::about::note_trimmed;
 use crate::opening::LockedJournal;
 use crate::replacing::{make_new, new_path, rename_new, sync_folder};
-use crate::snapshots::FoundSnapshot;
+use crate::snapshots::{FoundSnapshot, keep_base};
 use log::{Log, error};
 use serde_json::Value;
 use std::alloc::{AllocError, Global};
@@ -129,8 +129,8 @@ fn write_rest<R: Files<File = File>>(
     file.sync_all()
 }
 
-/// Takes the lines of a journal away that this snapshot of it stands behind. The page beside it is written first, so
-/// that the journal's first line counts as soon as it is there.
+/// Takes the lines of a journal away that this snapshot of it stands behind. The snapshot is kept beside it for good,
+/// and the page beside it is written, before the journal is: so that its first line counts as soon as it is there.
 fn take_away<R: Files<File = File> + Clock>(
     rt: &R,
     alloc: Global,
@@ -148,6 +148,7 @@ fn take_away<R: Files<File = File> + Clock>(
         locked.file(),
         snapshot.stand.bytes,
     )?;
+    keep_base(rt, alloc, path)?;
     note_trimmed(rt, alloc, path, snapshot.stand.lines)?;
     rename_new(rt, alloc, path)?;
     sync_folder(rt, path)

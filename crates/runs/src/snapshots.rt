@@ -5,7 +5,8 @@ use book::Host;
 use codec::{Coded, DecodeFault, Input, Portable};
 use driver::Driver;
 use files::{
-    FoundSnapshot, LockedJournal, Stand, find_snapshot, has_snapshot, keep_snapshot, trim_journal,
+    FoundSnapshot, LockedJournal, Misfit, Stand, find_base, find_snapshot, has_snapshot,
+    keep_snapshot, trim_journal,
 };
 use log::{Log, error, info, warn};
 use shared_log::MemoryStore;
@@ -41,8 +42,8 @@ pub struct Begun<H: Portable> {
 }
 
 impl<'a, F: Files<File = File>> Snapshots<'a, F> {
-    /// What a run of this journal goes on from, where it can: the snapshot beside it. Where there is one that it can't
-    /// go on from, that is told.
+    /// What a run of this journal goes on from, where it can: the snapshot beside it, or the one that stands behind the
+    /// lines that were trimmed away. Where there is one that it can't go on from, that is told.
     pub fn begun<L: Log, H: Portable + Copy>(
         &self,
         told: &L,
@@ -51,13 +52,39 @@ impl<'a, F: Files<File = File>> Snapshots<'a, F> {
         locked: &LockedJournal<'_>,
         asked: &RunWords<'_>,
     ) -> Option<Begun<H>> {
-        let found = self.found(told, alloc, locked, asked)?;
+        if asked.audit || asked.explain {
+            if has_snapshot(self.files, alloc, self.path) {
+                let word = if asked.audit { "--audit" } else { "--explain" };
+                warn!(told; "{word} needs the history: the lines of the journal are stepped from the first");
+            }
+            return None;
+        }
+        let found = find_snapshot(self.files, alloc, locked);
+        if let Some(begun) = self.begun_by(told, alloc, handler, found, asked) {
+            return Some(begun);
+        }
+        if locked.lines_gone() == 0 {
+            return None;
+        }
+        let found = find_base(self.files, alloc, locked);
+        self.begun_by(told, alloc, handler, found, asked)
+    }
+
+    /// What a run goes on from by this snapshot, where it can.
+    fn begun_by<L: Log, H: Portable + Copy>(
+        &self,
+        told: &L,
+        alloc: Global,
+        handler: H,
+        found: Result<Option<FoundSnapshot>, Misfit>,
+        asked: &RunWords<'_>,
+    ) -> Option<Begun<H>> {
         let FoundSnapshot {
             stand,
             driver,
             host,
             ..
-        } = found;
+        } = self.fit(told, found, asked)?;
         let host = match load(alloc, handler, self.about, host.as_slice()) {
             Ok(host) => host,
             Err(fault) => {
@@ -78,22 +105,14 @@ impl<'a, F: Files<File = File>> Snapshots<'a, F> {
         })
     }
 
-    /// The snapshot beside the journal, where the run can go on from it.
-    fn found<L: Log>(
+    /// The snapshot, where it fits the journal and stands behind no line whose reply is asked for.
+    fn fit<L: Log>(
         &self,
         told: &L,
-        alloc: Global,
-        locked: &LockedJournal<'_>,
+        found: Result<Option<FoundSnapshot>, Misfit>,
         asked: &RunWords<'_>,
     ) -> Option<FoundSnapshot> {
-        if asked.audit || asked.explain {
-            if has_snapshot(self.files, alloc, self.path) {
-                let word = if asked.audit { "--audit" } else { "--explain" };
-                warn!(told; "{word} needs the history: the lines of the journal are stepped from the first");
-            }
-            return None;
-        }
-        let found = match find_snapshot(self.files, alloc, locked) {
+        let found = match found {
             Ok(found) => found?,
             Err(misfit) => {
                 self.leave(told, &misfit);
