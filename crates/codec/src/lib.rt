@@ -5,21 +5,25 @@
 //!   are made.
 //! - `Input`: bytes that are left to be decoded. `DecodeFault`: why they were not.
 //!
-//! Numbers, options, pairs, texts and the names and records of `model` are coded here. Contracts see a value's bytes by
-//! a `Code`, with those that follow behind them (`specs/Codes`): what was written is read back equal, since no two
-//! values that fit have the same bytes.
+//! Numbers, options, pairs, texts, the names and records of `model` and the values of the layers are coded here.
+//! Contracts see a value's bytes by a `Code`, with those that follow behind them (`specs/Codes`, `specs/Layers`): what
+//! was written is read back equal, since no two values that fit have the same bytes.
 #![tactic(auto)]
 
 mod coded;
 mod containers;
+mod counts;
 mod fault;
 mod input;
 mod names;
 mod numbers;
+mod outputs;
 mod portable;
 mod records;
 mod sample;
+mod tables;
 mod texts;
+mod vectors;
 
 pub use coded::Coded;
 pub use containers::{decode_list, encode_list, encode_vec, put};

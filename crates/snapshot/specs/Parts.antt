@@ -1,63 +1,14 @@
 -- How the parts of a tenant are written as bytes.
-use Rattle.std.specs.Prelude.{◌≡◌, ℕ, ◌+◌, ◌≤◌, ◌<◌, ◌^◌, Bool, true, false, cond, List, ◌++◌, length, map, Option}
-use Rattle.model.specs.declared.names.Mark.{Mark}
-use Rattle.model.specs.declared.names.Row.{Row}
-use Rattle.session.specs.declared.exchange.Exchange.{Exchange}
-use Rattle.session.specs.Counts.{Counts}
+use Rattle.std.specs.Prelude.{◌≡◌, ℕ, ◌+◌, ◌<◌, ◌^◌, Bool, true, false, cond, List, ◌++◌, length, map, Option}
 use Rattle.checkpoint.specs.declared.snapshot.Snapshot.{Snapshot}
 use Rattle.checkpoint.specs.Shelves.{Rises, Shelved}
 use Rattle.output_commit.specs.declared.held.Held.{Held}
 use Rattle.output_commit.specs.Holds.{Line}
-use Rattle.incarnation.specs.Filed.{Ordered}
-use Rattle.compact.specs.Compact.{Content, Interval, Letter, Progress}
+use Rattle.compact.specs.Compact.{Progress}
 use Rattle.rollback.specs.Units.{IsKept, Recovering}
-use Rattle.codec.specs.Codes.{Code, FitEach, FitMarks, FitsMark, FitsQuota, FitsRecord, FitsRow, FitsSeat, FitsSome}
-use Rattle.codec.specs.Codes.{FitsText, byte_code, bytes_code, list_code, mark_code, marks_code, number_code}
-use Rattle.codec.specs.Codes.{option_code, quota_code, record_code, row_code, seat_code}
-
--- ---- counts
-
-abbrev pub exchange_code : Code Exchange
-exchange_code x rest = number_code x.taken (number_code x.sent rest)
-
-abbrev pub FitsExchange : Exchange → Type 0
-FitsExchange x = (x.taken < 2 ^ 64) × (x.sent < 2 ^ 64)
-
-abbrev pub counts_code : Code Counts
-counts_code c rest = number_code c.outside (list_code exchange_code c.units rest)
-
-abbrev pub FitCounts : Counts → Type 0
-FitCounts c = (c.outside < 2 ^ 64) × FitEach FitsExchange c.units
-
--- ---- intervals, outputs and letters
-
-abbrev pub FitsVector : List Mark → Type 0
-FitsVector v = FitMarks v × (length v ≤ 256)
-
-abbrev pub interval_code : Code Interval
-interval_code i rest = marks_code i.vector (option_code number_code i.letter rest)
-
-abbrev pub FitsInterval : Interval → Type 0
-FitsInterval i = FitsVector i.vector × FitsSome (λ l. l < 2 ^ 32) i.letter
-
-abbrev pub held_code : Code Held
-held_code h rest = mark_code h.mark (bytes_code h.text rest)
-
-abbrev pub FitsHeld : Held → Type 0
-FitsHeld h = FitsMark h.mark × FitsText h.text
-
-abbrev pub content_code : Code Content
-content_code c rest = bytes_code c.text (marks_code c.vector rest)
-
-abbrev pub FitsContent : Content → Type 0
-FitsContent c = FitsText c.text × FitsVector c.vector
-
-abbrev pub letter_code : Code Letter
-letter_code l rest =
-    byte_code l.source (byte_code l.receiver (number_code l.number (option_code content_code l.content rest)))
-
-abbrev pub FitsLetter : Letter → Type 0
-FitsLetter l = (l.source < 256) × (l.receiver < 256) × (l.number < 2 ^ 64) × FitsSome FitsContent l.content
+use Rattle.codec.specs.Codes.{Code, FitEach, FitsRecord, FitsSeat, FitsSome, FitsText, byte_code, bytes_code}
+use Rattle.codec.specs.Codes.{list_code, number_code, option_code, record_code, seat_code}
+use Rattle.codec.specs.Layers.{FitCounts, FitsHeld, FitsInterval, counts_code, held_code, interval_code}
 
 -- ---- a unit, where its states have these bytes
 
@@ -95,7 +46,7 @@ pub record FitsUnit {S : Type 0} (fits : S → Type 0) (u : Recovering S) : Type
   pub shelf : FitsShelf fits u.shelf
   pub kept : IsKept u
 
--- ---- what a unit holds, what it released, and the table of rows
+-- ---- what a unit holds, and what it released
 
 -- a unit and the outputs that it holds
 abbrev pub hold_code : Code (ℕ × List Held)
@@ -103,9 +54,6 @@ hold_code h rest = byte_code h.0 (list_code held_code h.1 rest)
 
 abbrev pub FitsHold : ℕ × List Held → Type 0
 FitsHold h = (h.0 < 256) × FitEach FitsHeld h.1
-
-abbrev pub FitsTable : List Row → Type 0
-FitsTable rows = FitEach FitsRow rows × Ordered rows
 
 -- how many texts a unit gave up, and those behind them
 abbrev pub line_code : Code (ℕ × List (List ℕ))

@@ -2,7 +2,8 @@
 use Rattle.std.specs.Prelude.{◌≡◌, ℕ, ◌<◌, ◌^◌, List, [], ◌∷◌, length}
 use Rattle.tenant.specs.Kept.{Member, TenantState}
 use Rattle.codec.specs.Codes.{Code, FitEach, FitsQuota, bool_code, list_code, number_code, quota_code, row_code}
-use Rattle.snapshot.specs.Parts.{FitsHold, FitsLetter, FitsLine, FitsTable, FitsUnit, hold_code, letter_code, line_code}
+use Rattle.codec.specs.Layers.{FitsLetter, FitsTable, letter_code}
+use Rattle.snapshot.specs.Parts.{FitsHold, FitsLine, FitsUnit, hold_code, line_code}
 use Rattle.snapshot.specs.Parts.{unit_code}
 
 -- ---- a unit with what it holds

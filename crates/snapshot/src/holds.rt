@@ -3,7 +3,8 @@
 ghost use Rattle.std.specs.Prelude.{◌≡◌, ◌++◌, ◌∷◌, [], IfErr, IfOk, Some, length, slice_get};
 ghost use Rattle.output_commit.specs.declared.held.Held.{Held as HeldOf};
 ghost use Rattle.codec.specs.Codes.{each_code, list_code, AllFit, Decodes, Encodes, FitEach, Unless};
-ghost use Rattle.snapshot.specs.Parts.{held_code, hold_code, FitsHeld, FitsHold};
+ghost use Rattle.codec.specs.Layers.{held_code, FitsHeld};
+ghost use Rattle.snapshot.specs.Parts.{hold_code, FitsHold};
 ghost use Rattle.codec.specs.declared.fault.DecodeFault.{DecodeFault as FaultOf};
 
 use codec::{Coded, DecodeFault, Input, decode_list};

@@ -9,21 +9,17 @@
 //! `codec`. `specs/Hosts` says what a snapshot of a host is.
 #![tactic(auto)]
 
-mod counts;
 mod entries;
 mod holds;
 mod load_fault;
 mod log;
 mod members;
 mod outlets;
-mod outputs;
 mod progress;
 mod saved;
 mod sealing;
-mod tables;
 mod tenants;
 mod unit;
-mod vectors;
 
 pub use load_fault::LoadFault;
 pub use saved::{load, save};

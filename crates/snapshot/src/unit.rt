@@ -5,7 +5,8 @@ ghost use Rattle.rollback.specs.Units.{places};
 ghost use Rattle.codec.specs.Codes.{each_code, list_code, record_code, AllFit, Decodes, Encodes, FitEach};
 ghost use Rattle.codec.specs.Codes.{FitsRecord};
 ghost use Rattle.codec.specs.Codes.{Unless};
-ghost use Rattle.snapshot.specs.Parts.{interval_code, unit_code, FitsInterval, FitsUnit};
+ghost use Rattle.codec.specs.Layers.{interval_code, FitsInterval};
+ghost use Rattle.snapshot.specs.Parts.{unit_code, FitsUnit};
 ghost use Rattle.codec.specs.declared.fault.DecodeFault.{DecodeFault as FaultOf};
 
 use crate::progress::{decode_shelf, decode_some, encode_shelf, encode_some};

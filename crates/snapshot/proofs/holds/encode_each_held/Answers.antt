@@ -1,6 +1,6 @@
 use Rattle.std.proofs.Common.{◌≡◌, ◌++◌, ◌∷◌, ◌∙◌, ap, sym, subst, List, ℕ, drop, ◌+◌, ◌<◌, length, arith}
 use Rattle.codec.specs.Codes.{AllFit, each_code}
-use Rattle.snapshot.specs.Parts.{FitsHeld, held_code}
+use Rattle.codec.specs.Layers.{FitsHeld, held_code}
 use Rattle.codec.proofs.Each.{found, found_drop}
 use Rattle.snapshot.proofs.holds.encode_each_held.Goals as goal
 

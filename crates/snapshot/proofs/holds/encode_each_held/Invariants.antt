@@ -1,6 +1,6 @@
 use Rattle.std.proofs.Common.{◌≡◌, ◌++◌, List, ℕ, drop}
 use Rattle.codec.specs.Codes.{AllFit, each_code}
-use Rattle.snapshot.specs.Parts.{FitsHeld, held_code}
+use Rattle.codec.specs.Layers.{FitsHeld, held_code}
 use Rattle.snapshot.proofs.holds.encode_each_held.Given as goal
 
 -- what was appended goes on with the bytes of those from this one on, and all fit if these do

@@ -1,7 +1,7 @@
 use Rattle.std.proofs.Common.{◌≡◌, ◌++◌, ◌∷◌, ◌∙◌, ap, sym, subst, List, ℕ, drop, ◌+◌, ◌-◌, arith}
 use Rattle.std.specs.Prelude.{Some, slice_get}
 use Rattle.codec.specs.Codes.{AllFit, each_code}
-use Rattle.snapshot.specs.Parts.{FitsInterval, interval_code}
+use Rattle.codec.specs.Layers.{FitsInterval, interval_code}
 use Rattle.codec.proofs.Each.{found_drop}
 use Rattle.snapshot.proofs.unit.encode_each_interval.Goals as goal
 

@@ -1,6 +1,6 @@
 use Rattle.std.proofs.Common.{◌≡◌, ◌++◌, List, ℕ, drop}
 use Rattle.codec.specs.Codes.{AllFit, each_code}
-use Rattle.snapshot.specs.Parts.{FitsInterval, interval_code}
+use Rattle.codec.specs.Layers.{FitsInterval, interval_code}
 use Rattle.snapshot.proofs.unit.encode_each_interval.Given as goal
 
 -- what was appended goes on with the bytes of those from this one on, and all fit if these do

@@ -1,9 +1,12 @@
 //! Tables of rows.
 
 ghost use Rattle.codec.specs.Codes.{list_code, row_code};
-ghost use Rattle.snapshot.specs.Parts.{FitsTable};
+ghost use Rattle.codec.specs.Layers.{FitsTable};
 
-use codec::{Coded, DecodeFault, Input, decode_list, encode_list};
+use crate::coded::Coded;
+use crate::containers::{decode_list, encode_list};
+use crate::fault::DecodeFault;
+use crate::input::Input;
 use incarnation::StartTable;
 use model::{NoMemory, Row};
 use std::alloc::Global;

@@ -1,8 +1,11 @@
 //! What a unit took from each source and sent to each unit.
 
-ghost use Rattle.snapshot.specs.Parts.{counts_code, exchange_code, FitCounts, FitsExchange};
+ghost use Rattle.codec.specs.Layers.{counts_code, exchange_code, FitCounts, FitsExchange};
 
-use codec::{Coded, DecodeFault, Input, decode_list, encode_list};
+use crate::coded::Coded;
+use crate::containers::{decode_list, encode_list};
+use crate::fault::DecodeFault;
+use crate::input::Input;
 use model::{NoMemory, Source};
 use session::{Exchange, Sessions};
 use std::alloc::Global;

@@ -1,9 +1,12 @@
 //! Vectors, and what is kept of an interval.
 
 ghost use Rattle.codec.specs.Codes.{marks_code};
-ghost use Rattle.snapshot.specs.Parts.{interval_code, FitsInterval, FitsVector};
+ghost use Rattle.codec.specs.Layers.{interval_code, FitsInterval, FitsVector};
 
-use codec::{Coded, DecodeFault, Input, encode_list};
+use crate::coded::Coded;
+use crate::containers::encode_list;
+use crate::fault::DecodeFault;
+use crate::input::Input;
 use depvector::SharedVector;
 use model::{Letter, Marks, NoMemory};
 use rollback::Interval;

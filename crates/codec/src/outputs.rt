@@ -1,8 +1,10 @@
 //! Outputs that wait, and letters.
 
-ghost use Rattle.snapshot.specs.Parts.{content_code, held_code, letter_code, FitsContent, FitsHeld, FitsLetter};
+ghost use Rattle.codec.specs.Layers.{content_code, held_code, letter_code, FitsContent, FitsHeld, FitsLetter};
 
-use codec::{Coded, DecodeFault, Input};
+use crate::coded::Coded;
+use crate::fault::DecodeFault;
+use crate::input::Input;
 use depvector::SharedVector;
 use model::{Mark, NoMemory, Text, Unit};
 use output_commit::Held;
