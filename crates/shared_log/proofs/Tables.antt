@@ -138,3 +138,8 @@ tabled_has {X = X} f n place now x e found =
 pub none_there : {X : Type 0} (b : Bool) (o : Option X) → (b ≡ false → IsSome o) → o ≡ None → b ≡ true
 none_there true o h e = refl
 none_there {X = X} false o h e = subst (λ (p : Option X). is_some p ≡ true) e (h refl)
+
+-- what is there at a place, where that has something
+pub held_there : {X : Type 0} (f : ℕ → Option X) (n place : ℕ) (now : List (Option X)) (x : X)
+    → tabled f n ≡ now → slice_get now place ≡ Some (Some x) → f place ≡ Some x
+held_there f n place now x e held = (tabled_has f n place now (Some x) e held).1

@@ -406,10 +406,10 @@ impl Records {
         requires { IsHeld self.now place }
         ensures { IfOk result (λ r. slice_get self.now place ≡ Some (Some r)) }
     {
-        let Some(slot) = self.blocks.slot(place) else {
-            unreachable!();
-        };
-        slot.copy(alloc)
+        match self.blocks.slot(place) {
+            Some(slot) => slot.copy(alloc),
+            None => unreachable!(),
+        }
     }
 
     /// Gives the record of a place up.
