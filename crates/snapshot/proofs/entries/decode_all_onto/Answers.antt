@@ -7,7 +7,7 @@ use Rattle.codec.specs.Codes.{AllFit, Unless, each_code}
 use Rattle.codec.specs.declared.fault.DecodeFault.TheVariants.{NoMemory}
 use Rattle.snapshot.specs.Hosts.{FitsEntry, entry_code}
 use Rattle.codec.proofs.Each.{there, from_start}
-use Rattle.snapshot.proofs.Entries.{new_name}
+use Rattle.snapshot.proofs.Names.{new_name}
 use Rattle.snapshot.proofs.Faults.{failed}
 use Rattle.snapshot.proofs.entries.decode_all_onto.Goals as goal
 
@@ -31,10 +31,10 @@ returns-clause-ok g c = λ vs rest len fit is.
 
 pub returns-in_err-decode_onto-clause-err : goal.returns-in_err-decode_onto-clause-err
 returns-in_err-decode_onto-clause-err g c =
-    failed c.from_residual-in_err-decode_onto.result c.in_err-decode_onto.field-0.0
+    failed c.from_residual.result c.in_err-decode_onto.field-0.0
     (λ e. Unless (each_code (entry_code g.H.Portable.state_code)) (λ vs. (length vs ≡ c.args.count)
     × AllFit (FitsEntry g.H.Portable.state_fits) vs × IsDistinct bytes_eq (keys_of vs)) c.args.input.now
-    (e ≡ NoMemory)) c.from_residual-in_err-decode_onto.ensures.1
+    (e ≡ NoMemory)) c.from_residual.ensures.1
     (λ vs rest fit is.
     let len = fit.0 in
     let before = c.loop.invariant vs rest fit.0 fit.1 is in

@@ -11,9 +11,9 @@ returns-clause-ok g c = λ v rest fit is.
     c.in_ok-decode_all_onto.ensures.ok v rest count.0 fit.0.0 (sym count.1)
 
 pub returns-in_err-count-clause-err : goal.returns-in_err-count-clause-err
-returns-in_err-count-clause-err g c = failed c.from_residual-in_err-count.result c.in_err-count.field-0.0
+returns-in_err-count-clause-err g c = failed c.from_residual.result c.in_err-count.field-0.0
     (λ e. Unless (entries_code g.H.Portable.state_code) (FitEntries g.H.Portable.state_fits) c.args.input.now
-    (e ≡ NoMemory)) c.from_residual-in_err-count.ensures.1
+    (e ≡ NoMemory)) c.from_residual.ensures.1
     (λ v rest fit is. c.in_err-count.ensures.err (length v) _ fit.0.1 is)
 
 pub returns-in_err-decode_all_onto-clause-err : goal.returns-in_err-decode_all_onto-clause-err
@@ -23,4 +23,4 @@ returns-in_err-decode_all_onto-clause-err g c =
     (e ≡ NoMemory)) c.from_residual-in_err-decode_all_onto.ensures.1
     (λ v rest fit is.
     let count = c.in_ok-count.ensures.ok (length v) _ fit.0.1 is in
-    c.in_err-decode_all_onto.ensures.err v rest (sym count.0, fit.0.0, fit.1) (sym count.1))
+    c.in_err-decode_all_onto.ensures.err v rest (count.0, fit.0.0, fit.1) (sym count.1))

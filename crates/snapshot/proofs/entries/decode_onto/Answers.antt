@@ -14,10 +14,10 @@ returns-clause-ok g c = λ v rest fit is.
     (c.in_ok-put_new.ensures.ok ∙ (λ i. c.args.tenants.now.entries ++ (sym name.0 i, sym tenant.0 i) ∷ []), tenant.1)
 
 pub returns-in_err-name-clause-err : goal.returns-in_err-name-clause-err
-returns-in_err-name-clause-err g c = failed c.from_residual-in_err-name.result c.in_err-name.field-0.0
+returns-in_err-name-clause-err g c = failed c.from_residual.result c.in_err-name.field-0.0
     (λ e. Unless (entry_code g.H.Portable.state_code) (λ v. FitsEntry g.H.Portable.state_fits v
     × (get bytes_eq c.args.tenants.now v.0 ≡ None)) c.args.input.now (e ≡ NoMemory))
-    c.from_residual-in_err-name.ensures.1
+    c.from_residual.ensures.1
     (λ v rest fit is. c.in_err-name.ensures.err v.0 _ fit.0.0 is)
 
 pub returns-in_err-tenant-clause-err : goal.returns-in_err-tenant-clause-err
