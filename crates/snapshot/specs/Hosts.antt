@@ -1,5 +1,7 @@
 -- How a host is written as bytes.
-use Rattle.std.specs.Prelude.{◌≡◌, ℕ, ◌<◌, ◌^◌, List, [], ◌∷◌, length}
+use Rattle.std.specs.Prelude.{◌≡◌, ℕ, ◌<◌, ◌^◌, List, [], ◌∷◌, bytes_eq, length}
+use Rattle.std.specs.List.{IsDistinct}
+use Rattle.std.specs.Map.{keys_of}
 use Rattle.sha2.specs.Sha256.{sha256}
 use Rattle.model.specs.declared.records.Record.{Record}
 use Rattle.tenant.specs.Kept.{TenantState}
@@ -21,8 +23,9 @@ FitsEntry fits entry = FitsName entry.0 × FitsTenant fits entry.1
 abbrev pub entries_code : {S : Type 0} → Code S → Code (List (List ℕ × TenantState S))
 entries_code state entries rest = list_code (entry_code state) entries rest
 
+-- Each has a name of its own.
 abbrev pub FitEntries : {S : Type 0} → (S → Type 0) → List (List ℕ × TenantState S) → Type 0
-FitEntries fits entries = FitEach (FitsEntry fits) entries
+FitEntries fits entries = FitEach (FitsEntry fits) entries × IsDistinct bytes_eq (keys_of entries)
 
 -- ---- a snapshot
 
@@ -34,11 +37,13 @@ head_code rest = 82 ∷ 69 ∷ 67 ∷ 65 ∷ 76 ∷ 76 ∷ 83 ∷ 78 ∷ 1 ∷ r
 abbrev pub body_code : {S : Type 0} → Code S → List ℕ → List (List ℕ × TenantState S) → ℕ × List (ℕ × Record) → List ℕ
 body_code state about entries log = bytes_code about (entries_code state entries (log_code log []))
 
--- The bytes are the body of a host's snapshot about this handler, with the live records in some order.
+-- The bytes are the body of a host's snapshot about this handler, with the live records in an order in which they can
+-- be filled in. Its store counts no failures.
 pub record IsBody {S : Type 0} (state : Code S) (fits : S → Type 0) (named : List ℕ) (host : Hosted (TenantState S))
     (all : List ℕ) : Type 0 where
   pub pairs : List (ℕ × Record)
   pub written : AreWritten host.log.records pairs
+  pub failures : host.log.failures ≡ 0
   pub entries : FitEntries fits host.entries
   pub about : length named < 2 ^ 64
   pub bytes : all ≡ body_code state named host.entries (length host.log.records, pairs)

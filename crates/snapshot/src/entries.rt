@@ -1,7 +1,11 @@
 //! The open tenants under their names.
 
-ghost use Rattle.std.specs.Prelude.{◌≡◌, ◌++◌, ◌∷◌, [], ℕ, IfOk, List, Some, length, slice_get};
-ghost use Rattle.codec.specs.Codes.{each_code, AllFit, Decodes, DecodesEach, DecodesOnto, Encodes};
+ghost use Rattle.std.specs.Prelude.{◌≡◌, ◌++◌, ◌∷◌, [], ℕ, IfErr, IfOk, List, None, Some, bytes_eq, length, slice_get};
+ghost use Rattle.std.specs.List.{IsDistinct};
+ghost use Rattle.std.specs.Map.{keys_of};
+ghost use Rattle.codec.specs.Codes.{each_code, AllFit, Decodes, DecodesEach, DecodesOnto, Encodes, Unless};
+ghost use Rattle.codec.specs.declared.fault.DecodeFault.{DecodeFault as FaultOf};
+ghost use Rattle.indexmap.specs.IndexMap.{get};
 ghost use Rattle.snapshot.specs.Hosts.{entries_code, entry_code, FitEntries, FitsEntry};
 ghost use Rattle.tenant.specs.Kept.{TenantState};
 
@@ -91,7 +95,8 @@ fn put_new<H: Handler>(
     name: TenantName,
     tenant: Tenant<H>,
 ) -> Result<(), DecodeFault>
-    ensures { IfOk result (λ _. tenants.new.entries ≡ tenants.old.entries ++ (name, tenant) ∷ []) }
+    ensures ok { IfOk result (λ _. tenants.new.entries ≡ tenants.old.entries ++ (name, tenant) ∷ []) }
+    ensures err { IfErr result (λ e. get bytes_eq tenants.old name ≡ None → e ≡ FaultOf.NoMemory) }
 {
     if tenants.contains_key(&name) {
         return Err(DecodeFault::Damaged);
@@ -109,8 +114,11 @@ fn decode_onto<H: Portable>(
     input: &mut Input,
     tenants: &mut Tenants<H>,
 ) -> Result<(), DecodeFault>
-    ensures { IfOk result (λ _. DecodesOnto (entry_code H.state_code) (FitsEntry H.state_fits)
+    ensures ok { IfOk result (λ _. DecodesOnto (entry_code H.state_code) (FitsEntry H.state_fits)
         input.old tenants.old.entries tenants.new.entries input.new) }
+    ensures err { IfErr result (λ e. Unless (entry_code H.state_code)
+        (λ entry. FitsEntry H.state_fits entry × (get bytes_eq tenants.old entry.0 ≡ None))
+        input.old (e ≡ FaultOf.NoMemory)) }
 {
     let name = TenantName::decode(alloc, input)?;
     let tenant = decode_tenant(handler, alloc, input)?;
@@ -127,8 +135,11 @@ fn decode_all_onto<H: Portable>(
     tenants: &mut Tenants<H>,
 ) -> Result<(), DecodeFault>
     requires { length tenants.old.entries ≡ 0 }
-    ensures { IfOk result (λ _. DecodesEach (entry_code H.state_code) (FitsEntry H.state_fits) count
+    ensures ok { IfOk result (λ _. DecodesEach (entry_code H.state_code) (FitsEntry H.state_fits) count
         input.old tenants.new.entries input.new) }
+    ensures err { IfErr result (λ e. Unless (each_code (entry_code H.state_code)) (λ entries.
+        (length entries ≡ count) × AllFit (FitsEntry H.state_fits) entries × IsDistinct bytes_eq (keys_of entries))
+        input.old (e ≡ FaultOf.NoMemory)) }
 {
     for _ in 0..count {
         decode_onto(handler, alloc, input, tenants)?;
@@ -141,14 +152,16 @@ fn decode_all_onto<H: Portable>(
 /// # Errors
 ///
 /// `Cut` and `Damaged` where the bytes are those of no tenants, also where a name comes twice, `NoMemory` where the
-/// tenants find no memory.
+/// tenants find no memory: of bytes that were encoded there is no other.
 pub(crate) fn decode_entries<H: Portable>(
     handler: &H,
     alloc: Global,
     input: &mut Input,
 ) -> Result<Tenants<H>, DecodeFault>
-    ensures { IfOk result (λ m. Decodes (entries_code H.state_code) (FitEntries H.state_fits)
+    ensures ok { IfOk result (λ m. Decodes (entries_code H.state_code) (FitEntries H.state_fits)
         input.old m.entries input.new) }
+    ensures err { IfErr result (λ e. Unless (entries_code H.state_code) (FitEntries H.state_fits)
+        input.old (e ≡ FaultOf.NoMemory)) }
 {
     let count = usize::decode(alloc, input)?;
     let mut tenants = IndexMap::new(alloc);

@@ -4,7 +4,8 @@ ghost use Rattle.std.specs.Prelude.{◌≡◌, ℕ, ◌++◌, All, Contains, IfE
 ghost use Rattle.shared_log.specs.Filled.{filled, pairs_at, AreLiveIn, HaveAllLive, HaveAllLivePlaces};
 ghost use Rattle.shared_log.specs.Logged.{places_of, IsHeld};
 ghost use Rattle.codec.specs.Codes.{Decodes, Encodes, Unless};
-ghost use Rattle.snapshot.specs.Logs.{log_code, FitsLog, ReadsLog, WritesLog};
+ghost use Rattle.snapshot.specs.Logs.{log_code, unit_places, AreWithin, FitsLog, LeaveRoom, ReadsLog, UnlessLog};
+ghost use Rattle.snapshot.specs.Logs.{WritesLog};
 ghost use Rattle.codec.specs.declared.fault.DecodeFault.{DecodeFault as FaultOf};
 
 use codec::{Coded, DecodeFault, Input, decode_list, encode_list};
@@ -26,7 +27,7 @@ fn add_unit(
     Ok(())
 }
 
-/// Adds the places of a tenant's live records.
+/// Adds the places of a tenant's live records, unit by unit. A tenant has 256 units at most.
 fn add_tenant(
     log: &SharedLog<MemoryStore>,
     tenant: &TenantName,
@@ -37,6 +38,7 @@ fn add_tenant(
         → Contains places.new.items place) }
     ensures held { OnOk result (All (IsHeld log.now.records) places.old.items
         → All (IsHeld log.now.records) places.new.items) }
+    ensures walk { OnOk result (places.new.items ≡ places.old.items ++ unit_places tenant.now 256 log.now) }
 {
     let count = log.unit_count(tenant);
     for number in 0..count {
@@ -45,10 +47,11 @@ fn add_tenant(
     Ok(())
 }
 
-/// The places of all live records of a log.
+/// The places of all live records of a log, so that each record leaves room for those behind it.
 fn live_places(alloc: Global, log: &SharedLog<MemoryStore>) -> Result<Vec<u64>, NoMemory>
     ensures all { IfOk result (λ places. HaveAllLivePlaces log.now.records places.items) }
     ensures held { IfOk result (λ places. All (IsHeld log.now.records) places.items) }
+    ensures room { IfOk result (λ places. LeaveRoom (pairs_at log.now.records places.items)) }
 {
     let mut places = Vec::new(alloc);
     let names = log.tenants();
@@ -58,18 +61,20 @@ fn live_places(alloc: Global, log: &SharedLog<MemoryStore>) -> Result<Vec<u64>, 
     Ok(places)
 }
 
-/// The records of these places, each with its place.
+/// The records of these places, each with its place. A store in memory counts no failures.
 fn pairs_of(
     alloc: Global,
     log: &SharedLog<MemoryStore>,
     places: &[u64],
 ) -> Result<Vec<(u64, Record)>, NoMemory>
     requires { All (IsHeld log.now.records) places.now }
-    ensures { IfOk result (λ pairs. pairs.items ≡ pairs_at log.now.records places.now) }
+    ensures pairs { IfOk result (λ pairs. pairs.items ≡ pairs_at log.now.records places.now) }
+    ensures failures { log.now.failures ≡ 0 }
 {
+    let store = log.store();
     let mut pairs = Vec::new(alloc);
     for place in places {
-        let logged = log.store().copy_of(*place)?;
+        let logged = store.copy_of(*place)?;
         pairs.push((*place, logged))?;
     }
     Ok(pairs)
@@ -83,6 +88,8 @@ fn refilled(
 ) -> Result<SharedLog<MemoryStore>, FillFault>
     ensures records { IfOk result (λ made. made.records ≡ filled count pairs.items) }
     ensures failures { IfOk result (λ made. made.failures ≡ 0) }
+    ensures err { IfErr result (λ e. LeaveRoom pairs.items → AreWithin count pairs.items
+        → e ≡ FillFault.NoMemory) }
 {
     let mut made = SharedLog::vacant(alloc, count);
     for (place, logged) in pairs {
@@ -91,10 +98,12 @@ fn refilled(
     Ok(made)
 }
 
-/// The live records of a log, each with its place.
+/// The live records of a log, each with its place, so that each leaves room for those behind it.
 fn live_pairs(alloc: Global, log: &SharedLog<MemoryStore>) -> Result<Vec<(u64, Record)>, NoMemory>
     ensures live { IfOk result (λ pairs. AreLiveIn log.now.records pairs.items) }
     ensures all { IfOk result (λ pairs. HaveAllLive log.now.records pairs.items) }
+    ensures room { IfOk result (λ pairs. LeaveRoom pairs.items) }
+    ensures failures { IfOk result (λ _. log.now.failures ≡ 0) }
 {
     let places = live_places(alloc, log)?;
     let pairs = pairs_of(alloc, log, &places)?;
@@ -116,7 +125,8 @@ pub(crate) fn encode_log(
     log: &SharedLog<MemoryStore>,
     out: &mut Vec<u8>,
 ) -> Result<(), NoMemory>
-    ensures { IfOk result (λ _. WritesLog log.now.records out.old.items out.new.items) }
+    ensures written { IfOk result (λ _. WritesLog log.now.records out.old.items out.new.items) }
+    ensures failures { IfOk result (λ _. log.now.failures ≡ 0) }
 {
     let pairs = live_pairs(alloc, log)?;
     encode_pairs(log.len(), pairs.as_slice(), out)?;
@@ -141,6 +151,7 @@ fn made(
 ) -> Result<SharedLog<MemoryStore>, DecodeFault>
     ensures records { IfOk result (λ log. log.records ≡ filled count pairs.items) }
     ensures failures { IfOk result (λ log. log.failures ≡ 0) }
+    ensures err { IfErr result (λ e. LeaveRoom pairs.items → AreWithin count pairs.items → e ≡ FaultOf.NoMemory) }
 {
     match refilled(alloc, count, pairs) {
         Ok(log) => Ok(log),
@@ -153,13 +164,15 @@ fn made(
 ///
 /// # Errors
 ///
-/// `Cut` and `Damaged` where the bytes are those of no log, `NoMemory` where the log finds no memory.
+/// `Cut` and `Damaged` where the bytes are those of no log, `NoMemory` where the log finds no memory: of bytes that
+/// were encoded there is no other.
 pub(crate) fn decode_log(
     alloc: Global,
     input: &mut Input,
 ) -> Result<SharedLog<MemoryStore>, DecodeFault>
     ensures records { IfOk result (λ log. ReadsLog input.old log.records input.new) }
     ensures failures { IfOk result (λ log. log.failures ≡ 0) }
+    ensures err { IfErr result (λ e. UnlessLog input.old (e ≡ FaultOf.NoMemory)) }
 {
     let (count, pairs) = decode_pairs(alloc, input)?;
     let log = made(alloc, count, pairs)?;

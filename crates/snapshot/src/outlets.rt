@@ -18,12 +18,8 @@ fn encode_line(line: &Released, out: &mut Vec<u8>) -> Result<(), NoMemory>
     ensures fits { IfOk result (λ _. FitsLine (line.now.gone, line.now.texts)) }
 {
     let gone = line.gone();
-    let texts = line.as_slice();
-    if texts.len() as u64 > u64::MAX - gone {
-        return Err(NoMemory);
-    }
     gone.encode(out)?;
-    encode_list(texts, out)
+    encode_list(line.as_slice(), out)
 }
 
 /// Appends the bytes of what each unit released.

@@ -1,6 +1,6 @@
 //! A host as bytes, and back.
 
-ghost use Rattle.std.specs.Prelude.{◌≡◌, IfOk};
+ghost use Rattle.std.specs.Prelude.{◌≡◌, ◌≢◌, ◌⊎◌, ℕ, IfErr, IfOk, List};
 ghost use Rattle.book.specs.Standing.{Hosted, ReplaysAsWell};
 ghost use Rattle.snapshot.specs.Hosts.{IsBody, IsSaved};
 ghost use Rattle.tenant.specs.Kept.{TenantState};
@@ -50,7 +50,8 @@ pub fn save<H: Portable>(
 }
 
 /// The host of these bytes, with its records in memory. Of the bytes that `save` gave of a host it is an equal one, and
-/// so the replay of the same histories. A store in memory counts no failures.
+/// so the replay of the same histories. Bytes that `save` gave about the same handler are never refused but for want of
+/// memory, and those that it gave about another one are never loaded.
 ///
 /// # Errors
 ///
@@ -63,10 +64,17 @@ pub fn load<H: Portable>(
     about: &str,
     bytes: &[u8],
 ) -> Result<Host<H, MemoryStore>, LoadFault>
-    ensures same { IfOk result (λ host. (saved : Hosted (TenantState H.State)) → saved.log.failures ≡ 0
+    ensures same { IfOk result (λ host. (saved : Hosted (TenantState H.State))
         → IsSaved H.state_code H.state_fits about.now saved bytes.now → saved ≡ host) }
-    ensures replays { IfOk result (λ host. (saved : Hosted (TenantState H.State)) → saved.log.failures ≡ 0
+    ensures replays { IfOk result (λ host. (saved : Hosted (TenantState H.State))
         → IsSaved H.state_code H.state_fits about.now saved bytes.now → ReplaysAsWell H.meaning saved host) }
+    ensures err { IfErr result (λ e. (saved : Hosted (TenantState H.State))
+        → IsSaved H.state_code H.state_fits about.now saved bytes.now → e ≡ LoadFault.NoMemory) }
+    ensures other { IfOk result (λ _. (saved : Hosted (TenantState H.State)) (named : List ℕ)
+        → IsSaved H.state_code H.state_fits named saved bytes.now → named ≡ about.now) }
+    ensures refused { IfErr result (λ e. (saved : Hosted (TenantState H.State)) (named : List ℕ)
+        → IsSaved H.state_code H.state_fits named saved bytes.now → named ≢ about.now
+        → (e ≡ LoadFault.AnotherHandler) ⊎ (e ≡ LoadFault.NoMemory)) }
 {
     let mut input = Input::new(bytes);
     unsealed(alloc, &mut input, about)?;

@@ -1,9 +1,11 @@
 //! What stands before the tenants and the log: a head, a digest, and which handler it is about.
 
-ghost use Rattle.std.specs.Prelude.{◌≡◌, ◌<◌, ◌^◌, ◌++◌, ℕ, IfOk, List, length};
+ghost use Rattle.std.specs.Prelude.{◌≡◌, ◌≢◌, ◌<◌, ◌^◌, ◌++◌, ℕ, IfErr, IfOk, List, length};
 ghost use Rattle.sha2.specs.Sha256.{sha256};
 ghost use Rattle.codec.specs.Codes.{bytes_code, Decodes, Encodes};
+ghost use Rattle.snapshot.specs.Faults.{RefusesName};
 ghost use Rattle.snapshot.specs.Hosts.{head_code};
+ghost use Rattle.snapshot.specs.declared.load_fault.LoadFault.{LoadFault as FaultOf};
 
 use crate::load_fault::LoadFault;
 use codec::{Coded, DecodeFault, Input, decode_bytes, encode_bytes};
@@ -45,7 +47,8 @@ pub(crate) fn sealed(alloc: Global, body: &[u8]) -> Result<Vec<u8>, NoMemory>
 
 /// Takes the head off the input.
 fn check_head(input: &mut Input) -> Result<(), LoadFault>
-    ensures { IfOk result (λ _. (rest : List ℕ) → input.old ≡ head_code rest → rest ≡ input.new) }
+    ensures ok { IfOk result (λ _. (rest : List ℕ) → input.old ≡ head_code rest → rest ≡ input.new) }
+    ensures err { IfErr result (λ _. (rest : List ℕ) → input.old ≢ head_code rest) }
 {
     let Ok(head) = input.eight() else {
         return Err(LoadFault::NotASnapshot);
@@ -62,8 +65,10 @@ fn check_head(input: &mut Input) -> Result<(), LoadFault>
 
 /// Takes the digest of what follows off the input.
 fn check_digest(alloc: Global, input: &mut Input) -> Result<(), LoadFault>
-    ensures { IfOk result (λ _. (digest rest : List ℕ) → length digest < 2 ^ 64
+    ensures ok { IfOk result (λ _. (digest rest : List ℕ) → length digest < 2 ^ 64
         → input.old ≡ bytes_code digest rest → rest ≡ input.new) }
+    ensures err { IfErr result (λ e. (rest : List ℕ) → length (sha256 rest) < 2 ^ 64
+        → input.old ≡ bytes_code (sha256 rest) rest → e ≡ FaultOf.NoMemory) }
 {
     let digest = decode_bytes(alloc, input)?;
     let found = Sha256::digest(input.as_slice());
@@ -75,8 +80,12 @@ fn check_digest(alloc: Global, input: &mut Input) -> Result<(), LoadFault>
 
 /// Takes which handler it is about off the input, which must be this one.
 fn check_about(alloc: Global, input: &mut Input, about: &str) -> Result<(), LoadFault>
-    ensures { IfOk result (λ _. (named rest : List ℕ) → length named < 2 ^ 64
+    ensures ok { IfOk result (λ _. (named rest : List ℕ) → length named < 2 ^ 64
         → input.old ≡ bytes_code named rest → rest ≡ input.new) }
+    ensures named { IfOk result (λ _. (named rest : List ℕ) → length named < 2 ^ 64
+        → input.old ≡ bytes_code named rest → named ≡ about.now) }
+    ensures err { IfErr result (λ e. (named rest : List ℕ) → length named < 2 ^ 64
+        → input.old ≡ bytes_code named rest → RefusesName about.now named e) }
 {
     let named = decode_bytes(alloc, input)?;
     if named != about.as_bytes() {
@@ -87,8 +96,14 @@ fn check_about(alloc: Global, input: &mut Input, about: &str) -> Result<(), Load
 
 /// Takes what stands before the tenants off the input.
 pub(crate) fn unsealed(alloc: Global, input: &mut Input, about: &str) -> Result<(), LoadFault>
-    ensures { IfOk result (λ _. (digest named rest : List ℕ) → length digest < 2 ^ 64 → length named < 2 ^ 64
+    ensures ok { IfOk result (λ _. (digest named rest : List ℕ) → length digest < 2 ^ 64 → length named < 2 ^ 64
         → input.old ≡ head_code (bytes_code digest (bytes_code named rest)) → rest ≡ input.new) }
+    ensures named { IfOk result (λ _. (digest named rest : List ℕ) → length digest < 2 ^ 64 → length named < 2 ^ 64
+        → input.old ≡ head_code (bytes_code digest (bytes_code named rest)) → named ≡ about.now) }
+    ensures err { IfErr result (λ e. (named rest : List ℕ) → length named < 2 ^ 64
+        → length (sha256 (bytes_code named rest)) < 2 ^ 64
+        → input.old ≡ head_code (bytes_code (sha256 (bytes_code named rest)) (bytes_code named rest))
+        → RefusesName about.now named e) }
 {
     check_head(input)?;
     check_digest(alloc, input)?;

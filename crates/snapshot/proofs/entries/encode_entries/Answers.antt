@@ -11,6 +11,9 @@ returns-clause-code g c = λ rest.
 
 pub returns-clause-fits : goal.returns-clause-fits
 returns-clause-fits g c = (
-  c.in_ok-encode_each_entry.ensures.fits,
-  subst (λ (n : ℕ). n < 2 ^ 64) c.len-count.ensures.len c.in_ok-encode.ensures.fits,
+  (
+    c.in_ok-encode_each_entry.ensures.fits,
+    subst (λ (n : ℕ). n < 2 ^ 64) c.len-count.ensures.len c.in_ok-encode.ensures.fits,
+  ),
+  c.len-count.ensures.unique,
 )

@@ -1,10 +1,20 @@
 use Rattle.std.proofs.Common.{◌≡◌, ◌<◌, ◌≤◌, ◌∙◌, ◌⊎◌, sym, ap, subst, List, ℕ, [], ◌++◌, below_more, arith, length}
-use Rattle.std.proofs.Common.{⊎_elim}
+use Rattle.std.proofs.Common.{⊎_elim, append_assoc}
 use Rattle.std.specs.Prelude.{All, Contains}
 use Rattle.std.proofs.lemmas.Bool.{cases_lt}
 use Rattle.std.proofs.lemmas.List.Elements.{All-append, Contains-append_left, Contains-append_right}
 use Rattle.shared_log.specs.Logged.{IsHeld, places_of}
+use Rattle.snapshot.specs.Logs.{unit_places}
+use Rattle.snapshot.proofs.Room.{all_units, no_units, one_unit}
 use Rattle.snapshot.proofs.log.add_tenant.Goals as goal
+
+pub loop-number-init : goal.loop-number-init
+loop-number-init c = record {
+  grown = λ p h. h;
+  met = λ unit below p h. absurd (omega (arith, below));
+  held = λ h. h;
+  walk = no_units c.args.tenant.now c.args.log.now c.args.places.now.items;
+}
 
 pub loop-number-preserved : goal.loop-number-preserved
 loop-number-preserved c =
@@ -24,6 +34,11 @@ loop-number-preserved c =
           (λ p k. subst (λ (xs : List ℕ). Contains xs p) (sym more) (Contains-append_right old ps p k));
       held = λ h. subst (λ (xs : List ℕ). All (IsHeld c.args.log.now.records) xs) (sym more)
           (All-append (IsHeld c.args.log.now.records) old ps (c.loop-number.invariant.held h) held);
+      walk = more ∙ (ap (λ (xs : List ℕ). xs ++ ps) c.loop-number.invariant.walk
+          ∙ (append_assoc c.args.places.now.items
+          (unit_places c.args.tenant.now c.loop-number.number c.args.log.now) ps
+          ∙ ap (λ (xs : List ℕ). c.args.places.now.items ++ xs)
+          (sym (one_unit c.args.tenant.now c.loop-number.number c.args.log.now))));
     }
 
 none_in : (xs : List ℕ) (p : ℕ) → xs ≡ [] → Contains xs p → ⊥
@@ -37,3 +52,10 @@ returns-clause-met c = λ unit p h.
     (λ past. absurd (none_in (places_of c.args.tenant.now unit c.args.log.now) p
     (c.unit_count-count.ensures.rest unit past) h))
     (cases_lt unit c.unit_count-count.result)
+
+pub returns-clause-walk : goal.returns-clause-walk
+returns-clause-walk c =
+    c.loop-number.invariant.walk
+    ∙ ap (λ (xs : List ℕ). c.args.places.now.items ++ xs)
+    (all_units c.args.tenant.now c.args.log.now c.loop-number.number 256 (omega arith)
+    (λ unit past. c.unit_count-count.ensures.rest unit (omega (arith, past))))

@@ -4,14 +4,15 @@ use Rattle.codec.specs.Codes.{Encodes}
 use Rattle.snapshot.specs.Logs.{log_code, AreWritten, FitsLog}
 use Rattle.snapshot.proofs.log.encode_log.Goals as goal
 
-pub returns : goal.returns
-returns c =
+pub returns-clause-written : goal.returns-clause-written
+returns-clause-written c =
     let pairs = c.in_ok-pairs.pairs.items in
     let same : (c.len.result, c.as_slice.result.now) ≡ (length c.args.log.now.records, c.in_ok-pairs.pairs.items) =
     λ i. (c.len.ensures i, c.as_slice.ensures.value i) in
     let written : AreWritten c.args.log.now.records c.in_ok-pairs.pairs.items = record {
       live = c.in_ok-pairs.ensures.live;
       all = c.in_ok-pairs.ensures.all;
+      room = c.in_ok-pairs.ensures.room;
       fit = subst FitsLog same c.in_ok-encode_pairs.ensures.fits;
     } in (
       pairs,

@@ -10,7 +10,7 @@ use Rattle.snapshot.proofs.log.pairs_of.Goals as goal
 pub copy_of-requires : goal.copy_of-requires
 copy_of-requires c =
     subst (λ (rs : List (Option Record)). IsHeld rs (get_or c.args.places.now c.loop-place.place-index 0))
-    (sym c.store.ensures) (c.requires c.loop-place.place-index 0 c.loop-place-test.true)
+    (sym c.store-store.ensures.records) (c.requires c.loop-place.place-index 0 c.loop-place-test.true)
 
 pub loop-place-preserved : goal.loop-place-preserved
 loop-place-preserved c =
@@ -20,7 +20,7 @@ loop-place-preserved c =
     let held : slice_get c.args.log.now.records (get_or c.args.places.now c.loop-place.place-index 0)
     ≡ Some (Some c.in_ok-logged.logged) =
     ap (λ (rs : List (Option Record)). slice_get rs (get_or c.args.places.now c.loop-place.place-index 0))
-    (sym c.store.ensures) ∙ c.in_ok-logged.ensures in
+    (sym c.store-store.ensures.records) ∙ c.in_ok-logged.ensures in
     c.in_ok-push.ensures.items
     ∙ (ap (λ (ps : List (ℕ × Record)). ps ++ (place, c.in_ok-logged.logged) ∷ []) c.loop-place.invariant
     ∙ (sym (pairs_push rs first place c.in_ok-logged.logged held)
