@@ -15,7 +15,8 @@ use Rattle.shared_log.proofs.LiveLaws.{pairs_append, pairs_live}
 use Rattle.shared_log.proofs.PlacesLaws.{owner_is, place_if, places_are}
 use Rattle.shared_log.proofs.RoomLaws.{room_left}
 use Rattle.snapshot.specs.Logs.{unit_places, AreWithin, LeaveRoom, NoneOf}
-use Rattle.snapshot.proofs.Order.{AllPairs-append, AllPairs-head, AllPairs-nil, AllPairs-one, AllPairs-tail, before, no_more}
+use Rattle.snapshot.proofs.Order.{AllPairs-append, AllPairs-head, AllPairs-nil, AllPairs-one, AllPairs-tail, before}
+use Rattle.snapshot.proofs.Order.{no_more}
 
 -- ---- the places of a unit: whose records they have, and that they rise
 
@@ -195,7 +196,8 @@ unit_pairs log tenant (suc count) =
     subst (All (OfUnits tenant (suc count)))
     (sym (pairs_append log.records (unit_places tenant count log) (places_of tenant count log)))
     (All-append (OfUnits tenant (suc count)) first last
-    (All-weaker (OfUnits tenant count) (OfUnits tenant (suc count)) (λ x h. (h.0, let u = h.1 in omega (arith, u))) first
+    (All-weaker (OfUnits tenant count) (OfUnits tenant (suc count))
+    (λ x h. (h.0, let u = h.1 in omega (arith, u))) first
     (unit_pairs log tenant count))
     (All-weaker (λ (y : ℕ × Record). (y.1.tenant ≡ tenant) × (y.1.unit ≡ count)) (OfUnits tenant (suc count))
     (λ x h. (h.0, let u = h.1 in omega (arith, u))) last (own_pairs log tenant count)))

@@ -12,7 +12,7 @@ of_part Cut = LoadCut
 of_part Damaged = LoadDamaged
 of_part NoMemory = LoadNoMemory
 
--- a snapshot about the handler of the second name is refused where one about that of the first is asked for: there was no
--- memory, or the names differ
+-- a snapshot about the handler of the second name is refused where one about that of the first is asked for: there was
+-- no memory, or the names differ
 abbrev pub RefusesName : List ℕ → List ℕ → LoadFault → Type 0
 RefusesName about named fault = (fault ≡ LoadNoMemory) ⊎ ((fault ≡ AnotherHandler) × (named ≢ about))

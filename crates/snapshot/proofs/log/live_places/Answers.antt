@@ -42,16 +42,17 @@ loop-tenant-preserved c =
     let none : All (λ (name : List ℕ). NoneOf name (pairs_at rs old)) (tenant ∷ rest) =
     subst (All (λ (name : List ℕ). NoneOf name (pairs_at rs old))) left c.loop-tenant.invariant.later in
     record {
-  met = one_met c.args.log.now c.loop-tenant.places.items c.add_tenant.new.places.items c.tenants-names.result.now
-      c.loop-tenant.tenant-index c.tenant-item.result c.loop-tenant-test.true c.in_ok-add_tenant.ensures.grown
-      c.tenant-item.is c.loop-tenant.invariant.met c.in_ok-add_tenant.ensures.met;
-  held = c.in_ok-add_tenant.ensures.held c.loop-tenant.invariant.held;
-  room = tenant_follows c.args.log.now old c.add_tenant.new.places.items tenant 256 c.in_ok-add_tenant.ensures.walk
-      (All-head (λ (name : List ℕ). NoneOf name (pairs_at rs old)) tenant rest none) c.loop-tenant.invariant.room;
-  later = others_follow c.args.log.now old c.add_tenant.new.places.items tenant 256 names rest c.loop-tenant.tenant-index
-      c.in_ok-add_tenant.ensures.walk c.tenants-names.ensures.once left
-      (All-tail (λ (name : List ℕ). NoneOf name (pairs_at rs old)) tenant rest none);
-}
+      met = one_met c.args.log.now c.loop-tenant.places.items c.add_tenant.new.places.items c.tenants-names.result.now
+          c.loop-tenant.tenant-index c.tenant-item.result c.loop-tenant-test.true c.in_ok-add_tenant.ensures.grown
+          c.tenant-item.is c.loop-tenant.invariant.met c.in_ok-add_tenant.ensures.met;
+      held = c.in_ok-add_tenant.ensures.held c.loop-tenant.invariant.held;
+      room = tenant_follows c.args.log.now old c.add_tenant.new.places.items tenant 256 c.in_ok-add_tenant.ensures.walk
+          (All-head (λ (name : List ℕ). NoneOf name (pairs_at rs old)) tenant rest none) c.loop-tenant.invariant.room;
+      later = others_follow c.args.log.now old c.add_tenant.new.places.items tenant 256 names rest
+          c.loop-tenant.tenant-index
+          c.in_ok-add_tenant.ensures.walk c.tenants-names.ensures.once left
+          (All-tail (λ (name : List ℕ). NoneOf name (pairs_at rs old)) tenant rest none);
+    }
 
 pub returns-clause-all : goal.returns-clause-all
 returns-clause-all c =

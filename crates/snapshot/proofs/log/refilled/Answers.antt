@@ -44,6 +44,7 @@ returns-in_err-fill-clause-err c =
     let done = sym (same_map c.loop-place.yielded)
     ∙ YieldsList-so_far all c.loop-place.yielded c.loop-place.place-iterator c.loop-place.yielded_by in
     let fits = fits_next c.loop-place.made c.args.count c.args.pairs.items c.loop-place.yielded
-    (length c.loop-place.yielded) c.in-Some.place c.in-Some.logged turn.0 turn.1 done c.loop-place.invariant.records room within in
+    (length c.loop-place.yielded) c.in-Some.place c.in-Some.logged turn.0 turn.1 done
+    c.loop-place.invariant.records room within in
     no_memory c.in_err-fill.field-0.0
     (λ e. c.in_err-fill.ensures.succeeds fits.0 fits.1 (ap Err e)))

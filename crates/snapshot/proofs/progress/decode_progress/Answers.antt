@@ -23,4 +23,4 @@ pub returns-clause-ok : goal.returns-clause-ok
 returns-clause-ok g c = λ v rest fit is.
     let state = c.in_ok-state.ensures.ok v.state _ fit.0 is in
     let sessions = c.in_ok-sessions.ensures.ok v.sessions rest fit.1 (sym state.1) in
-    (λ i. record { state = state.0 i; sessions = sessions.0 i; }, sessions.1)
+    (λ i. record { state = state.0 i; sessions = sessions.0 i }, sessions.1)

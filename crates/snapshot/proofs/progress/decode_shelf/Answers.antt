@@ -35,7 +35,7 @@ returns-in-Some-clause-ok g c = λ v rest fit is.
     let base = c.in_ok-base.ensures.ok v.base _ fit.0 is in
     let count = c.in_ok-count.ensures.ok (length v.others) _ fit.1.1 (sym base.1) in
     let others = c.in_ok-others.ensures.ok v.others rest count.0 fit.1.0 (sym count.1) in
-    ((λ i. record { base = base.0 i; others = others.0 i; }) ∙ sym c.in-Some.ensures.made, others.1)
+    ((λ i. record { base = base.0 i; others = others.0 i }) ∙ sym c.in-Some.ensures.made, others.1)
 
 pub returns-in-None-clause-err : goal.returns-in-None-clause-err
 returns-in-None-clause-err g c = λ v rest fit is.
