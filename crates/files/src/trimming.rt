@@ -63,7 +63,7 @@ fn digest_of(text: &str) -> Option<[u8; 32]> {
     for at in 0..32 {
         let high = value_of(digits[2 * at])?;
         let low = value_of(digits[2 * at + 1])?;
-        digest[at] = 16 * high + low;
+        digest[at] = (high << 4) | low;
     }
     Some(digest)
 }
