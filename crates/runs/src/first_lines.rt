@@ -1,5 +1,7 @@
 //! The next lines of a reader.
 
+ghost use Rattle.std.specs.Prelude.{◌≤◌, length};
+
 use std::io;
 use std::io::{BufRead, Read};
 
@@ -19,14 +21,16 @@ fn line_feeds(bytes: &[u8]) -> u64 {
     let mut count = 0u64;
     for byte in bytes {
         if *byte == b'\n' {
-            count += 1;
+            count = count.saturating_add(1);
         }
     }
     count
 }
 
 /// How many of the bytes belong to so many lines at most.
-fn len_of_lines(bytes: &[u8], lines: u64) -> usize {
+fn len_of_lines(bytes: &[u8], lines: u64) -> usize
+    ensures { result ≤ length bytes.now }
+{
     let mut left = lines;
     for at in 0..bytes.len() {
         if bytes[at] == b'\n' {
@@ -76,10 +80,11 @@ impl<R: BufRead> Read for FirstLines<R> {
 impl<R: BufRead> BufRead for FirstLines<R> {
     fn fill_buf(&mut self) -> io::Result<&[u8]> {
         if self.left == 0 {
-            return Ok(&[]);
+            return Ok(b"");
         }
+        let left = self.left;
         let block = self.inner.fill_buf()?;
-        let count = len_of_lines(block, self.left);
+        let count = len_of_lines(block, left);
         Ok(&block[..count])
     }
 
