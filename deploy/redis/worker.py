@@ -99,7 +99,7 @@ class Lease:
             self.keeping = working.Keeping(self.length / 1000, running.NoRun, self.renew)
         return self.held is not None
 
-    def run(self, program, words):
+    def run(self, program, words=()):
         """Starts a run of the program with these words: where it is stuck, the lease is renewed no more."""
         run = self.keeping.run_of_program = running.Run(program, self.check, words)
         return run
