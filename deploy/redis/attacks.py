@@ -17,7 +17,7 @@ from trials import ANSWERS, LEASE, LONG, TEXTS, Held, Link, Wrong, free_port, li
 from trials import one_long_reply, outcome, plain_run, slow_program, until
 
 RATE = 8_000_000  # (bytes a second of a slow program, and of a slow link: a reply of 25 MB takes three leases)
-EACH = 4  # (steps behind which a snapshot is kept)
+MANY, EACH = 10_000, 4  # (steps behind which a snapshot is kept: as workers do by themselves, and where it is tried)
 CLIENTS = 128 << 20  # (bytes that a server lets its clients have in hand, where many long replies are made at once)
 
 
@@ -31,15 +31,15 @@ class Place:
         self.partitions = put.partitions_of(server.client, "recall", 1)
         self.steps, self.replies = (self.partitions[0].key(stream, 0) for stream in ("steps", "replies"))
 
-    def held(self, program, url, lease=LEASE, each=EACH):
+    def held(self, program, url, lease=LEASE, each=MANY):
         """A worker's process, with a snapshot behind each so many steps."""
         words = [program, "0", "--redis", url, "--lease", str(lease), "--snapshot", str(each)]
         return Held([os.path.join(self.scripts, "worker.py"), *words], 0)
 
     @contextlib.contextmanager
-    def worker(self, program=None, url=None):
+    def worker(self, program=None, url=None, each=MANY):
         """A worker of the partition, which must not have ended by itself when it is told to stop."""
-        held = self.held(program or self.program, url or self.server.url)
+        held = self.held(program or self.program, url or self.server.url, each=each)
 
         def watch():
             if held.process.poll() is not None:
@@ -663,7 +663,7 @@ def snapshots(place):
     lines = [line("open", units=["count"]), *(line("post", unit=0, number=number, text="x") for number in range(39))]
     key, seen = place.partitions[0].key("snapshot", 0), []
     place.give("first", lines[:20])
-    with place.worker():
+    with place.worker(each=EACH):
         place.answered(20)
         until("a snapshot", lambda: place.client.hget(key, "lines") == b"20")
     kept = place.client.hgetall(key)
@@ -679,13 +679,13 @@ def snapshots(place):
         place.client.delete(key)
         if spoilt is not None:
             place.client.hset(key, mapping={**kept, **spoilt})
-        with place.worker() as held:
+        with place.worker(each=EACH) as held:
             seen.append(begun_behind(held))
             place.give("first", lines[: 22 + 2 * at])
             place.answered(22 + 2 * at)
         if seen[-1] != behind:
             raise Wrong(f"a snapshot {what}: the worker began behind {seen[-1]} steps")
-    with place.worker():
+    with place.worker(each=EACH):
         place.give("first", lines)
         place.answered(len(lines))
     place.compare(("first", lines))
