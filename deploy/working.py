@@ -28,7 +28,7 @@ def words_of(page, server, address, has_snapshots=False):
     reader.add_argument("--name", default="recall")
     reader.add_argument("--lease", type=int, default=5000)
     if has_snapshots:
-        reader.add_argument("--snapshot", type=int, default=10_000)
+        reader.add_argument("--snapshot", type=int, default=0)
     return reader.parse_args()
 
 

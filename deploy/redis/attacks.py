@@ -17,7 +17,7 @@ from trials import ANSWERS, LEASE, LONG, TEXTS, Held, Link, Wrong, free_port, li
 from trials import one_long_reply, outcome, plain_run, slow_program, until
 
 RATE = 8_000_000  # (bytes a second of a slow program, and of a slow link: a reply of 25 MB takes three leases)
-MANY, EACH = 10_000, 4  # (steps behind which a snapshot is kept: as workers do by themselves, and where it is tried)
+EACH = 4  # (steps behind which a snapshot is kept, where that is tried)
 CLIENTS = 128 << 20  # (bytes that a server lets its clients have in hand, where many long replies are made at once)
 
 
@@ -31,13 +31,13 @@ class Place:
         self.partitions = put.partitions_of(server.client, "recall", 1)
         self.steps, self.replies = (self.partitions[0].key(stream, 0) for stream in ("steps", "replies"))
 
-    def held(self, program, url, lease=LEASE, each=MANY):
+    def held(self, program, url, lease=LEASE, each=0):
         """A worker's process, with a snapshot behind each so many steps."""
         words = [program, "0", "--redis", url, "--lease", str(lease), "--snapshot", str(each)]
         return Held([os.path.join(self.scripts, "worker.py"), *words], 0)
 
     @contextlib.contextmanager
-    def worker(self, program=None, url=None, each=MANY):
+    def worker(self, program=None, url=None, each=0):
         """A worker of the partition, which must not have ended by itself when it is told to stop."""
         held = self.held(program or self.program, url or self.server.url, each=each)
 

@@ -5,8 +5,8 @@
 
 It waits for the partition's lease, starts PROGRAM, and gives it the steps of the epoch behind the snapshot that the
 server has, or from the first one. Those replies that the stream of replies has are dropped; those behind them are
-appended. A snapshot is kept behind each 10,000 steps, or as many as are said (0: never), in a folder of the worker's
-and then in the server, once the replies before it are recorded. Each write carries the lease with its
+appended. Where it is asked for, a snapshot is kept behind each so many steps, in a folder of the worker's and then in
+the server, once the replies before it are recorded. Each write carries the lease with its
 fencing number, and the server refuses it where that is over (recall.lua). Whatever goes wrong ends the worker: start it
 anew.
 
