@@ -188,6 +188,7 @@ def snapshots(runs):
     runs.run(b"", "trim", "--drive", "kept")
     runs.run(b"", "trim", "kept", write=0)
     runs.file("kept.snapshot", whole[:-1])
+    os.remove(os.path.join(runs.room, "kept.base"))
     runs.run(b"", *kept)
     runs.file("kept.snapshot", whole[:9])
     runs.run(b"", "trim", "kept")
