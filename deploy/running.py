@@ -75,13 +75,15 @@ def program_file(path):
 
 
 class Run:
-    """One run of the program, with these words more. While a reply is waited for, `meanwhile` is asked, which may raise
-    why to end."""
+    """One run of the program, with these words more, on one core: on several, replies come a block of lines at a time,
+    and long ones would leave it silent. While a reply is waited for, `meanwhile` is asked, which may raise why to
+    end."""
 
     def __init__(self, program, meanwhile=lambda: None, words=()):
         self.meanwhile = meanwhile
         try:
-            self.process = subprocess.Popen([program, "run", *words], stdin=subprocess.PIPE, stdout=subprocess.PIPE)
+            command = [program, "run", "--cores", "1", *words]
+            self.process = subprocess.Popen(command, stdin=subprocess.PIPE, stdout=subprocess.PIPE)
         except OSError as fault:
             raise Fault(2, f"the program {program} can't be run: {fault.strerror}")
         self.pieces, self.lines, self.waits_since = [], collections.deque(), None
