@@ -7,6 +7,7 @@ reason why no run shows them.
 import glob
 import os
 import re
+import struct
 import subprocess
 import tempfile
 
@@ -14,6 +15,9 @@ from program import HERE, SECONDS
 
 CRATES = os.path.join(HERE, "..", "..", "crates")
 TEXT = re.compile(r'(?:error|warn|info)!\((?:[\w&.]+); "((?:[^"\\]|\\.)*)"')
+
+# Texts that come within one of those: a file that is read whole finds no memory.
+WITHIN = {"can't be loaded: there is no memory for it", "is left aside: there is no memory for it"}
 
 # Texts that no run here shows: of what can't come to be, or is shown elsewhere.
 UNSEEN = {
@@ -31,6 +35,14 @@ OPEN = b'{"do":"open","tenant":"a","units":["echo"]}\n'
 POST = b'{"do":"post","number":0,"tenant":"a","text":"a text of more than sixteen bytes","unit":0}\n'
 FLUSH = b'{"do":"flush","tenant":"a","unit":0}\n'
 IMAGE = b"RV1\1" + bytes(4000)
+# An ELF file for RISC-V whose one segment is that image.
+ELF = (
+    b"\x7fELF\1\1\1"
+    + bytes(9)
+    + struct.pack("<HHIIIIIHHHHHH", 2, 243, 1, 4, 52, 0, 0, 52, 32, 1, 0, 0, 0)
+    + struct.pack("<8I", 1, 84, 0, 0, len(IMAGE), len(IMAGE), 7, 4)
+    + IMAGE
+)
 LINES = OPEN + POST + FLUSH + b'{"do":"release","tenant":"a","unit":0}\n'
 WHY = ("why", "--tenant", "a", "--unit", "0")
 
@@ -260,6 +272,10 @@ def memory(runs):
     runs.refused(OPEN + POST, "status", "--json")
     runs.refused(OPEN + POST, *WHY)
     runs.refused(IMAGE, "load", "given", "--tenant", "a", "--unit", "0")
+    runs.file("program", ELF)
+    runs.refused(b"", "load", "program", "--tenant", "a", "--unit", "0")
+    runs.run(LINES, "run", "--journal", "again", "--snapshot", "4")
+    runs.refused(b"", "run", "--journal", "again")
 
 
 def each_text(program):
@@ -268,7 +284,7 @@ def each_text(program):
         runs = Runs(program, room)
         for scene in (files, journals, snapshots, streams, driven, views, images, memory):
             scene(runs)
-    wanted = texts()
+    wanted = texts() | WITHIN
     wrong = [f"{text!r} is no text of the sources" for text in UNSEEN if text not in wanted]
     for text in sorted(wanted):
         is_seen = any(map(matcher(text).search, runs.said))

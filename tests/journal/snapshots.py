@@ -189,13 +189,38 @@ def misfits(own):
     return len(cases), wrong
 
 
+def open_to_others(path):
+    os.chmod(path, 0o666)
+
+
+def in_place_of(make):
+    """What puts another thing in a file's place."""
+
+    def put(path):
+        os.remove(path)
+        make(path)
+
+    return put
+
+
 def unfit(kept, more):
-    """A snapshot that others may write to is left aside."""
-    there = kept.copy("-open")
-    os.chmod(there.snapshot, 0o666)
+    """What is no snapshot of one's own is left aside, and a pipe isn't waited for, nor in the place of the page."""
+    for why, put in (
+        (b"chmod go-w", open_to_others),
+        (b"it is a pipe", in_place_of(os.mkfifo)),
+        (b"it is a folder", in_place_of(os.mkdir)),
+        (b"it is a device", in_place_of(lambda path: os.symlink("/dev/zero", path))),
+    ):
+        there = kept.copy("-open-" + why.decode().replace(" ", "-"))
+        put(there.snapshot)
+        out, said, status = there.run(b"".join(more), "-v")
+        if status or LEFT not in said or why not in said:
+            return f"one of which {why.decode()!r} should be told: status {status}: {said.decode()}"
+    there = kept.copy("-page")
+    in_place_of(os.mkfifo)(there.journal + ".about")
     out, said, status = there.run(b"".join(more), "-v")
-    if status or LEFT not in said or b"chmod go-w" not in said:
-        return f"one that others may write: {said.decode()}"
+    if status != 1 or b"it is a pipe" not in said or out:
+        return f"a pipe in the place of the page: status {status}: {said.decode()}"
     return None
 
 
@@ -294,7 +319,7 @@ def trimmed(own):
     if status or out != b"".join(wanted[count : count + len(more)]) or GOES_ON % count not in said:
         return 1, f"going on: {status}: {said.decode()}: {first_difference(out, b''.join(wanted[count:]))}"
     refused = (
-        (("--from", str(count - 1)), 2, b"there is no line %d to go on from" % (count - 1)),
+        (("--from", str(count - 1)), 2, b"and with them replies that --from asks for"),
         (("--audit",), 1, b"there is no snapshot to go on from"),
     )
     for words, status, why in refused:

@@ -292,6 +292,7 @@ fn answer_open_with<H: Handler, S: Store>(
     ensures up { log.old.failures ≤ log.new.failures }
     ensures stale { IfOk result (λ o. IfNone o (tenant.new ≡ tenant.old)) }
     ensures stale_log { IfOk result (λ o. IfNone o (log.new ≡ log.old)) }
+    ensures kill { (unit : ℕ) → step ≡ TenantStep.Kill unit → IsOk result }
     ensures err { OnErr result (tenant.new ≡ tenant.old) }
     ensures err_log { OnErr result (log.new.records ≡ log.old.records) }
     ensures err_failures { OnErr result (log.new.failures ≡ log.old.failures) }
@@ -301,7 +302,7 @@ fn answer_open_with<H: Handler, S: Store>(
 }
 
 /// Does a step of any tenant by a turn that was worked, if it needs no other. Where there is no
-/// answer, or no memory was found, nothing is changed.
+/// answer, or no memory was found, nothing is changed; a kill takes none.
 pub(crate) fn answer_with<H: Handler, S: Store>(
     alloc: Global,
     handler: &H,
@@ -321,10 +322,11 @@ pub(crate) fn answer_with<H: Handler, S: Store>(
     ensures stale { IfOk result (λ o. IfNone o
         (HoldsAsBefore (holding tenants.old log.old) (holding tenants.new log.new))) }
     ensures stale_log { IfOk result (λ o. IfNone o (log.new ≡ log.old)) }
+    ensures kill { (tenant : List ℕ) (unit : ℕ) → step.now ≡ Step.Kill tenant unit → IsOk result }
     ensures err { OnErr result (HoldsAsBefore (holding tenants.old log.old) (holding tenants.new log.new)) }
     ensures texts { KeepTexts (get bytes_eq tenants.old) → KeepTexts (get bytes_eq tenants.new) }
 {
-    let own_step = step.tenant_step()?;
+    let own_step = step_within(step)?;
     let name = step.tenant();
     if let Some(opened) = tenants.get_mut(name) {
         return answer_open_with(alloc, handler, opened, name, own_step, worked, log);

@@ -3,6 +3,7 @@
 ghost use Rattle.std.specs.Prelude.{◌≡◌, ◌≤◌, [], IfNone, IfOk, IfSome, IsOk, MatchOption, OnErr, List, None, Some, ℕ};
 ghost use Rattle.model.specs.Addresses.{addressed};
 ghost use Rattle.model.specs.declared.replies.Entry.{Entry};
+ghost use Rattle.model.specs.declared.replies.Reply.{Reply as ReplyOf};
 ghost use Rattle.model.specs.declared.replies.Who.{Who};
 ghost use Rattle.tenant.specs.Needs.{WasFresh};
 ghost use Rattle.tenant.specs.Stands.{StandsAt};
@@ -139,6 +140,7 @@ impl<H: Handler, S: Store> Host<H, S> {
             IfSome o (λ a. IsAnswered H.meaning step.now a.said a.reply (held_by self.old) (held_by self.new))) }
         ensures stale { IfOk result (λ o. IfNone o (HoldsAsBefore (held_by self.old) (held_by self.new))) }
         ensures stale_log { IfOk result (λ o. IfNone o (self.new.log ≡ self.old.log)) }
+        ensures kill { (tenant : List ℕ) (unit : ℕ) → step.now ≡ Step.Kill tenant unit → IsOk result }
         ensures err { OnErr result (HoldsAsBefore (held_by self.old) (held_by self.new)) }
         ensures texts { KeepTexts (held_by self.old).at → KeepTexts (held_by self.new).at }
     {
@@ -192,10 +194,14 @@ impl<H: Handler, S: Store> Host<H, S> {
     }
 
     /// Does a step by a turn that was worked, as `step` does. The step is given back, with nothing changed, exactly
-    /// where it now needs a turn of another whole input (seat, state, source and text).
+    /// where it now needs a turn of another whole input (seat, state, source and text). A kill takes no memory, so that
+    /// one with a reply was entered.
     pub fn step_with(&mut self, step: Step, worked: Done<H>) -> Committed
-        ensures { (who : Who)
+        ensures commits { (who : Who)
             → Carries (IsHostOf H.meaning) (CommitsHonestly H.meaning who step worked.input result) self.old self.new }
+        ensures kill { (who : Who) (tenant : List ℕ) (unit : ℕ) (reply : ReplyOf)
+            → step ≡ Step.Kill tenant unit → result ≡ Committed.Reply reply
+            → Carries (IsHostOf H.meaning) (λ before after. IsAdded before who step reply after) self.old self.new }
     {
         match self.answer_with(&step, worked) {
             Err(_) => Committed::Reply(memory_reply(&step)),

@@ -1,5 +1,5 @@
 -- How values are written as bytes, and read again.
-use Rattle.std.specs.Prelude.{◌≡◌, IsTrue, ℕ, ◌+◌, ◌<◌, ◌^◌, nat_lt, Bool, cond, List, [], ◌∷◌, ◌++◌, length, Option}
+use Rattle.std.specs.Prelude.{◌≡◌, IsTrue, ℕ, ◌<◌, ◌^◌, nat_lt, Bool, cond, List, [], ◌∷◌, ◌++◌, length, Option}
 use Rattle.std.specs.Prelude.{None, Some}
 use Rattle.std.specs.Int.{to_le_bytes, w64}
 use Rattle.std.specs.Str.{IsUtf8}
@@ -37,7 +37,7 @@ DecodesOnto {A} code fits old before after new = (v : A) (rest : List ℕ)
 -- ---- numbers
 
 -- A number below 255 is one byte; any other is that byte and then eight, the low ones first.
-abbrev pub number_code : Code ℕ
+unfoldable pub number_code : ℕ → List ℕ → List ℕ
 number_code n rest = cond (nat_lt n 255) (n ∷ rest) (255 ∷ (to_le_bytes w64 n ++ rest))
 
 abbrev pub byte_code : Code ℕ

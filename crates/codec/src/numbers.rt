@@ -14,6 +14,7 @@ use std::alloc::Global;
 const LONG: u8 = 255;
 
 /// Appends a number's bytes.
+#[tactic(auto, unfolding(crate::specs::Codes::number_code))]
 fn encode_number(number: u64, out: &mut Vec<u8>) -> Result<(), NoMemory>
     ensures { IfOk result (λ _. Encodes number_code number out.old.items out.new.items) }
 {
@@ -27,6 +28,7 @@ fn encode_number(number: u64, out: &mut Vec<u8>) -> Result<(), NoMemory>
 }
 
 /// Takes a number's bytes off the input.
+#[tactic(auto, unfolding(crate::specs::Codes::number_code))]
 fn decode_number(input: &mut Input) -> Result<u64, DecodeFault>
     ensures ok { IfOk result (λ x. Decodes number_code (λ n. n < 2 ^ 64) input.old x input.new) }
     ensures err { IfErr result (λ e. Unless number_code (λ n. n < 2 ^ 64) input.old (e ≡ FaultOf.NoMemory)) }

@@ -33,21 +33,29 @@ pub(crate) fn picture_of<'a, H: Handler>(
     history: &'a [Entry],
     tenant: &TenantName,
 ) -> Result<Picture<'a>, NoMemory> {
-    let mut replay = Replay {
-        alloc,
-        handler,
-        states: Vec::new(alloc),
-        picture: Picture::new(alloc),
-    };
+    let mut replay = Replay::new(alloc, handler);
     for (place, entry) in history.iter().enumerate() {
         if *tenant == *entry.step.tenant() {
-            replay.picture.entry = place;
-            replay.enter(entry)?;
+            replay.enter_at(place, entry)?;
         }
     }
-    let Replay { mut picture, .. } = replay;
-    mark_received(&mut picture);
-    Ok(picture)
+    Ok(replay.into_picture())
+}
+
+/// The same of a tenant whose entries stand at these places of the history.
+pub(crate) fn picture_at<'a, H: Handler>(
+    alloc: Global,
+    handler: &H,
+    history: &'a [Entry],
+    places: &[usize],
+) -> Result<Picture<'a>, NoMemory> {
+    let mut replay = Replay::new(alloc, handler);
+    for place in places {
+        if let Some(entry) = history.get(*place) {
+            replay.enter_at(*place, entry)?;
+        }
+    }
+    Ok(replay.into_picture())
 }
 
 /// Marks the letters that an interval on a path received.
@@ -62,6 +70,29 @@ fn mark_received(picture: &mut Picture<'_>) {
 }
 
 impl<'h, 'a, H: Handler> Replay<'h, 'a, H> {
+    /// Before a tenant's first entry.
+    fn new(alloc: Global, handler: &'h H) -> Replay<'h, 'a, H> {
+        Replay {
+            alloc,
+            handler,
+            states: Vec::new(alloc),
+            picture: Picture::new(alloc),
+        }
+    }
+
+    /// The picture after what was followed.
+    fn into_picture(self) -> Picture<'a> {
+        let Replay { mut picture, .. } = self;
+        mark_received(&mut picture);
+        picture
+    }
+
+    /// Follows the entry at this place of the history.
+    fn enter_at(&mut self, place: usize, entry: &'a Entry) -> Result<(), NoMemory> {
+        self.picture.entry = place;
+        self.enter(entry)
+    }
+
     /// Follows one entry.
     fn enter(&mut self, entry: &'a Entry) -> Result<(), NoMemory> {
         match &entry.step {

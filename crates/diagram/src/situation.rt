@@ -2,7 +2,7 @@
 
 use crate::interval::{Interval, Lane};
 use crate::picture::Picture;
-use crate::replay::picture_of;
+use crate::replay::{picture_at, picture_of};
 use handler::Handler;
 use model::{Entry, Mark, NoMemory, TenantName, Text, Unit};
 use std::alloc::Global;
@@ -66,6 +66,21 @@ impl<'a> Situation<'a> {
         tenant: &TenantName,
     ) -> Result<Situation<'a>, NoMemory> {
         let picture = picture_of(alloc, handler, history, tenant)?;
+        Ok(Situation { picture })
+    }
+
+    /// That of a tenant whose entries stand at these places of a history: in time and memory by these alone.
+    ///
+    /// # Errors
+    ///
+    /// `NoMemory` where there is none to follow them.
+    pub fn at<H: Handler>(
+        alloc: Global,
+        handler: &H,
+        history: &'a [Entry],
+        places: &[usize],
+    ) -> Result<Situation<'a>, NoMemory> {
+        let picture = picture_at(alloc, handler, history, places)?;
         Ok(Situation { picture })
     }
 

@@ -1,5 +1,6 @@
 //! The page beside a journal.
 
+use crate::fitness::unfit_kind;
 use crate::replacing::replace_file;
 use serde_json::{Error as JsonError, Value, json};
 use std::alloc::{AllocError, Global};
@@ -7,7 +8,7 @@ use std::fmt::{Display, Formatter};
 use std::fs::{File, Files};
 use std::io::ErrorKind;
 use std::time::{Clock, SystemTime, UNIX_EPOCH};
-use std::{fmt, io};
+use std::{fmt, fs, io};
 use terminal::Plural;
 
 /// What is added to the journal's name.
@@ -103,6 +104,12 @@ impl About {
         journal: &str,
     ) -> io::Result<Option<About>> {
         let path = path_of(alloc, journal)?;
+        if let Ok(found) = fs::metadata(rt, path.as_str()) {
+            // A pipe would be waited for.
+            if let Some(kind) = unfit_kind(&found) {
+                return Err(io::Error::new(ErrorKind::InvalidData, kind.as_str()));
+            }
+        }
         let file = match File::open(rt, path.as_str()) {
             Ok(file) => file,
             Err(error) if error.kind() == ErrorKind::NotFound => return Ok(None),

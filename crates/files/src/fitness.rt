@@ -31,9 +31,10 @@ pub enum Unfit {
     Mode,
 }
 
-impl Display for Unfit {
-    fn fmt<W: fmt::Write>(&self, out: &mut Formatter<W>) -> fmt::Result {
-        out.write_str(match self {
+impl Unfit {
+    /// What is told of it.
+    pub(crate) fn as_str(&self) -> &'static str {
+        match self {
             Unfit::Folder => "it is a folder",
             Unfit::Device => "it is a device",
             Unfit::Pipe => "it is a pipe",
@@ -42,7 +43,13 @@ impl Display for Unfit {
             Unfit::Output => "it is the output of this run, or its standard error",
             Unfit::Owner => "another user owns it",
             Unfit::Mode => "its mode lets others write to it: take that away with chmod go-w",
-        })
+        }
+    }
+}
+
+impl Display for Unfit {
+    fn fmt<W: fmt::Write>(&self, out: &mut Formatter<W>) -> fmt::Result {
+        out.write_str(self.as_str())
     }
 }
 
@@ -68,7 +75,7 @@ pub fn why_unfit<R: Files>(rt: &R, found: &Metadata) -> Option<Unfit> {
 }
 
 /// What it is, where it is no file of bytes.
-fn unfit_kind(found: &Metadata) -> Option<Unfit> {
+pub(crate) fn unfit_kind(found: &Metadata) -> Option<Unfit> {
     let kind = found.file_type();
     if kind.is_dir() {
         Some(Unfit::Folder)

@@ -190,7 +190,7 @@ fn check_gone<L: Log>(
     let went = Plural(gone, "line");
     match from {
         Some(from) if from < gone => {
-            error!(told; "the first {went} of the journal {path:?} were trimmed away: there is no line {from} to go on from");
+            error!(told; "the first {went} of the journal {path:?} were trimmed away, and with them replies that --from asks for");
             Err(2)
         }
         _ => {

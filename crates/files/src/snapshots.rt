@@ -16,9 +16,9 @@ use codec::{Coded, DecodeFault, Input, decode_bytes, encode_bytes};
 use model::NoMemory;
 use sha2::{Digest, Sha256};
 use std::alloc::{AllocError, Global};
-use std::fs::{File, Files};
-use std::io;
+use std::fs::{File, Files, Metadata};
 use std::io::{ErrorKind, Read};
+use std::{fs, io};
 use thiserror::Error;
 
 /// What is added to the journal's name.
@@ -143,7 +143,7 @@ fn path_of(alloc: Global, journal: &str, suffix: &str) -> Result<String, AllocEr
 /// Whether there is a file where the snapshot beside a journal would be.
 pub fn has_snapshot<R: Files<File = File>>(rt: &R, alloc: Global, journal: &str) -> bool {
     match path_of(alloc, journal, SUFFIX) {
-        Ok(path) => std::fs::metadata(rt, path.as_str()).is_ok(),
+        Ok(path) => fs::metadata(rt, path.as_str()).is_ok(),
         Err(_) => false,
     }
 }
@@ -222,6 +222,14 @@ pub(crate) fn keep_base<R: Files<File = File>>(
     replace_file(rt, alloc, at.as_str(), &[bytes.as_slice()])
 }
 
+/// Refuses a file that a run must not go on from.
+fn fit_or_misfit<R: Files>(rt: &R, found: &Metadata) -> Result<(), Misfit> {
+    match why_unfit(rt, found) {
+        Some(why) => Err(Misfit::Unfit(why)),
+        None => Ok(()),
+    }
+}
+
 /// The bytes of the file beside a journal, if there is one.
 fn read_beside<R: Files<File = File>>(
     rt: &R,
@@ -230,17 +238,17 @@ fn read_beside<R: Files<File = File>>(
     suffix: &str,
 ) -> Result<Option<Vec<u8>>, Misfit> {
     let at = path_of(alloc, path, suffix)?;
-    let mut file = match File::open(rt, at.as_str()) {
-        Ok(file) => file,
+    // A pipe is not even opened: the run would wait for what is written to it.
+    match fs::metadata(rt, at.as_str()) {
+        Ok(found) => fit_or_misfit(rt, &found)?,
         Err(error) if error.kind() == ErrorKind::NotFound => return Ok(None),
         Err(_) => return Err(Misfit::Unreadable),
+    }
+    let Ok(mut file) = File::open(rt, at.as_str()) else {
+        return Err(Misfit::Unreadable);
     };
     match file.metadata() {
-        Ok(found) => {
-            if let Some(why) = why_unfit(rt, &found) {
-                return Err(Misfit::Unfit(why));
-            }
-        }
+        Ok(found) => fit_or_misfit(rt, &found)?,
         Err(_) => return Err(Misfit::Unreadable),
     }
     let mut bytes = Vec::new(alloc);

@@ -9,6 +9,7 @@ use Rattle.model.specs.Steps.{Outcome, first_refusal, unless, if_unit, at_unit, 
 use Rattle.model.specs.Steps.{flush_reply, flushed, with_member, restart, notice, notice_rows, path_kept, gone_back}
 use Rattle.model.specs.Steps.{start_of, row_for}
 use Rattle.model.specs.World.{World, Member, incarnation_of}
+use Rattle.model.specs.declared.limits.TheConstants.{MAX_INCARNATION}
 use Rattle.model.specs.declared.records.Record.{Record}
 use Rattle.model.specs.declared.refusals.Refusal.{Refusal}
 use Rattle.model.specs.declared.refusals.Refusal.TheVariants.{Up, Down, Limit, Store}
@@ -113,7 +114,7 @@ module _ (w : World) (u : ℕ) where
   }
 
   abbrev limit : Bool
-  limit = nat_le 65535 (incarnation_of w.table u)
+  limit = nat_le MAX_INCARNATION (incarnation_of w.table u)
 
   restart_unit : (o : Option Member) (end : End)
       → IsPromise (if_unit w (λ m. back_unless w m.up Up limit end (restarted m)) o).reply

@@ -2,6 +2,7 @@
 use Rattle.std.proofs.Common.{◌≡◌, refl, ℕ, zero, suc, drop, map}
 use Rattle.std.specs.Prelude.{false, List, [], ◌∷◌, ◌++◌, Some, None, codes, decimal, replicate, Ok}
 use Rattle.std.specs.Fmt.{digits}
+use Rattle.model.specs.declared.limits.TheConstants.{MAX_INCARNATION}
 use Rattle.model.specs.declared.refusals.Refusal.TheVariants.{NoTenant, BadOpen, Wait, Orphan, Repeat, TooMuch, Limit}
 use Rattle.model.specs.declared.refusals.Refusal.TheVariants.{Store, Pending}
 use Rattle.model.specs.declared.replies.Reply.TheVariants.{Opened, Joined, Accepted, Flushed, Checkpointed, Killed}
@@ -104,7 +105,7 @@ last_incarnation = record {
     cause = began;
     units = 1;
   } ∷ [];
-  table = record { unit = 0; incarnation = 65535; start = 1 } ∷ [];
+  table = record { unit = 0; incarnation = MAX_INCARNATION; start = 1 } ∷ [];
 }
 
 incarnation_limit : (restart last_incarnation 0 quiet).reply ≡ Refused Limit

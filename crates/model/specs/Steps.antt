@@ -162,29 +162,31 @@ accepted M w u m cause =
       world = Some (with_receipt w u m cause);
     }
 
+-- the tests of a post before its turn
+abbrev pub post_front : World → Member → ℕ → List ℕ → List (Bool × Refusal)
+post_front w m number text = is_down m ∷ (number_tests w m Outside number ++ room_tests w m text)
+
 abbrev pub post_to : {S : Type 0} → Meaning S → World → ℕ → ℕ → List ℕ → Member → Outcome
 post_to M w u number text m =
     let cause = outside number text in
-    unless w
-    (is_down m
-    ∷ (number_tests w m Outside number
-    ++ (room_tests w m text ++ turn_tests M w m (turn_upon_receipt M w u m cause))))
-    (accepted M w u m cause)
+    unless w (post_front w m number text ++ turn_tests M w m (turn_upon_receipt M w u m cause)) (accepted M w u m cause)
 
 abbrev pub post : {S : Type 0} → Meaning S → World → ℕ → ℕ → List ℕ → Outcome
 post M w u number text = at_unit w u (post_to M w u number text)
 
+-- the tests of a delivery before its turn
+abbrev pub deliver_front : World → Message → Member → List (Bool × Refusal)
+deliver_front w received m =
+    is_down m
+    ∷ (is_blind w.nodes (take m.known w.table) received.sender, Wait)
+    ∷ (is_orphan w.nodes (take m.known w.table) received.sender, Orphan)
+    ∷ (nat_lt w.optimism (length (unstable_units w received.sender)), Pending)
+    ∷ (number_tests w m (FromUnit received.source) received.number ++ room_tests w m received.text)
+
 abbrev pub deliver_to : {S : Type 0} → Meaning S → World → ℕ → Message → Member → Outcome
 deliver_to M w l received m =
-    let known = take m.known w.table in
     let cause = letter l received.sender in
-    unless w
-    (is_down m
-    ∷ (is_blind w.nodes known received.sender, Wait)
-    ∷ (is_orphan w.nodes known received.sender, Orphan)
-    ∷ (nat_lt w.optimism (length (unstable_units w received.sender)), Pending)
-    ∷ (number_tests w m (FromUnit received.source) received.number
-    ++ (room_tests w m received.text ++ turn_tests M w m (turn_upon_receipt M w received.receiver m cause))))
+    unless w (deliver_front w received m ++ turn_tests M w m (turn_upon_receipt M w received.receiver m cause))
     (accepted M w received.receiver m cause)
 
 abbrev pub if_letter : {S : Type 0} → Meaning S → World → ℕ → Option Message → Outcome

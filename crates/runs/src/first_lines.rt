@@ -10,6 +10,9 @@ use std::io::{BufRead, Read};
 pub(crate) struct FirstLines<R> {
     inner: R,
     left: u64,
+    /// How many bytes of the block that the other shows are known to be of these lines; 0 where that isn't known. So
+    /// a block is looked through once, and not for each of its lines.
+    open: usize,
     /// How many lines ended in what was read.
     pub lines: u64,
     /// How many bytes were read.
@@ -43,12 +46,23 @@ fn len_of_lines(bytes: &[u8], lines: u64) -> usize
     bytes.len()
 }
 
+/// How many bytes of a block are shown, where so many lines are left, and so many bytes are known to be of them.
+fn len_shown(block: &[u8], lines: u64, known: usize) -> usize
+    ensures { result ≤ length block.now }
+{
+    if known > 0 {
+        return block.len().min(known);
+    }
+    len_of_lines(block, lines)
+}
+
 impl<R> FirstLines<R> {
     /// A reader of so many lines.
     pub(crate) fn new(inner: R, lines: u64) -> FirstLines<R> {
         FirstLines {
             inner,
             left: lines,
+            open: 0,
             lines: 0,
             bytes: 0,
         }
@@ -83,18 +97,23 @@ impl<R: BufRead> BufRead for FirstLines<R> {
             return Ok(b"");
         }
         let left = self.left;
+        let open = self.open;
         let block = self.inner.fill_buf()?;
-        let count = len_of_lines(block, left);
+        let count = len_shown(block, left, open);
         Ok(&block[..count])
     }
 
     fn consume(&mut self, amount: usize) {
+        let left = self.left;
+        let open = self.open;
         let Ok(block) = self.inner.fill_buf() else {
             return;
         };
-        let count = block.len().min(amount);
+        let shown = len_shown(block, left, open);
+        let count = shown.min(amount);
         let lines = line_feeds(&block[..count]);
         self.inner.consume(count);
+        self.open = shown - count;
         self.count(count as u64, lines);
     }
 }

@@ -29,7 +29,7 @@ use Rattle.written.specs.Beginnings.{AppendsBeginning}
 use Rattle.shards.specs.Blocks.{AnswersBy, AnswersEachBy, AnswersLines}
 use Rattle.shards.specs.Kept.{AreKept, IsKept}
 use Rattle.dealing.specs.Dealing.{HostsDo, ShardsServe, dealt}
-use Rattle.shards.specs.Underway.{Ends, Heard, Stopped, Turns, Underway, Waiting}
+use Rattle.shards.specs.Underway.{Ends, ReadSoFar, Stopped, Turns, Underway, Waiting}
 use Rattle.shards.proofs.Readings.{AreKept-more, heard_kept, readings_are}
 use Rattle.dealing.proofs.Serving.{dealt_lines_serve}
 
@@ -133,9 +133,9 @@ last_kind false false kind is some = is
 -- ---- what is heard
 
 module _ (begin now : Option (List ℕ)) (answered : List (List ℕ))
-    (waiting : Waiting) (heard : Heard begin now answered waiting) where
+    (waiting : Waiting) (heard : ReadSoFar begin now answered waiting) where
   -- the input is as it was
-  pub kept_so : (input : Option (List ℕ)) → Keeps now input → Heard begin input answered waiting
+  pub kept_so : (input : Option (List ℕ)) → Keeps now input → ReadSoFar begin input answered waiting
   kept_so input same = record {
     queued = heard.queued;
     rest = heard.rest;
@@ -156,7 +156,7 @@ module _ (begin now : Option (List ℕ)) (answered : List (List ℕ))
   -- a part of a line
   pub part_more : (input : Option (List ℕ)) (bytes held : List ℕ) (is_long : Bool)
       → IsPart bytes → Consumes now input bytes → LineGoesOn waiting.held waiting.is_long held is_long bytes
-      → Heard begin input answered
+      → ReadSoFar begin input answered
       (record { held = held; is_long = is_long; lines = waiting.lines; count = waiting.count })
   part_more input bytes held is_long part took goes = record {
     queued = heard.queued;
@@ -175,7 +175,7 @@ module _ (begin now : Option (List ℕ)) (answered : List (List ℕ))
       (lines : List (Result (List ℕ) LineFault))
       → IsLineRead (cond is_long Long Line) held heard.rest input → IsKept is_long held kept
       → lines ≡ waiting.lines ++ kept ∷ []
-      → Heard begin input answered (record { held = []; is_long = false; lines = lines; count = waiting.count + 1 })
+      → ReadSoFar begin input answered (record { held = []; is_long = false; lines = lines; count = waiting.count + 1 })
   line_more input held is_long kept lines is so grown =
       let line = heard_kept is_long held kept heard.rest input is so in
       record {
@@ -200,7 +200,7 @@ module _ (begin now : Option (List ℕ)) (answered : List (List ℕ))
       (kept : Result (List ℕ) LineFault) (lines : List (Result (List ℕ) LineFault))
       → Takes (Ended more) now input waiting.held waiting.is_long held is_long → IsKept is_long held kept
       → lines ≡ waiting.lines ++ kept ∷ []
-      → Heard begin input answered (record { held = []; is_long = false; lines = lines; count = waiting.count + 1 })
+      → ReadSoFar begin input answered (record { held = []; is_long = false; lines = lines; count = waiting.count + 1 })
   line_ended input more held is_long kept lines took so grown =
       let part = IsPart-append heard.text took.0 heard.part took.1 in
       let taken = subst (Consumes heard.rest input)
@@ -215,7 +215,7 @@ module _ (begin now : Option (List ℕ)) (answered : List (List ℕ))
       → Takes AtEnd now input waiting.held waiting.is_long held is_long
       → kind ≡ cond is_long Long (cond (eqb (length held) 0) End Line) → kind ≢ End → IsKept is_long held kept
       → lines ≡ waiting.lines ++ kept ∷ []
-      → Heard begin input answered (record { held = []; is_long = false; lines = lines; count = waiting.count + 1 })
+      → ReadSoFar begin input answered (record { held = []; is_long = false; lines = lines; count = waiting.count + 1 })
   line_last input held is_long kind kept lines took is some so grown =
       let held_so : Holds held is_long heard.text =
       subst (λ h. Holds h is_long heard.text)
@@ -228,7 +228,7 @@ module _ (begin now : Option (List ℕ)) (answered : List (List ℕ))
   -- no line
   pub line_none : (input : Option (List ℕ)) (held : List ℕ) (is_long : Bool)
       → Takes AtEnd now input waiting.held waiting.is_long held is_long
-      → Heard begin input answered
+      → ReadSoFar begin input answered
       (record { held = held; is_long = is_long; lines = waiting.lines; count = waiting.count })
   line_none input held is_long took = record {
     queued = heard.queued;
@@ -246,14 +246,14 @@ module _ (begin now : Option (List ℕ)) (answered : List (List ℕ))
 -- What is heard is as told.
 pub line_so : (begin input : Option (List ℕ)) (answered : List (List ℕ)) (held : List ℕ) (is_long : Bool)
     (lines : List (Result (List ℕ) LineFault)) (n count : ℕ) → held ≡ [] → is_long ≡ false → count ≡ n
-    → Heard begin input answered (record { held = []; is_long = false; lines = lines; count = n })
-    → Heard begin input answered (record { held = held; is_long = is_long; lines = lines; count = count })
+    → ReadSoFar begin input answered (record { held = []; is_long = false; lines = lines; count = n })
+    → ReadSoFar begin input answered (record { held = held; is_long = is_long; lines = lines; count = count })
 line_so begin input answered held is_long lines n count empty short counted heard =
-    subst (λ l. Heard begin input answered
+    subst (λ l. ReadSoFar begin input answered
     (record { held = l; is_long = is_long; lines = lines; count = count })) (sym empty)
-    (subst (λ b. Heard begin input answered
+    (subst (λ b. ReadSoFar begin input answered
     (record { held = []; is_long = b; lines = lines; count = count })) (sym short)
-    (subst (λ m. Heard begin input answered
+    (subst (λ m. ReadSoFar begin input answered
     (record { held = []; is_long = false; lines = lines; count = m })) (sym counted) heard))
 
 -- ---- a block
@@ -264,7 +264,7 @@ module _ {S : Type 0} (M : Meaning S) (deal : List ℕ → ℕ) (start : Ends S)
   -- Where more is heard, serving goes on.
   pub hears : (input' : Option (List ℕ)) (waiting' : Waiting)
       → ((begin : Option (List ℕ)) (answered : List (List ℕ))
-      → Heard begin input answered waiting → Heard begin input' answered waiting')
+      → ReadSoFar begin input answered waiting → ReadSoFar begin input' answered waiting')
       → Underway M deal start (record { input = input'; out = out; hosts = hosts }) waiting'
   hears input' waiting' more = record {
     answered = under.answered;

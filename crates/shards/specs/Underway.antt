@@ -29,7 +29,7 @@ pub record Waiting : Type 0 where
 
 -- Since the input began these lines were answered, and the lines that were read behind them wait. Behind those a part
 -- of one line was taken.
-pub record Heard (begin input : Option (List ℕ)) (answered : List (List ℕ)) (waiting : Waiting) : Type 0 where
+pub record ReadSoFar (begin input : Option (List ℕ)) (answered : List (List ℕ)) (waiting : Waiting) : Type 0 where
   pub queued : List (List ℕ)
   pub rest : Option (List ℕ)
   pub text : List ℕ
@@ -47,7 +47,7 @@ pub record Underway {S : Type 0}
   pub replies : List Reply
   pub served : ServesBy (HostsDo M deal) answered start.hosts replies now.hosts
   pub written : Appends start.out now.out (flat_map reply_line replies)
-  pub heard : Heard start.input now.input answered waiting
+  pub heard : ReadSoFar start.input now.input answered waiting
 
 -- serving ended early
 abbrev pub Stopped : {S : Type 0} → Meaning S → (List ℕ → ℕ) → Ends S → Ends S → Type 0
@@ -59,8 +59,8 @@ abbrev pub TakesOn : Part → Waiting → Waiting → Type 0
 TakesOn part old new =
     (begin input input' : Option (List ℕ)) (answered : List (List ℕ)) (held : List ℕ) (is_long : Bool)
     → Takes part input input' held is_long old.held old.is_long
-    → Heard begin input answered (record { held = held; is_long = is_long; lines = old.lines; count = old.count })
-    → Heard begin input' answered new
+    → ReadSoFar begin input answered (record { held = held; is_long = is_long; lines = old.lines; count = old.count })
+    → ReadSoFar begin input' answered new
 
 -- what one turn of serving came to: it goes on, or it is at its end, or it stopped early
 abbrev pub Turns : {S : Type 0} → Meaning S → (List ℕ → ℕ) → Result Bool ServeFault → Ends S → Ends S → Waiting → Type 0

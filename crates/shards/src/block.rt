@@ -6,7 +6,7 @@ ghost use Rattle.std.specs.Io.KnownBytes.{IsAtEnd, Keeps};
 ghost use Rattle.model.specs.Failures.{HasRisen};
 ghost use Rattle.forms.specs.declared.fault.LineFault.{LineFault as FaultOf};
 ghost use Rattle.shards.specs.Kept.{IsKept};
-ghost use Rattle.shards.specs.Underway.{Heard, TakesOn};
+ghost use Rattle.shards.specs.Underway.{ReadSoFar, TakesOn};
 
 use crate::kept::{Lines, MOST_LINES};
 use lines::{Counted, LineRead, Part, ServeFault, fill, heard_at_end};
@@ -115,14 +115,14 @@ pub(crate) fn take_part<R: BufRead>(
     requires held { MAX_LINE_BYTES ≤ vec_capacity block.old.held }
     requires within { block.old.count + reader.old.left < 2 ^ 64 }
     ensures ok { OnOk result ((begin : Option (List ℕ)) (answered : List (List ℕ))
-        → Heard begin (R.remaining reader.old.inner) answered
+        → ReadSoFar begin (R.remaining reader.old.inner) answered
         (record {
           held = block.old.held.items;
           is_long = block.old.is_long;
           lines = block.old.lines;
           count = block.old.count;
         })
-        → Heard begin (R.remaining reader.new.inner) answered
+        → ReadSoFar begin (R.remaining reader.new.inner) answered
         (record {
           held = block.new.held.items;
           is_long = block.new.is_long;

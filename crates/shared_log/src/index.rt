@@ -1,7 +1,7 @@
 //! The places of each unit's live records.
 
 ghost use Rattle.std.specs.Prelude.{◌≡◌, ◌<◌, ◌≤◌, ◌++◌, ◌∷◌, [], ℕ, List, IfOk, OnOk, OnErr, None, take, drop};
-ghost use Rattle.std.specs.Prelude.{bytes_eq};
+ghost use Rattle.std.specs.Prelude.{bytes_eq, false, length};
 ghost use Rattle.std.specs.List.{IsDistinct};
 ghost use Rattle.indexmap.specs.IndexMap.{get, keys};
 ghost use Rattle.shared_log.specs.Index.{of_unit, listed, OtherUnits, SameLists, OtherLists};
@@ -113,7 +113,8 @@ impl Units {
 
     /// Makes lists for the units up to this one.
     fn widen(&mut self, alloc: Global, unit: Unit) -> Result<(), NoMemory>
-        ensures { (u : ℕ) → of_unit self.new u ≡ of_unit self.old u }
+        ensures lists { (u : ℕ) → of_unit self.new u ≡ of_unit self.old u }
+        ensures long { OnOk result (unit < length self.new) }
     {
         let count = usize::from(unit.number()) + 1;
         while self.units.len() < count {
@@ -129,10 +130,7 @@ impl Units {
         ensures err { OnErr result ((u : ℕ) → of_unit self.new u ≡ of_unit self.old u) }
     {
         self.widen(alloc, unit)?;
-        match self.units.get_mut(usize::from(unit.number())) {
-            Some(places) => places.push(place),
-            None => Err(NoMemory),
-        }
+        self.units[usize::from(unit.number())].push(place)
     }
 
     /// Leaves the first `keep` places of a unit.
@@ -188,13 +186,16 @@ pub(crate) fn tenants(index: &Index) -> &[TenantName]
     index.keys().as_slice()
 }
 
-/// Puts a tenant in that is not there, with no places.
-fn enter(alloc: Global, index: &mut Index, tenant: &TenantName) -> Result<(), NoMemory>
+/// Puts a tenant in that is not there, with these places.
+fn enter(index: &mut Index, tenant: &TenantName, units: Units) -> Result<(), NoMemory>
     requires { get bytes_eq index.old tenant.now ≡ None }
-    ensures lists { SameLists index.old index.new }
+    ensures own { OnOk result ((u : ℕ) → listed index.new tenant.now u ≡ of_unit units u) }
+    ensures others { (t : List ℕ) (u : ℕ) → bytes_eq t tenant.now ≡ false
+        → listed index.new t u ≡ listed index.old t u }
+    ensures err { OnErr result (SameLists index.old index.new) }
 {
     let name = tenant.copy();
-    match index.insert(name, Units::new(alloc)) {
+    match index.insert(name, units) {
         Ok(_) => Ok(()),
         Err(_) => Err(NoMemory),
     }
@@ -215,11 +216,9 @@ pub(crate) fn add(
     if let Some(units) = index.get_mut(tenant) {
         return units.add(alloc, unit, place);
     }
-    enter(alloc, index, tenant)?;
-    match index.get_mut(tenant) {
-        Some(units) => units.add(alloc, unit, place),
-        None => Err(NoMemory),
-    }
+    let mut units = Units::new(alloc);
+    units.add(alloc, unit, place)?;
+    enter(index, tenant, units)
 }
 
 /// Leaves the first `keep` places of a unit.

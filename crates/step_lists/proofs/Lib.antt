@@ -2,7 +2,7 @@
 -- Entries: the history of a book that did a list of steps (`entered`).
 -- Tenants: the same own steps lead a tenant the same way, where the store was honest and each reply is a promise
 --   (`same_course`).
--- Headline: the headline, of lists of steps (`headline_of_lists`).
+-- Headline: the headline, of lists of steps (`headline_of_lists`, `headline_of_answers`).
 pub mod Entries
 pub mod Tenants
 pub mod Headline

@@ -1,6 +1,6 @@
 //! The law.
 
-ghost use Rattle.step_lists.specs.Lists.{HeadlineOfLists};
+ghost use Rattle.step_lists.specs.Lists.{HeadlineOfAnswers, HeadlineOfLists};
 
 use handler::Handler;
 
@@ -12,4 +12,11 @@ use handler::Handler;
 /// what is released at the end.
 pub fn headline_of_lists<H: Handler>()
     ensures { HeadlineOfLists H.meaning }
+{}
+
+/// The same where a device may fail: no reply tells of memory that was missing. Each history is its list, with the
+/// replies that were given. Where the two agree on a tenant's own steps and on what the store said to each, the rest is
+/// as in `headline_of_lists`.
+pub fn headline_of_answers<H: Handler>()
+    ensures { HeadlineOfAnswers H.meaning }
 {}

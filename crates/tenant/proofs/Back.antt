@@ -8,6 +8,7 @@ use Rattle.std.specs.Option.{is_some}
 use Rattle.std.proofs.lemmas.Bool.Decides.{nat_tests}
 use Rattle.std.proofs.lemmas.List.{drop-map, take-map}
 use Rattle.std.proofs.lemmas.Option.{slice_get_within, same_Some}
+use Rattle.model.specs.declared.limits.TheConstants.{MAX_INCARNATION}
 use Rattle.model.specs.declared.names.Row.{Row}
 use Rattle.model.specs.declared.names.Start.{Start}
 use Rattle.model.specs.declared.records.Record.{Record}
@@ -488,9 +489,10 @@ module _ {S : Type 0} (M : Meaning S) (name : List ℕ)
         not_device : quiet.end ≡ Device → HasRisen before.failures after.failures
         not_device f = absurd (cc f)
 
-        no_refusal : nat_le 65535 (incarnation_of t.table u) ≡ false → first_refusal (tests_of_back k u quiet) ≡ None
-        no_refusal room = later_first (nat_le 65535 (incarnation_of k.table u))
-            Limit _ (ap (λ rows. nat_le 65535 (incarnation_of rows u)) is.table ∙ room) ∙ quiet_first
+        no_refusal : nat_le MAX_INCARNATION (incarnation_of t.table u) ≡ false
+            → first_refusal (tests_of_back k u quiet) ≡ None
+        no_refusal room = later_first (nat_le MAX_INCARNATION (incarnation_of k.table u))
+            Limit _ (ap (λ rows. nat_le MAX_INCARNATION (incarnation_of rows u)) is.table ∙ room) ∙ quiet_first
 
         to_answer : (step : TenantStep) (reply : Reply) → reply ≡ given
             → Did M name w v2 step quiet reply before after → Did M name w v step a.said a.reply before after
@@ -499,7 +501,7 @@ module _ {S : Type 0} (M : Meaning S) (name : List ℕ)
             (subst (λ (z : Reply). Did M name w v step quiet z before after) (e ∙ sym wt.reply)
             (subst (λ (z : TenantState S). Did M name w z step quiet reply before after) (sym wt.back) d))
 
-        pub restart_done : x.unit.up ≡ false → nat_le 65535 (incarnation_of t.table u) ≡ false
+        pub restart_done : x.unit.up ≡ false → nat_le MAX_INCARNATION (incarnation_of t.table u) ≡ false
             → Restarted (record { incarnation = incarnation_of t.table u + 1; index = target + 1 }) ≡ given
             → Did M name w v (Restart u) a.said a.reply before after
         restart_done down room reply =
@@ -520,7 +522,7 @@ module _ {S : Type 0} (M : Meaning S) (name : List ℕ)
             wt.grows (quiet_asked _) not_device)
 
         pub notice_done : is_some r.progress ≡ true
-            → target + 1 < places r → nat_le 65535 (incarnation_of t.table u) ≡ false
+            → target + 1 < places r → nat_le MAX_INCARNATION (incarnation_of t.table u) ≡ false
             → Noticed (Some (record { incarnation = incarnation_of t.table u + 1; index = target + 1 })) ≡ given
             → Did M name w v (Notice u) a.said a.reply before after
         notice_done up cut room reply =
@@ -557,18 +559,19 @@ module _ {S : Type 0} (M : Meaning S) (name : List ℕ)
           → Returns M name t u m target (Restarted start) a v before after
           → Did M name w v (Restart u) a.said a.reply before after
       restart_returns none start e v after a (inl wt) =
-          let f = passes (is_some r.progress) (nat_le 65535 (incarnation_of t.table u)) none in
+          let f = passes (is_some r.progress) (nat_le MAX_INCARNATION (incarnation_of t.table u)) none in
           restart_done v after a (Restarted start) wt (x.is.seen.up ∙ f.0) f.1 (ap Restarted (sym e))
       restart_returns none start e v after a (inr fl) =
-          let f = passes (is_some r.progress) (nat_le 65535 (incarnation_of t.table u)) none in
+          let f = passes (is_some r.progress) (nat_le MAX_INCARNATION (incarnation_of t.table u)) none in
           failed (Restart u) v after a fl (restart_refused
           failing Store after fl.records (λ d. fl.device) (λ is. failing_asked _ (restart_asked w u failing is))
-          (later_first x.unit.up Up _ (x.is.seen.up ∙ f.0) ∙ later_first (nat_le 65535 (incarnation_of k.table u))
-          Limit _ (ap (λ rows. nat_le 65535 (incarnation_of rows u)) is.table ∙ f.1) ∙ failing_first))
+          (later_first x.unit.up Up _ (x.is.seen.up ∙ f.0)
+          ∙ later_first (nat_le MAX_INCARNATION (incarnation_of k.table u))
+          Limit _ (ap (λ rows. nat_le MAX_INCARNATION (incarnation_of rows u)) is.table ∙ f.1) ∙ failing_first))
 
       -- A notice that cuts the path does what the definitions say, whether or not the device fails.
       pub notice_returns : is_some r.progress ≡ true → target + 1 < places r
-          → nat_le 65535 (incarnation_of t.table u) ≡ false → (start : Start) → start ≡ record {
+          → nat_le MAX_INCARNATION (incarnation_of t.table u) ≡ false → (start : Start) → start ≡ record {
             incarnation =
                 incarnation_of t.table u + 1;
             index = target + 1;
@@ -580,16 +583,16 @@ module _ {S : Type 0} (M : Meaning S) (name : List ℕ)
       notice_returns up cut room start e v after a (inr fl) =
           failed (Notice u) v after a fl (notice_refused failing Store after
           fl.records (λ d. fl.device) (λ is. failing_asked _ (notice_asked w u failing is)) up (some_cut cut)
-          (later_first (nat_le 65535 (incarnation_of k.table u))
-          Limit _ (ap (λ rows. nat_le 65535 (incarnation_of rows u)) is.table ∙ room) ∙ failing_first))
+          (later_first (nat_le MAX_INCARNATION (incarnation_of k.table u))
+          Limit _ (ap (λ rows. nat_le MAX_INCARNATION (incarnation_of rows u)) is.table ∙ room) ∙ failing_first))
 
       -- A notice that would cut the path is refused where the unit has no incarnation left.
       pub notice_worn : is_some r.progress ≡ true
-          → target + 1 < places r → nat_le 65535 (incarnation_of t.table u) ≡ true
+          → target + 1 < places r → nat_le MAX_INCARNATION (incarnation_of t.table u) ≡ true
           → Did M name w t (Notice u) quiet (Refused Limit) before before
       notice_worn up cut worn = notice_refused quiet Limit before refl (λ f. absurd (cc f))
-          (λ is. quiet_asked _) up (some_cut cut) (worn_first (nat_le 65535 (incarnation_of k.table u))
-          _ (ap (λ rows. nat_le 65535 (incarnation_of rows u)) is.table ∙ worn))
+          (λ is. quiet_asked _) up (some_cut cut) (worn_first (nat_le MAX_INCARNATION (incarnation_of k.table u))
+          _ (ap (λ rows. nat_le MAX_INCARNATION (incarnation_of rows u)) is.table ∙ worn))
 
       -- it keeps all, and learns the rows
       pub notice_learns : is_some r.progress ≡ true → places r ≤ target + 1
@@ -641,14 +644,15 @@ module _ {S : Type 0} (M : Meaning S) (name : List ℕ)
     where
       limited : (m : Member S) (found : slice_get t.members u ≡ Some m) (up worn : Bool)
           → is_some m.unit_state.progress ≡ up
-          → nat_le 65535 (incarnation_of t.table u) ≡ worn → cond up (Some Up) (cond worn (Some Limit) None) ≡ Some q
+          → nat_le MAX_INCARNATION (incarnation_of t.table u) ≡ worn
+          → cond up (Some Up) (cond worn (Some Limit) None) ≡ Some q
           → Did M name w t (Restart u) quiet (Refused q) before before
       limited m found true worn a b f = restart_refused m found
           quiet q before refl (λ d. absurd (cc d)) (λ is. quiet_asked _) (up_first _ _ ((x m found).is.seen.up ∙ a) ∙ f)
       limited m found false true a b f =
           restart_refused m found quiet q before refl (λ d. absurd (cc d)) (λ is. quiet_asked _)
           (later_first _ Up _ ((x m found).is.seen.up ∙ a)
-          ∙ worn_first _ _ (ap (λ rows. nat_le 65535 (incarnation_of rows u)) is.table ∙ b) ∙ f)
+          ∙ worn_first _ _ (ap (λ rows. nat_le MAX_INCARNATION (incarnation_of rows u)) is.table ∙ b) ∙ f)
       limited m found false false a b f = absurd (cc f)
 
       go : (o : Option (Member S)) → slice_get t.members u ≡ o
@@ -656,7 +660,7 @@ module _ {S : Type 0} (M : Meaning S) (name : List ℕ)
       go None a f = subst (λ (z : Refusal). Did M name w t (Restart u) quiet (Refused z) before before)
           (same_Some NoUnit q f) (restart_no_unit a)
       go (Some m) a f =
-          limited m a (is_some m.unit_state.progress) (nat_le 65535 (incarnation_of t.table u)) refl refl f
+          limited m a (is_some m.unit_state.progress) (nat_le MAX_INCARNATION (incarnation_of t.table u)) refl refl f
 
   -- a notice to a unit that is not there or not up
   pub notice_not_up : (q : Refusal)

@@ -17,6 +17,7 @@ use Rattle.model.specs.Nodes.{Message, letter}
 use Rattle.model.specs.Records.{vector_of}
 use Rattle.model.specs.World.{World, executed}
 use Rattle.model.specs.Steps.{accepted, deliver, deliver_to, first_refusal, if_letter, turn_tests, turn_upon_receipt}
+use Rattle.model.specs.Steps.{deliver_front}
 use Rattle.model.specs.Alone.{Reachable}
 use Rattle.model.specs.Alone.Reachable.{stepped}
 use Rattle.model.proofs.Places.{at_unit_found, get_below}
@@ -25,7 +26,7 @@ use Rattle.handler.specs.Inputs.{Input, turn_upon_input}
 use Rattle.layer_laws.specs.Laws.{stable_lengths}
 use Rattle.layer_laws.proofs.Unstable.{unstable_are_counted}
 use Rattle.compact.specs.Compact.{Compact, Content, IsContent, IsLetter, Letter, Progress, Unit}
-use Rattle.compact.specs.Steps.{Done, Receipt, accepted_of, at_unit_of, deliver_content, deliver_front, deliver_of}
+use Rattle.compact.specs.Steps.{Done, Receipt, accepted_of, at_unit_of, deliver_content, deliver_of}
 use Rattle.compact.specs.Steps.{delivered, if_letter_of, lengths_of, letter_refusal, or_next, or_refused}
 use Rattle.compact.specs.Steps.{receiving_state}
 use Rattle.compact.proofs.Receipts.{deliveries_follow}

@@ -12,13 +12,13 @@ use Rattle.model.specs.declared.steps.TenantStep.TheVariants.{Post}
 use Rattle.model.specs.Handler.{Meaning, Turn}
 use Rattle.model.specs.Nodes.{outside}
 use Rattle.model.specs.World.{World}
-use Rattle.model.specs.Steps.{accepted, first_refusal, post, post_to, turn_tests, turn_upon_receipt}
+use Rattle.model.specs.Steps.{accepted, first_refusal, post, post_to, turn_tests, turn_upon_receipt, post_front}
 use Rattle.model.specs.Alone.{Reachable}
 use Rattle.model.specs.Alone.Reachable.{stepped}
 use Rattle.model.proofs.Places.{at_unit_found}
 use Rattle.handler.specs.Inputs.{Input, turn_upon_input}
 use Rattle.compact.specs.Compact.{Compact, Progress}
-use Rattle.compact.specs.Steps.{Done, Receipt, accepted_of, at_unit_of, or_next, or_refused, post_front, post_of}
+use Rattle.compact.specs.Steps.{Done, Receipt, accepted_of, at_unit_of, or_next, or_refused, post_of}
 use Rattle.compact.specs.Steps.{post_refusal, posted, receiving_state}
 use Rattle.compact.proofs.Receipts.{posts_follow}
 use Rattle.compact.proofs.Tests.{posts_are_tested}

@@ -1,6 +1,7 @@
 -- Where the store is asked by a restart or a notice.
 use Rattle.std.proofs.Common.{◌≡◌, refl, ℕ, Bool, true, false, cond, not, ◌&&◌, if◌then◌else◌, [], ◌∷◌, length}
 use Rattle.std.specs.Prelude.{Option, Some, None, nat_le, nat_lt, slice_get}
+use Rattle.model.specs.declared.limits.TheConstants.{MAX_INCARNATION}
 use Rattle.model.specs.declared.refusals.Refusal.TheVariants.{Down, Limit, Store, Up}
 use Rattle.model.specs.declared.replies.Reply.TheVariants.{Refused}
 use Rattle.model.specs.declared.replies.Said.{Said}
@@ -37,7 +38,7 @@ notice_by w o rows true true false device never e = refl
 
 module _ (w : World) (u : ℕ) (said : Said) where
   abbrev limit : Bool
-  limit = nat_le 65535 (incarnation_of w.table u)
+  limit = nat_le MAX_INCARNATION (incarnation_of w.table u)
 
   restart_at : (back : Member → Outcome) (m : Member)
       → (unless w ((m.up, Up) ∷ going_back_tests w u said) (back m)).reply ≡ Refused Store

@@ -3,7 +3,7 @@ use Rattle.std.specs.Prelude.{◌≡◌, ℕ, ◌-◌, List, length, Option, Som
 use Rattle.handler.specs.Inputs.{Input}
 use Rattle.model.specs.Handler.{Meaning}
 use Rattle.model.specs.Nodes.{Message, turn_at}
-use Rattle.model.specs.Steps.{Outcome, first_refusal}
+use Rattle.model.specs.Steps.{Outcome, first_refusal, post_front, deliver_front}
 use Rattle.model.specs.World.{World, Member, executed}
 use Rattle.model.specs.declared.names.Source.{Source}
 use Rattle.model.specs.declared.names.Source.TheVariants.{Outside, Unit as FromUnit}
@@ -13,7 +13,6 @@ use Rattle.model.specs.declared.steps.TenantStep.{TenantStep}
 use Rattle.model.specs.declared.steps.TenantStep.TheVariants.{Open, Join, Post, Deliver, Flush, Checkpoint, Kill}
 use Rattle.model.specs.declared.steps.TenantStep.TheVariants.{Restart, Notice, Release, Status}
 use Rattle.tenant.specs.Outcomes.{done}
-use Rattle.compact.specs.Steps.{post_front, deliver_front}
 
 -- the input of the turn upon a receipt: the unit's seat and its state, where the text is from, and the text
 abbrev pub input_upon : {S : Type 0} → Meaning S → World → Member → Source → List ℕ → Input S

@@ -105,6 +105,8 @@ impl<H: Handler> Tenant<H> {
         ensures steady { (log.new.failures ≡ log.old.failures)
             ⊎ IsOkAnd result (λ o. IsSomeAnd o (λ a. a.said.end ≡ Device)) }
         ensures once { log.new.failures ≤ log.old.failures + 1 }
+        // A kill takes no memory.
+        ensures kill { (unit : ℕ) → step ≡ TenantStep.Kill unit → IsOk result }
         ensures err { OnErr result (self.new ≡ self.old) }
         ensures err_log { OnErr result (log.new.records ≡ log.old.records) }
         // A unit that gave up no text still has all of them.

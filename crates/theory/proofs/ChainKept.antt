@@ -8,6 +8,7 @@ use Rattle.std.proofs.lemmas.List.{take-append-le}
 use Rattle.std.specs.List.{fold}
 use Rattle.std.proofs.Math.Seq.{take-length}
 use native.Mathlib.Decide.{dec_lt, ℕ_discrete}
+use Rattle.model.specs.declared.limits.TheConstants.{MAX_INCARNATION}
 use Rattle.model.specs.declared.names.Row.{Row}
 use Rattle.model.specs.Handler.{Meaning}
 use Rattle.model.specs.Lists.{has}
@@ -401,7 +402,7 @@ front_row table r k h = take-append-le k table (r ∷ []) h
 module _ {S : Type 0} (M : Meaning S) where
   -- going back keeps the chain
   pub chain_back : (v : World) → Chain v → (u : ℕ) (m : Member) → slice_get v.members u ≡ Some m
-      → nat_le 65535 (incarnation_of v.table u) ≡ false → Chain (gone_back v u m (path_kept v m))
+      → nat_le MAX_INCARNATION (incarnation_of v.table u) ≡ false → Chain (gone_back v u m (path_kept v m))
   chain_back v c u m found room = record {
     sound = after_sound;
     units = λ x k e. elim (get_set v.members u x m' k e) [

@@ -4,6 +4,7 @@ use Rattle.std.proofs.Common.{List, [], ◌∷◌, length, take, arith, map}
 use Rattle.std.specs.Prelude.{Option, Some, None, slice_get, nat_lt, nat_le}
 use Rattle.std.proofs.lemmas.Bool.Decides.{nat_tests}
 use Rattle.std.proofs.lemmas.Option.{same_Some}
+use Rattle.model.specs.declared.limits.TheConstants.{MAX_INCARNATION}
 use Rattle.model.specs.declared.refusals.Refusal.{Refusal}
 use Rattle.model.specs.declared.names.Source.TheVariants.{Outside, Unit as FromUnit}
 use Rattle.model.specs.declared.replies.Said.{Said}
@@ -43,7 +44,7 @@ pub data Change {S : Type 0} (M : Meaning S) (v : World) : World → Type 0 wher
       → slice_get v.members u ≡ Some m → k ≤ length m.path - m.stable → Change M v (with_member v u (flushed m k))
   dies : (u : ℕ) (m : Member) → slice_get v.members u ≡ Some m → Change M v (with_member v u (killed m))
   goes_back : (u : ℕ) (m : Member) → slice_get v.members u ≡ Some m
-      → nat_le 65535 (incarnation_of v.table u) ≡ false → Change M v (gone_back v u m (path_kept v m))
+      → nat_le MAX_INCARNATION (incarnation_of v.table u) ≡ false → Change M v (gone_back v u m (path_kept v m))
   learns : (u : ℕ) (m : Member) → slice_get v.members u ≡ Some m
       → length m.path ≤ length (path_kept v m) → Change M v (with_member v u (with_known m (length v.table)))
   releases : (u : ℕ) (m : Member) → slice_get v.members u ≡ Some m

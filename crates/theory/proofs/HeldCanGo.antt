@@ -10,6 +10,7 @@ use Rattle.std.proofs.lemmas.Option.{slice_get_within, same_Some}
 use Rattle.std.proofs.lemmas.Bool.Decides.{nat_tests}
 use Rattle.std.proofs.lemmas.List.{length-map}
 use native.Mathlib.Decide.{dec_lt, ℕ_discrete}
+use Rattle.model.specs.declared.limits.TheConstants.{MAX_INCARNATION}
 use Rattle.model.specs.declared.names.Row.{Row}
 use Rattle.model.specs.declared.refusals.Refusal.{Refusal}
 use Rattle.model.specs.declared.steps.TenantStep.TheVariants.{Kill, Restart, Notice, Release}
@@ -64,13 +65,13 @@ kill_does : (w : World) (u : ℕ) (m : Member)
 kill_does w u m found up = ap (λ o. o.world) (at_up_found w u _ m found up)
 
 restart_does : (w : World) (u : ℕ) (m : Member)
-    → slice_get w.members u ≡ Some m → m.up ≡ false → nat_le 65535 (incarnation_of w.table u) ≡ false
+    → slice_get w.members u ≡ Some m → m.up ≡ false → nat_le MAX_INCARNATION (incarnation_of w.table u) ≡ false
     → (restart w u quiet).world ≡ Some (gone_back w u m (path_kept w m))
 restart_does w u m found down room =
     ap (λ o. o.world) (at_unit_found w u _ m found ∙ unless_pass w _ _ (down, (room, (refl, tt))))
 
 notice_does : (w : World) (u : ℕ) (m : Member)
-    → slice_get w.members u ≡ Some m → m.up ≡ true → nat_le 65535 (incarnation_of w.table u) ≡ false
+    → slice_get w.members u ≡ Some m → m.up ≡ true → nat_le MAX_INCARNATION (incarnation_of w.table u) ≡ false
     → length (path_kept w m) < length m.path → (notice w u quiet).world ≡ Some (gone_back w u m (path_kept w m))
 notice_does w u m found up room less =
     let goes : (cond (nat_lt (length (path_kept w m)) (length m.path))
@@ -94,9 +95,9 @@ down_set members u q h new x m f = elim (get_set members u x q m f) [ inl k ↦ 
 
 -- no unit's incarnation is past the last
 abbrev Limited : World → Type 0
-Limited w = (u : ℕ) → incarnation_of w.table u ≤ 65535
+Limited w = (u : ℕ) → incarnation_of w.table u ≤ MAX_INCARNATION
 
-room_left : (k : ℕ) → k ≤ 65535 → k ≢ 65535 → nat_le 65535 k ≡ false
+room_left : (k : ℕ) → k ≤ MAX_INCARNATION → k ≢ MAX_INCARNATION → nat_le MAX_INCARNATION k ≡ false
 room_left k le other = grind (arith, nat_tests)
 
 row_limited : (rows : List Row) (r : Row) (u most : ℕ)
@@ -166,8 +167,9 @@ module _ {S : Type 0} (M : Meaning S) where
   limited_change h (receives u m cause found up may) = h
   limited_change h (flushes u k m found g) = h
   limited_change h (dies u m found) = h
-  limited_change {v} h (goes_back u m found room) = λ x. row_limited v.table (row_for v u (path_kept v m)) x 65535 (h x)
-      (let t : incarnation_of v.table u < 65535 = grind (arith, nat_tests) in omega arith)
+  limited_change {v} h (goes_back u m found room) = λ x.
+      row_limited v.table (row_for v u (path_kept v m)) x MAX_INCARNATION (h x)
+      (let t : incarnation_of v.table u < MAX_INCARNATION = grind (arith, nat_tests) in omega arith)
   limited_change h (learns u m found g) = h
   limited_change h (releases u m found) = h
   limited_change h (joins kind room) = h
@@ -180,7 +182,7 @@ module _ {S : Type 0} (M : Meaning S) where
 
   -- one notice, where the past has a lost node
   notice_goes : (w : World) → Sound w → (u : ℕ) (m : Member)
-      → slice_get w.members u ≡ Some m → m.up ≡ true → nat_le 65535 (incarnation_of w.table u) ≡ false
+      → slice_get w.members u ≡ Some m → m.up ≡ true → nat_le MAX_INCARNATION (incarnation_of w.table u) ≡ false
       → (i x y : ℕ) → slice_get m.path i ≡ Some x → DependsOn w.nodes x y → Loses w.table (node_at w.nodes y)
       → (z : World) × ((notice w u quiet).world ≡ Some z)
       × ((n : Member) × (slice_get z.members u ≡ Some n) × (has n.path x ≡ false))
@@ -198,8 +200,8 @@ module _ {S : Type 0} (M : Meaning S) where
 
   -- a restart, after which the node is lost
   restart_goes : (w : World) → Chain w → (u v : ℕ) (m q : Member)
-      → u ≢ v → slice_get w.members u ≡ Some m → m.up ≡ true → nat_le 65535 (incarnation_of w.table u) ≡ false
-      → slice_get w.members v ≡ Some q → q.up ≡ false → nat_le 65535 (incarnation_of w.table v) ≡ false
+      → u ≢ v → slice_get w.members u ≡ Some m → m.up ≡ true → nat_le MAX_INCARNATION (incarnation_of w.table u) ≡ false
+      → slice_get w.members v ≡ Some q → q.up ≡ false → nat_le MAX_INCARNATION (incarnation_of w.table v) ≡ false
       → (i x y : ℕ) → slice_get m.path i ≡ Some x → DependsOn w.nodes x y
       → y < length w.nodes → (node_at w.nodes y).unit ≡ v → length q.path ≤ (node_at w.nodes y).index
       → (z : World) × ((course_from M (Some w) (record {
@@ -264,7 +266,7 @@ module _ {S : Type 0} (M : Meaning S) where
 
   -- a node that is not firm can go
   not_firm_goes : (w : World) → Chain w
-      → DownCut w → ((y : ℕ) → y < length w.members → nat_le 65535 (incarnation_of w.table y) ≡ false)
+      → DownCut w → ((y : ℕ) → y < length w.members → nat_le MAX_INCARNATION (incarnation_of w.table y) ≡ false)
       → (u : ℕ) (m : Member) → slice_get w.members u ≡ Some m → m.up ≡ true
       → (i x y : ℕ) → slice_get m.path i ≡ Some x
       → DependsOn w.nodes x y → is_stable w.members y ≡ false → CanGo M w u x
@@ -328,8 +330,8 @@ module _ {S : Type 0} (M : Meaning S) where
       three : (v : ℕ) (q : Member)
           → v < length w.members → slice_get w.members v ≡ Some q → slice_get q.path (node_at w.nodes y).index ≡ Some y
           → q.stable ≤ (node_at w.nodes y).index → q.up ≡ true → u ≢ v
-          → nat_le 65535 (incarnation_of w.table u) ≡ false
-          → nat_le 65535 (incarnation_of w.table v) ≡ false → y < length w.nodes → CanGo M w u x
+          → nat_le MAX_INCARNATION (incarnation_of w.table u) ≡ false
+          → nat_le MAX_INCARNATION (incarnation_of w.table v) ≡ false → y < length w.nodes → CanGo M w u x
       three v q vin found' e high qup other room room' yin =
           let cut : Member = killed q in
           let next = with_member w v cut in
@@ -439,7 +441,7 @@ module _ {S : Type 0} (M : Meaning S) where
 
   held_goes : (v : World) (u : ℕ) (m : Member)
       → Invariant M v → DownCut v → slice_get v.members u ≡ Some m → m.up ≡ true
-      → ((y : ℕ) → y < length (after_release v u m).members → nat_le 65535 (incarnation_of v.table y) ≡ false)
+      → ((y : ℕ) → y < length (after_release v u m).members → nat_le MAX_INCARNATION (incarnation_of v.table y) ≡ false)
       → (n : Member) → slice_get (after_release v u m).members u ≡ Some n
       → (x : ℕ) (text : List ℕ) (rest : List (ℕ × List ℕ))
       → held M (after_release v u m) n ≡ (x, text) ∷ rest → CanGo M (after_release v u m) u x
@@ -462,7 +464,7 @@ module _ {S : Type 0} (M : Meaning S) where
   -- the node of the first output held after a release can go
   pub held_can_go : HeldCanGo M
   held_can_go v w e u m r found up is h =
-      subst (λ z. ((y : ℕ) → y < length z.members → incarnation_of z.table y ≢ 65535)
+      subst (λ z. ((y : ℕ) → y < length z.members → incarnation_of z.table y ≢ MAX_INCARNATION)
       → (n : Member) → slice_get z.members u ≡ Some n
       → (x : ℕ) (text : List ℕ) (rest : List (ℕ × List ℕ)) → held M z n ≡ (x, text) ∷ rest → CanGo M z u x)
       (step_is v w e u m found up is h)

@@ -8,18 +8,16 @@ use Rattle.model.specs.declared.names.Row.{Row}
 use Rattle.model.specs.declared.names.Source.{Source}
 use Rattle.model.specs.declared.names.Source.TheVariants.{Outside, Unit as FromUnit}
 use Rattle.model.specs.declared.refusals.Refusal.{Refusal}
-use Rattle.model.specs.declared.refusals.Refusal.TheVariants.{Down, Wait, Orphan, Repeat, Pending, Limit}
-use Rattle.model.specs.declared.refusals.Refusal.TheVariants.{Quota as OverQuota, TooMuch}
+use Rattle.model.specs.declared.refusals.Refusal.TheVariants.{Down, Repeat, Limit, Quota as OverQuota, TooMuch}
 use Rattle.model.specs.Handler.{Turn}
 use Rattle.model.specs.Nodes.{sends_within}
 use Rattle.model.specs.Steps.{first_refusal, is_large, is_long}
 use Rattle.model.specs.World.{incarnation_of}
 use Rattle.depvector.specs.Vectors.{joined, widened}
-use Rattle.orphan.specs.Tests.{is_blind_by, is_orphan_by, unstable_count}
 use Rattle.session.specs.Counts.{taken_from}
 use Rattle.compact.specs.Compact.{Content, Interval, Progress}
 use Rattle.compact.specs.Laws.{firm_front}
-use Rattle.compact.specs.Steps.{or_next, tests_of_number}
+use Rattle.compact.specs.Steps.{or_next, tests_of_number, tests_of_past}
 use Rattle.rollback.specs.Units.{Recovering, places, unknown}
 
 -- ---- the tests of a receipt
@@ -52,11 +50,7 @@ pub record TenantView : Type 0 where
 -- the tests of what a letter depends on
 abbrev pub past_tests : {S : Type 0} → TenantView → ℕ → Recovering S → List Mark → List (Bool × Refusal)
 past_tests known optimism r vector =
-    (not (is_some r.progress), Down)
-    ∷ (is_blind_by (take known.rows known.table) vector, Wait)
-    ∷ (is_orphan_by (take known.rows known.table) vector, Orphan)
-    ∷ (nat_lt optimism (unstable_count known.table known.stable_lengths vector), Pending)
-    ∷ []
+    tests_of_past (is_some r.progress) (take known.rows known.table) known.table known.stable_lengths optimism vector
 
 -- the refusal of a letter before its turn; a forgotten one was taken
 abbrev pub letter_refused : {S : Type 0} → TenantView → ℕ → ℕ → Recovering S → ℕ → ℕ → Option Content → Option Refusal

@@ -3,7 +3,8 @@
 //! - `why_on` (`why`): each output that a unit holds, what it waits for, and the shortest list of steps that lets it
 //!   go;
 //! - `status_on` (`status`): a row for each unit, what is stuck longest first;
-//! - `rows`: those rows; `replaying`: the lines that are looked at, stepped anew; `values`: what is told as JSON.
+//! - `rows`: those rows; `parts`: where each tenant's entries stand; `replaying`: the lines that are looked at,
+//!   stepped anew; `values`: what is told as JSON.
 //!
 //! What is told follows from `diagram::Situation`, and the steps are those of `reasons::remedies`. No clause says
 //! that they help: `tests/views` gives them.
@@ -15,6 +16,7 @@
 //! ```
 #![tactic(auto)]
 
+mod parts;
 mod replaying;
 mod rows;
 mod status;

@@ -1,8 +1,9 @@
 //! A row for each unit of all tenants.
 
+use crate::parts::{Part, parts_of};
 use diagram::{Held, Situation, Standing};
 use handler::Handler;
-use model::{Entry, MAX_UNITS, NoMemory, Quota, Reply, Step, TenantName, Unit};
+use model::{Entry, MAX_UNITS, NoMemory, Quota, Unit};
 use std::alloc::Global;
 
 /// The first index that no entry of a history has.
@@ -53,13 +54,8 @@ pub(crate) fn rows_of<'a, H: Handler>(
     history: &'a [Entry],
 ) -> Result<Vec<Row<'a>>, NoMemory> {
     let mut rows = Vec::new(alloc);
-    for entry in history {
-        if let (Step::Open { tenant, quota, .. }, Reply::Opened { .. }) = (
-            &entry.step,
-            &entry.reply,
-        ) {
-            add_rows(alloc, handler, history, tenant, *quota, &mut rows)?;
-        }
+    for part in parts_of(alloc, history)?.values() {
+        add_rows(alloc, handler, history, part, &mut rows)?;
     }
     rows.as_mut_slice().sort_by_key(alloc, |row| row.key())?;
     Ok(rows)
@@ -70,11 +66,13 @@ fn add_rows<'a, H: Handler>(
     alloc: Global,
     handler: &H,
     history: &'a [Entry],
-    tenant: &'a TenantName,
-    quota: Quota,
+    part: &Part,
     rows: &mut Vec<Row<'a>>,
 ) -> Result<(), NoMemory> {
-    let situation = Situation::of(alloc, handler, history, tenant)?;
+    let Some((tenant, quota)) = part.opening(history) else {
+        return Ok(());
+    };
+    let situation = Situation::at(alloc, handler, history, part.places())?;
     let letters = situation.letters();
     for number in 0..MAX_UNITS as u8 {
         let unit = Unit::new(number);
@@ -83,7 +81,7 @@ fn add_rows<'a, H: Handler>(
         };
         let oldest = situation.held(alloc, unit, 1)?.pop();
         rows.push(Row {
-            tenant: tenant.as_str(),
+            tenant,
             quota,
             letters,
             standing,

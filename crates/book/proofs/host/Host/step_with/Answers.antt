@@ -1,8 +1,11 @@
-use Rattle.book.proofs.Standing.{carries_on, commits, forgoes_worked, gives_back}
+use Rattle.std.proofs.Common.{◌≡◌, ◌∙◌, sym, subst}
+use Rattle.book.specs.Entries.{IsAdded}
+use Rattle.book.specs.Standing.{Carries, IsHostOf}
+use Rattle.book.proofs.Standing.{adds, carries_on, commits, forgoes_worked, gives_back}
 use Rattle.book.proofs.host.Host.step_with.Goals as goal
 
-pub returns-in-Ok-Some : goal.returns-in-Ok-Some
-returns-in-Ok-Some g c = λ who.
+pub returns-in-Ok-Some-clause-commits : goal.returns-in-Ok-Some-clause-commits
+returns-in-Ok-Some-clause-commits g c = λ who.
     let a = c.in-Ok-Some.answer in
     let is = c.in-Ok-Some.field-0-is in
     rw c.reply_of.ensures
@@ -12,14 +15,33 @@ returns-in-Ok-Some g c = λ who.
     c.args.self.now c.answer_with.new.self who c.args.step a.said a.reply c.args.worked.input
     (rw is at c.in-Ok-Some.ensures.answered) (rw is at c.in-Ok-Some.ensures.fresh)))
 
-pub returns-in-Err : goal.returns-in-Err
-returns-in-Err g c = λ who.
+pub returns-in-Err-clause-commits : goal.returns-in-Err-clause-commits
+returns-in-Err-clause-commits g c = λ who.
     rw c.memory_reply.ensures (forgoes_worked g.H.Handler.meaning
     c.args.self.now c.answer_with.new.self who c.args.step c.args.worked.input c.in-Err.ensures.err)
 
-pub returns-in-Ok-None : goal.returns-in-Ok-None
-returns-in-Ok-None g c = λ who.
+pub returns-in-Ok-None-clause-commits : goal.returns-in-Ok-None-clause-commits
+returns-in-Ok-None-clause-commits g c = λ who.
     let is = c.in-Ok-None.field-0-is in
     gives_back g.H.Handler.meaning c.args.self.now c.answer_with.new.self who c.args.step c.args.worked.input
     (rw is at c.in-Ok-None.ensures.stale)
     (rw is at c.in-Ok-None.ensures.stale_log) (rw is at c.in-Ok-None.ensures.fresh)
+
+pub returns-in-Ok-Some-clause-kill : goal.returns-in-Ok-Some-clause-kill
+returns-in-Ok-Some-clause-kill g c = λ who tenant unit reply is told.
+    let M = g.H.Handler.meaning in
+    let a = c.in-Ok-Some.answer in
+    let same : a.reply ≡ reply = sym c.reply_of.ensures ∙ (let t = told in cc t) in
+    carries_on M {Becomes = λ before after. IsAdded before who c.args.step reply after} c.args.self.now
+    c.answer_with.new.self c.give_up_after.new.self c.give_up_after.ensures.log c.give_up_after.ensures.replay
+    (subst (λ r. Carries (IsHostOf M) (λ before after. IsAdded before who c.args.step r after)
+    c.args.self.now c.answer_with.new.self) same
+    (adds M c.args.self.now c.answer_with.new.self who c.args.step a.said a.reply
+    (rw c.in-Ok-Some.field-0-is at c.in-Ok-Some.ensures.answered)))
+
+pub returns-in-Err-clause-kill : goal.returns-in-Err-clause-kill
+returns-in-Err-clause-kill g c = λ who tenant unit reply is told.
+    absurd (let h = c.in-Err.ensures.kill tenant unit is in cc h)
+
+pub returns-in-Ok-None-clause-kill : goal.returns-in-Ok-None-clause-kill
+returns-in-Ok-None-clause-kill g c = λ who tenant unit reply is told. absurd (cc told)
