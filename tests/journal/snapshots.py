@@ -21,6 +21,7 @@ KILLED, SCRIPTS = 20, 120
 EACH = "7"
 GOES_ON = b"a snapshot stands behind %d line"
 LEFT = b"is left aside: "
+FIRST = ("steps.jsonl", "replies.jsonl")
 
 
 def killed_runs(program, room, seed):
@@ -391,6 +392,28 @@ def trims_that_fail(own):
     return count, None
 
 
+def first_form(own):
+    """A trimmed journal whose snapshot has the first form, in which forgotten letters had numbers (0.7.1 made it): a
+    run goes on from it, and the next one from the snapshot that the first left, which has the form of now."""
+    folder = os.path.join(os.path.dirname(os.path.abspath(__file__)), "..", "first-form")
+    steps, replies = (open(os.path.join(folder, name), "rb").read().splitlines(True) for name in FIRST)
+    old = Kept.__new__(Kept)
+    old.program, old.words, old.journal = own.program, (), os.path.join(own.room, "first-form")
+    for end in ("", ".about", ".snapshot", ".base"):
+        shutil.copyfile(os.path.join(folder, "journal" + end), old.journal + end)
+    before = open(old.snapshot, "rb").read()
+    half = len(steps) // 2
+    for count, (start, end, behind) in enumerate(((0, half, 35), (half, len(steps), 38 + half))):
+        out, said, status = old.run(b"".join(steps[start:end]), "-v", "--snapshot", "1")
+        if GOES_ON % behind not in said:
+            return count, f"it does not go on behind {behind} lines: {said.decode()}"
+        if status or out != b"".join(replies[start:end]):
+            return count, f"status {status}: {first_difference(out, b''.join(replies[start:end]))}"
+    if open(old.snapshot, "rb").read() == before:
+        return 2, "the snapshot is the one that was there"
+    return 2, None
+
+
 class Room:
     def __init__(self, program, room):
         self.program, self.room = program, room
@@ -408,6 +431,7 @@ def checks(program, room):
         ("memory of a snapshot that is refused", memory),
         ("journals that are trimmed", trimmed),
         ("trims that fail", trims_that_fail),
+        ("a snapshot of the first form", first_form),
     )
     killed = [
         (f"kills with snapshots of input {seed}", lambda seed=seed: killed_runs(program.path, room, seed))

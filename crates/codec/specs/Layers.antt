@@ -6,7 +6,7 @@ use Rattle.session.specs.declared.exchange.Exchange.{Exchange}
 use Rattle.session.specs.Counts.{Counts}
 use Rattle.output_commit.specs.declared.held.Held.{Held}
 use Rattle.incarnation.specs.Filed.{Ordered}
-use Rattle.compact.specs.Compact.{Content, Interval, Letter}
+use Rattle.compact.specs.Compact.{Content, Interval, CompactLetter}
 use Rattle.codec.specs.Codes.{Code, FitEach, FitMarks, FitsMark, FitsRow, FitsSome, FitsText, byte_code, bytes_code}
 use Rattle.codec.specs.Codes.{list_code, mark_code, marks_code, number_code, option_code}
 
@@ -42,17 +42,16 @@ abbrev pub FitsHeld : Held → Type 0
 FitsHeld h = FitsMark h.mark × FitsText h.text
 
 abbrev pub content_code : Code Content
-content_code c rest = bytes_code c.text (marks_code c.vector rest)
+content_code c rest = number_code c.number (bytes_code c.text (marks_code c.vector rest))
 
 abbrev pub FitsContent : Content → Type 0
-FitsContent c = FitsText c.text × FitsVector c.vector
+FitsContent c = (c.number < 2 ^ 64) × FitsText c.text × FitsVector c.vector
 
-abbrev pub letter_code : Code Letter
-letter_code l rest =
-    byte_code l.source (byte_code l.receiver (number_code l.number (option_code content_code l.content rest)))
+abbrev pub letter_code : Code CompactLetter
+letter_code l rest = byte_code l.source (byte_code l.receiver (option_code content_code l.content rest))
 
-abbrev pub FitsLetter : Letter → Type 0
-FitsLetter l = (l.source < 256) × (l.receiver < 256) × (l.number < 2 ^ 64) × FitsSome FitsContent l.content
+abbrev pub FitsLetter : CompactLetter → Type 0
+FitsLetter l = (l.source < 256) × (l.receiver < 256) × FitsSome FitsContent l.content
 
 -- ---- the table of rows
 

@@ -2,7 +2,7 @@
 //!
 //! - `Coded`: a value that can be written as bytes; `Portable`: a handler whose states can.
 //! - `encode_list`, `decode_list`, `encode_vec`, `encode_bytes`, `decode_bytes`: lists and bytes, of which other values
-//!   are made.
+//!   are made; `encode_letters`, `decode_letters`: those of a tenant.
 //! - `Input`: bytes that are left to be decoded. `DecodeFault`: why they were not.
 //!
 //! Numbers, options, pairs, texts, the names and records of `model` and the values of the layers are coded here.
@@ -15,6 +15,7 @@ mod containers;
 mod counts;
 mod fault;
 mod input;
+mod letters;
 mod names;
 mod numbers;
 mod outputs;
@@ -29,5 +30,6 @@ pub use coded::Coded;
 pub use containers::{decode_list, encode_list, encode_vec, put};
 pub use fault::DecodeFault;
 pub use input::Input;
+pub use letters::{decode_letters, encode_letters};
 pub use portable::Portable;
 pub use texts::{decode_bytes, encode_bytes};

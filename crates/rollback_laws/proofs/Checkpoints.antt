@@ -9,7 +9,7 @@ use Rattle.theory.proofs.ListLaws.{lt_false}
 use Rattle.model.specs.Handler.{Meaning}
 use Rattle.checkpoint.specs.declared.snapshot.Snapshot.{Snapshot as Shelf}
 use Rattle.checkpoint.specs.Shelves.{Shelved, IsTop, Rises, has_index, is_at, put_on, making_room}
-use Rattle.compact.specs.Compact.{Progress, Snapshot, Unit}
+use Rattle.compact.specs.Compact.{Progress, Snapshot, CompactUnit}
 use Rattle.compact.specs.Steps.{last_shelved, places as all_of, shelved_unit}
 use Rattle.compact.proofs.Words.{map_push}
 use Rattle.compact.proofs.Checkpoints.{last_greatest}
@@ -122,7 +122,7 @@ module _ {S : Type 0} (sh : Shelved (Progress S)) (b : Snapshot S) (xs : List (S
         )
   ]
 
-module _ {S : Type 0} (r : Recovering S) (x : Unit S)
+module _ {S : Type 0} (r : Recovering S) (x : CompactUnit S)
     (k : IsKept r) (s : IsSeen r x) (whole : r.volatile ≡ []) (p : Progress S) (up : r.progress ≡ Some p) where
   abbrev newest : Snapshot S
   newest = record { index = all_of x - 1; progress = x.now }

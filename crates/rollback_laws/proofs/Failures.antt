@@ -7,7 +7,7 @@ use Rattle.std.proofs.lemmas.List.{length-take-le}
 use Rattle.theory.proofs.ListLaws.{true_lt}
 use Rattle.model.specs.Handler.{Meaning}
 use Rattle.volatile_log.specs.Logs.{records_below}
-use Rattle.compact.specs.Compact.{Snapshot, Unit}
+use Rattle.compact.specs.Compact.{Snapshot, CompactUnit}
 use Rattle.compact.specs.Steps.{flushed_unit, from_outside, killed_unit}
 use Rattle.rollback.specs.Units.{Recovering, IsKept, killed_recovering, marked_stable}
 use Rattle.rollback.proofs.Cuts.{below_is, all_pass}
@@ -15,7 +15,7 @@ use Rattle.rollback_laws.specs.Seen.{IsSeen, shelved_as}
 use Rattle.rollback_laws.specs.Laws.{FlushesAreSeen, FrontiersAreSeen, KillsAreSeen}
 use Rattle.rollback_laws.proofs.Places.{base_is, shelf_low, some_stable, stable_is}
 
-module _ {S : Type 0} (r : Recovering S) (x : Unit S) (k : IsKept r) (s : IsSeen r x) where
+module _ {S : Type 0} (r : Recovering S) (x : CompactUnit S) (k : IsKept r) (s : IsSeen r x) where
   abbrev kept : ℕ
   kept = length r.intervals - length r.volatile
 

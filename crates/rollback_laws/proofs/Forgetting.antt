@@ -8,7 +8,7 @@ use Rattle.std.proofs.lemmas.List.{drop-map}
 use Rattle.theory.proofs.ListLaws.{eq_true, or_cases, true_eq}
 use Rattle.model.specs.Handler.{Meaning}
 use Rattle.checkpoint.specs.Shelves.{has_index, is_at}
-use Rattle.compact.specs.Compact.{Snapshot, Unit}
+use Rattle.compact.specs.Compact.{Snapshot, CompactUnit}
 use Rattle.compact.specs.Forgetting.{rebased}
 use Rattle.rollback.specs.Units.{Recovering, IsKept, based_on, forgotten}
 use Rattle.rollback.proofs.Cuts.{one}
@@ -31,7 +31,7 @@ found_at {S} (z ∷ xs) n e = go (z.index == n) refl (λ h. found_at xs n h) e
     go false f rest h = let r = rest h in
         (r.0, rw (one (prefix_len (λ y. not (is_at n y)) (map shelved_as xs))) r.1, r.2)
 
-module _ {S : Type 0} (r : Recovering S) (x : Unit S) (k : IsKept r)
+module _ {S : Type 0} (r : Recovering S) (x : CompactUnit S) (k : IsKept r)
     (s : IsSeen r x) (base : ℕ) (has : has_index r.shelf base ≡ true) (other : (base == r.base) ≡ false) where
   -- the index is not that of the base
   of_others : list_any (is_at base) r.shelf.others ≡ true

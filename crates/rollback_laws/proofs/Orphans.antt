@@ -10,7 +10,7 @@ use Rattle.theory.proofs.ListLaws.{get_take}
 use Rattle.model.specs.Handler.{Meaning}
 use Rattle.orphan.specs.Tests.{is_orphan_by}
 use Rattle.layer_laws.proofs.Fronts.{same_prefix}
-use Rattle.compact.specs.Compact.{Compact, Interval, Unit}
+use Rattle.compact.specs.Compact.{Compact, Interval, CompactUnit}
 use Rattle.compact.specs.Steps.{kept_places, places as all_of, vectors_behind}
 use Rattle.compact.proofs.Words.{front_goes_on}
 use Rattle.rollback.specs.Units.{Recovering, IsKept}
@@ -18,7 +18,7 @@ use Rattle.rollback_laws.specs.Seen.{IsSeen}
 use Rattle.rollback_laws.specs.Laws.{FirstOrphansAreSeen, OrphansAreSeen}
 use Rattle.rollback_laws.proofs.Places.{base_is, places_are}
 
-module _ {S : Type 0} (r : Recovering S) (x : Unit S)
+module _ {S : Type 0} (r : Recovering S) (x : CompactUnit S)
     (k : IsKept r) (s : IsSeen r x) (c : Compact S) (low : x.base.index ≤ x.frontier) (high : x.frontier ≤ all_of x)
     (clean : (i : ℕ) (v : Interval) → i < x.frontier - x.base.index
     → slice_get r.intervals i ≡ Some v → is_orphan_by c.table v.vector ≡ false) where

@@ -6,13 +6,13 @@ use Rattle.theory.proofs.ListLaws.{at_map, map_at}
 use Rattle.model.specs.Handler.{Meaning}
 use Rattle.checkpoint.specs.declared.snapshot.Snapshot.{Snapshot as Shelf}
 use Rattle.checkpoint.specs.Shelves.{IsShelved}
-use Rattle.compact.specs.Compact.{Progress, Snapshot, Unit}
+use Rattle.compact.specs.Compact.{Progress, Snapshot, CompactUnit}
 use Rattle.compact.specs.Steps.{places as all_of}
 use Rattle.rollback.specs.Units.{Recovering, IsKept, places}
 use Rattle.rollback_laws.specs.Seen.{HasPlaces, IsSeen, shelved_as}
 use Rattle.rollback_laws.specs.Laws.{PlacesAreSeen}
 
-module _ {S : Type 0} (r : Recovering S) (x : Unit S) (k : IsKept r) (s : IsSeen r x) where
+module _ {S : Type 0} (r : Recovering S) (x : CompactUnit S) (k : IsKept r) (s : IsSeen r x) where
   -- The base of a compact unit has the index of the recovery unit's base.
   pub base_is : x.base.index ≡ r.base
   base_is =

@@ -6,7 +6,7 @@ use Rattle.std.proofs.lemmas.Option.{get_or_from_slice_get}
 use Rattle.theory.proofs.ListLaws.{at_map}
 use Rattle.model.specs.Handler.{Meaning}
 use Rattle.handler.specs.Inputs.{Input, turn_upon_input}
-use Rattle.compact.specs.Compact.{Compact, Interval, Progress, Unit}
+use Rattle.compact.specs.Compact.{Compact, Interval, Progress, CompactUnit}
 use Rattle.compact.specs.Laws.{replayed_one}
 use Rattle.compact.specs.Steps.{Receipt, last_vector, next_record, next_vector, no_letter, receiving_unit}
 use Rattle.rollback.specs.Units.{Recovering, IsKept, places, took}
@@ -15,7 +15,7 @@ use Rattle.rollback_laws.specs.Laws.{LastVectorsAreSeen, MarksAreSeen, ReceiptsA
 use Rattle.rollback_laws.proofs.Lists.{mapped, still_some}
 use Rattle.rollback_laws.proofs.Places.{places_are, some_stable, stable_is}
 
-module _ {S : Type 0} (M : Meaning S) (r : Recovering S) (x : Unit S) (k : IsKept r) (s : IsSeen r x) where
+module _ {S : Type 0} (M : Meaning S) (r : Recovering S) (x : CompactUnit S) (k : IsKept r) (s : IsSeen r x) where
   module _ (name : List ℕ) (c : Compact S) (u : ℕ) (q : Receipt) where
     took_stable : x.stable ≡ (r.base + length (r.intervals ++ record {
       vector = next_vector c u x q;

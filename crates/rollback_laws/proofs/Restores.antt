@@ -14,7 +14,7 @@ use Rattle.checkpoint.specs.Shelves.{nearest_of}
 use Rattle.checkpoint.proofs.Nearest.{nearest_none, nearest_some}
 use Rattle.volatile_log.specs.Logs.{records_below}
 use Rattle.layer_laws.proofs.Fronts.{same_front}
-use Rattle.compact.specs.Compact.{Compact, Progress, Snapshot, Unit, fitted}
+use Rattle.compact.specs.Compact.{Compact, Progress, Snapshot, CompactUnit, fitted}
 use Rattle.compact.specs.Laws.{replayed}
 use Rattle.compact.specs.Steps.{back_unit, from_outside, kept_places}
 use Rattle.compact.specs.StepLaws.{IsFetched, IsRebuilt}
@@ -26,7 +26,7 @@ use Rattle.rollback_laws.proofs.Lists.{take_append}
 use Rattle.rollback_laws.proofs.Places.{base_is, high, low, shelved_there, some_stable, stable_is}
 
 module _ {S : Type 0} (r : Recovering S)
-    (x : Unit S) (k : IsKept r) (s : IsSeen r x) (target : ℕ) (t : IsTarget r target) where
+    (x : CompactUnit S) (k : IsKept r) (s : IsSeen r x) (target : ℕ) (t : IsTarget r target) where
   -- ---- where it begins
 
   nearest_there : (y : Shelf (Progress S)) × (nearest_of r.shelf target ≡ Some y)
@@ -147,7 +147,7 @@ module _ {S : Type 0} (r : Recovering S)
           ∙ ap (take (n - 1 - b.index)) (sym (drop-append-le (b.index - x.base.index)
           (map (slice_get log) x.live) (map (λ q. Some q) x.volatile) (omega (arith, d, e, f))))
 
-module _ {S : Type 0} (M : Meaning S) (r : Recovering S) (x : Unit S) (k : IsKept r)
+module _ {S : Type 0} (M : Meaning S) (r : Recovering S) (x : CompactUnit S) (k : IsKept r)
     (s : IsSeen r x) (c : Compact S) (target : ℕ) (t : IsTarget r target) (last : target + 1 ≡ kept_places c x)
     (b : Snapshot S) (begin : BeginsAt r c x target b) (log fetched : List Record)
     (long : length x.live ≡ x.stable - 1 - x.base.index) (read : IsRead c x log b fetched) where

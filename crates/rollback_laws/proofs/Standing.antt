@@ -16,7 +16,7 @@ use Rattle.theory.proofs.ListLaws.{get_drop, map_at, take_get, take_while_le}
 use Rattle.theory.proofs.VectorLaw.{vectors_tell}
 use Rattle.orphan.specs.Tests.{is_orphan_by}
 use Rattle.layer_laws.specs.Laws.{frontier}
-use Rattle.compact.specs.Compact.{Compact, Interval, IsUnit, Represents, Unit, interval_of}
+use Rattle.compact.specs.Compact.{Compact, Interval, IsUnit, Represents, CompactUnit, interval_of}
 use Rattle.compact.specs.Steps.{kept_places, places as all_of}
 use Rattle.compact.specs.StepLaws.{StandsCompact}
 use Rattle.compact.proofs.Tails.{before_frontier, firm_no_orphan, orphans_are_tails}
@@ -28,7 +28,7 @@ use Rattle.rollback_laws.specs.Laws.{UnitsAreReady}
 use Rattle.rollback_laws.proofs.Places.{base_is, places_are as places_seen}
 
 module _ {S : Type 0} (M : Meaning S) (name : List ℕ) (k : Compact S)
-    (w : World) (log : List Record) (stands : StandsCompact M name k w log) (u : ℕ) (m : Member) (x : Unit S)
+    (w : World) (log : List Record) (stands : StandsCompact M name k w log) (u : ℕ) (m : Member) (x : CompactUnit S)
     (found : slice_get w.members u ≡ Some m)
     (at : slice_get k.units u ≡ Some x) (r : Recovering S) (kept : IsKept r) (s : IsSeen r x) where
   reached : Reachable M w

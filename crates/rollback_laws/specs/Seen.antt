@@ -7,7 +7,7 @@ use Rattle.model.specs.Handler.{Meaning}
 use Rattle.checkpoint.specs.declared.snapshot.Snapshot.{Snapshot as Shelf}
 use Rattle.checkpoint.specs.Shelves.{nearest_of}
 use Rattle.orphan.specs.Tests.{is_orphan_by}
-use Rattle.compact.specs.Compact.{Compact, Interval, Progress, Snapshot, Unit}
+use Rattle.compact.specs.Compact.{Compact, Interval, Progress, Snapshot, CompactUnit}
 use Rattle.compact.specs.Steps.{back_unit, kept_places, places as all_of}
 use Rattle.compact.specs.StepLaws.{IsRebuilt}
 use Rattle.rollback.specs.Units.{Recovering, IsTarget, OrphansAreTail, places as all_places, restored, stable_places}
@@ -18,7 +18,7 @@ shelved_as s = record { index = s.index; state = s.progress }
 
 -- The recovery unit keeps this unit of the compact state. How many rows the unit knows, its frontier, the places of its
 -- records in the log, and its outputs are kept elsewhere.
-pub record IsSeen {S : Type 0} (r : Recovering S) (x : Unit S) : Type 0 where
+pub record IsSeen {S : Type 0} (r : Recovering S) (x : CompactUnit S) : Type 0 where
   pub seat : x.seat ≡ r.seat
   pub up : x.up ≡ is_some r.progress
   pub now : (p : Progress S) → r.progress ≡ Some p → x.now ≡ p
@@ -30,7 +30,7 @@ pub record IsSeen {S : Type 0} (r : Recovering S) (x : Unit S) : Type 0 where
   pub volatile : x.volatile ≡ r.volatile
 
 -- the same base, as many places, and as many that are not stable
-pub record HasPlaces {S : Type 0} (r : Recovering S) (x : Unit S) : Type 0 where
+pub record HasPlaces {S : Type 0} (r : Recovering S) (x : CompactUnit S) : Type 0 where
   pub base : x.base.index ≡ r.base
   pub long : all_of x ≡ all_places r
   pub unstable : all_of x - x.stable ≡ length r.volatile
@@ -38,21 +38,22 @@ pub record HasPlaces {S : Type 0} (r : Recovering S) (x : Unit S) : Type 0 where
 -- ---- going back
 
 -- this snapshot of the unit is the one from which it goes back to the target, the last place that is kept
-pub record BeginsAt {S : Type 0} (r : Recovering S) (k : Compact S) (x : Unit S) (target : ℕ)
+pub record BeginsAt {S : Type 0} (r : Recovering S) (k : Compact S) (x : CompactUnit S) (target : ℕ)
     (s : Snapshot S) : Type 0 where
   pub there : (s ≡ x.base) ⊎ ((i : ℕ) × (slice_get x.shelf i ≡ Some s))
   pub nearest : nearest_of r.shelf target ≡ Some (shelved_as s)
   pub within : s.index < kept_places k x
 
 -- these records are the stable ones behind the snapshot that are kept, as the log has them
-abbrev pub IsRead : {S : Type 0} → Compact S → Unit S → List Record → Snapshot S → List Record → Type 0
+abbrev pub IsRead : {S : Type 0} → Compact S → CompactUnit S → List Record → Snapshot S → List Record → Type 0
 IsRead k x log s fetched =
     map (λ q. Some q) fetched
     ≡ take (min (kept_places k x) x.stable - 1 - s.index)
     (drop (s.index - x.base.index) (map (slice_get log) x.live))
 
 -- what the unit is rebuilt to with these records is what replay gives, and is seen then
-pub record IsRestored {S : Type 0} (M : Meaning S) (r : Recovering S) (k : Compact S) (x : Unit S) (log : List Record)
+pub record IsRestored {S : Type 0} (M : Meaning S) (r : Recovering S) (k : Compact S) (x : CompactUnit S)
+    (log : List Record)
     (target : ℕ) (fetched : List Record) : Type 0 where
   pub progress : Progress S
   pub there : (restored M r target (length k.units) fetched).progress ≡ Some progress
@@ -62,12 +63,12 @@ pub record IsRestored {S : Type 0} (M : Meaning S) (r : Recovering S) (k : Compa
 -- ---- what holds of a unit of a tenant
 
 -- no interval that the unit keeps below its frontier is an orphan
-abbrev pub IsClean : {S : Type 0} → Recovering S → Compact S → Unit S → Type 0
+abbrev pub IsClean : {S : Type 0} → Recovering S → Compact S → CompactUnit S → Type 0
 IsClean r k x = (i : ℕ) (v : Interval) → i < x.frontier - x.base.index → slice_get r.intervals i ≡ Some v
     → is_orphan_by k.table v.vector ≡ false
 
 -- what the search for the first orphan, going back, and the laws of both ask for
-pub record IsReady {S : Type 0} (r : Recovering S) (k : Compact S) (x : Unit S) : Type 0 where
+pub record IsReady {S : Type 0} (r : Recovering S) (k : Compact S) (x : CompactUnit S) : Type 0 where
   pub firm_base : x.base.index < x.frontier
   pub front : x.frontier ≤ all_of x
   pub clean : IsClean r k x

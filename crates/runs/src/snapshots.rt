@@ -10,7 +10,7 @@ use files::{
 };
 use log::{Log, error, info, warn};
 use shared_log::MemoryStore;
-use snapshot::{load, save};
+use snapshot::{LoadFault, load, load_first, save};
 use std::alloc::Global;
 use std::fmt::Display;
 use std::fs::{File, Files};
@@ -85,7 +85,7 @@ impl<'a, F: Files<File = File>> Snapshots<'a, F> {
             host,
             ..
         } = self.fit(told, found, asked)?;
-        let host = match load(alloc, handler, self.about, host.as_slice()) {
+        let host = match loaded(alloc, handler, self.about, host.as_slice()) {
             Ok(host) => host,
             Err(fault) => {
                 self.leave(told, &fault);
@@ -165,7 +165,7 @@ pub fn trim_on<L: Log, F: Files<File = File> + Clock, H: Portable + Copy>(
             return Err(1);
         }
     };
-    match load(alloc, handler, about, found.host.as_slice()) {
+    match loaded(alloc, handler, about, found.host.as_slice()) {
         Ok(host) => mem::forget(host),
         Err(fault) => {
             error!(told; "the snapshot beside the journal {path:?} can't be gone on from: {fault}");
@@ -174,6 +174,19 @@ pub fn trim_on<L: Log, F: Files<File = File> + Clock, H: Portable + Copy>(
     }
     let count = trim_journal(files, told, alloc, locked, &found)?;
     Ok((count, found.stand.lines))
+}
+
+/// The host of a snapshot, of the form that is written now or of the first.
+fn loaded<H: Portable + Copy>(
+    alloc: Global,
+    handler: H,
+    about: &str,
+    bytes: &[u8],
+) -> Result<Host<H, MemoryStore>, LoadFault> {
+    match load(alloc, handler, about, bytes) {
+        Err(LoadFault::AnotherVersion) => load_first(alloc, handler, about, bytes),
+        loaded => loaded,
+    }
 }
 
 /// What a driver remembers by these bytes, where the run drives.

@@ -1,5 +1,5 @@
 -- What units gave up and released, as one list of pairs and as two lists.
-use Rattle.std.proofs.Common.{◌≡◌, refl, sym, ◌∙◌, ap, ℕ, ◌+◌, List, [], ◌∷◌, map, length, arith}
+use Rattle.std.proofs.Common.{◌≡◌, refl, sym, ◌∙◌, ap, ℕ, List, [], ◌∷◌, map, length, arith}
 use Rattle.output_commit.specs.Holds.{Line}
 use Rattle.tenant.specs.Kept.{gone_of, released_of}
 use Rattle.snapshot.specs.Parts.{pairs_of}

@@ -1,5 +1,5 @@
 -- Laws of lists of which each item has a relation to each behind it.
-use Rattle.std.proofs.Common.{◌≡◌, refl, sym, ap, subst, ℕ, zero, suc, ◌<◌, List, [], ◌∷◌, ◌++◌, drop, take, length}
+use Rattle.std.proofs.Common.{◌≡◌, sym, subst, ℕ, zero, suc, ◌<◌, List, [], ◌∷◌, ◌++◌, drop, take, length}
 use Rattle.std.proofs.Common.{arith}
 use Rattle.std.proofs.Common.{slice_index_or, bytes_eq}
 use Rattle.std.specs.Prelude.{All, AllPairs, ◌≢◌}

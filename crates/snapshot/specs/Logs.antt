@@ -1,5 +1,5 @@
 -- How the log of a host is written as bytes.
-use Rattle.std.specs.Prelude.{◌≡◌, ℕ, ◌<◌, ◌+◌, ◌^◌, All, AllPairs, List, [], ◌++◌, Option, length, zero, suc}
+use Rattle.std.specs.Prelude.{◌≡◌, ℕ, ◌<◌, ◌^◌, All, AllPairs, List, [], ◌++◌, Option, length, zero, suc}
 use Rattle.model.specs.declared.records.Record.{Record}
 use Rattle.shared_log.specs.Filled.{AreLiveIn, HaveAllLive, LeavesRoom}
 use Rattle.shared_log.specs.Logged.{Logged, places_of}

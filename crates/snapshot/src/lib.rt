@@ -2,6 +2,7 @@
 //!
 //! - `save`, `load`: a host with its records in memory as bytes, and the host of such bytes, which is an equal one and
 //!   so the replay of the same histories.
+//! - `load_first`: the host of bytes of the form's first version, by no law.
 //! - `LoadFault`: why bytes aren't those of a host.
 //!
 //! The bytes are `RECALLSN`, the version of the form, a SHA-256 digest of all that follows it, a name of the handler
@@ -10,6 +11,7 @@
 #![tactic(auto)]
 
 mod entries;
+mod first_form;
 mod holds;
 mod load_fault;
 mod log;
@@ -21,5 +23,6 @@ mod sealing;
 mod tenants;
 mod unit;
 
+pub use first_form::load_first;
 pub use load_fault::LoadFault;
 pub use saved::{load, save};

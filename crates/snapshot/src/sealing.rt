@@ -14,7 +14,7 @@ use sha2::{Digest, Sha256};
 use std::alloc::Global;
 
 /// The version of the form.
-const VERSION: u8 = 1;
+const VERSION: u8 = 2;
 
 /// Appends the head.
 fn encode_head(out: &mut Vec<u8>) -> Result<(), NoMemory>
@@ -45,9 +45,10 @@ pub(crate) fn sealed(alloc: Global, body: &[u8]) -> Result<Vec<u8>, NoMemory>
     Ok(all)
 }
 
-/// Takes the head off the input.
-fn check_head(input: &mut Input) -> Result<(), LoadFault>
-    ensures ok { IfOk result (λ _. (rest : List ℕ) → input.old ≡ head_code rest → rest ≡ input.new) }
+/// Takes the head off the input, and tells which version of the form follows.
+pub(crate) fn head_version(input: &mut Input) -> Result<u8, LoadFault>
+    ensures ok { IfOk result (λ version. (rest : List ℕ) → input.old ≡ head_code rest → rest ≡ input.new) }
+    ensures version { IfOk result (λ version. (rest : List ℕ) → input.old ≡ head_code rest → version ≡ VERSION) }
     ensures err { IfErr result (λ _. (rest : List ℕ) → input.old ≢ head_code rest) }
 {
     let Ok(head) = input.eight() else {
@@ -57,14 +58,22 @@ fn check_head(input: &mut Input) -> Result<(), LoadFault>
         return Err(LoadFault::NotASnapshot);
     }
     let version = input.byte()?;
-    if version != VERSION {
+    Ok(version)
+}
+
+/// Takes the head off the input.
+fn check_head(input: &mut Input) -> Result<(), LoadFault>
+    ensures ok { IfOk result (λ _. (rest : List ℕ) → input.old ≡ head_code rest → rest ≡ input.new) }
+    ensures err { IfErr result (λ _. (rest : List ℕ) → input.old ≢ head_code rest) }
+{
+    if head_version(input)? != VERSION {
         return Err(LoadFault::AnotherVersion);
     }
     Ok(())
 }
 
 /// Takes the digest of what follows off the input.
-fn check_digest(alloc: Global, input: &mut Input) -> Result<(), LoadFault>
+pub(crate) fn check_digest(alloc: Global, input: &mut Input) -> Result<(), LoadFault>
     ensures ok { IfOk result (λ _. (digest rest : List ℕ) → length digest < 2 ^ 64
         → input.old ≡ bytes_code digest rest → rest ≡ input.new) }
     ensures err { IfErr result (λ e. (rest : List ℕ) → length (sha256 rest) < 2 ^ 64
@@ -79,7 +88,7 @@ fn check_digest(alloc: Global, input: &mut Input) -> Result<(), LoadFault>
 }
 
 /// Takes which handler it is about off the input, which must be this one.
-fn check_about(alloc: Global, input: &mut Input, about: &str) -> Result<(), LoadFault>
+pub(crate) fn check_about(alloc: Global, input: &mut Input, about: &str) -> Result<(), LoadFault>
     ensures ok { IfOk result (λ _. (named rest : List ℕ) → length named < 2 ^ 64
         → input.old ≡ bytes_code named rest → rest ≡ input.new) }
     ensures named { IfOk result (λ _. (named rest : List ℕ) → length named < 2 ^ 64

@@ -8,13 +8,14 @@ ghost use Rattle.tenant.specs.Kept.{gone_of, released_of};
 
 use crate::members::{decode_members, encode_members};
 use crate::outlets::{decode_outlet, encode_outlet};
-use codec::{Coded, DecodeFault, Input, Portable, decode_list, encode_vec};
+use codec::{
+    Coded, DecodeFault, Input, Portable, decode_letters, decode_list, encode_letters, encode_vec,
+};
 use incarnation::StartTable;
 use model::{NoMemory, Quota};
 use output_commit::Outlet;
 use std::alloc::Global;
 use tenant::Tenant;
-use unit_steps::SentLetter;
 
 /// Appends the bytes of what the units of a tenant gave up and released.
 fn encode_lines(outlet: &Outlet, out: &mut Vec<u8>) -> Result<(), NoMemory>
@@ -54,7 +55,7 @@ pub(crate) fn encode_tenant<H: Portable>(
     encode_vec(&tenant.stable_lengths, out)?;
     encode_vec(&tenant.frontiers, out)?;
     encode_lines(&tenant.outlet, out)?;
-    encode_vec(&tenant.letters, out)?;
+    encode_letters(&tenant.letters, out)?;
     Ok(())
 }
 
@@ -75,7 +76,7 @@ pub(crate) fn decode_tenant<H: Portable>(
     let stable_lengths = decode_list::<u64>(alloc, input)?;
     let frontiers = decode_list::<u64>(alloc, input)?;
     let outlet = decode_lines(alloc, input)?;
-    let letters = decode_list::<SentLetter>(alloc, input)?;
+    let letters = decode_letters(alloc, input)?;
     Ok(Tenant {
         quota,
         optimism,

@@ -15,7 +15,7 @@ use Rattle.model.specs.World.{World, Member as WorldMember}
 use Rattle.model.specs.Steps.{Outcome, at_unit, first_refusal, if_unit, outcome_or}
 use Rattle.model.proofs.Places.{get_below}
 use Rattle.handler.specs.Inputs.{Input}
-use Rattle.compact.specs.Compact.{IsUnit, Progress, Unit, progress_after}
+use Rattle.compact.specs.Compact.{IsUnit, Progress, CompactUnit, progress_after}
 use Rattle.compact.specs.Steps.{or_next}
 use Rattle.compact.proofs.Receipts.{refusal_append}
 use Rattle.rollback.specs.Units.{Recovering, asking, places}
@@ -56,7 +56,7 @@ asking_at t u m n refusal source text at there passes room (Err r) a = tt
 
 -- the unit of the world
 pub record Shown {S : Type 0} (M : Meaning S)
-    (name : List ℕ) (w : World) (log : List Record) (u : ℕ) (x : Unit S) : Type 0 where
+    (name : List ℕ) (w : World) (log : List Record) (u : ℕ) (x : CompactUnit S) : Type 0 where
   pub member : WorldMember
   pub at : slice_get w.members u ≡ Some member
   pub is : IsUnit M name w log member x
@@ -81,7 +81,7 @@ module _ {S : Type 0} (M : Meaning S) (name : List ℕ) (live : ℕ → List ℕ
     | no q ↦ slice_get_past w.members u (omega (arith, q))
   ]
     where
-      different : (x : Unit S) → Some x ≡ None → ⊥
+      different : (x : CompactUnit S) → Some x ≡ None → ⊥
       different x e = cc e
 
   -- the input that is asked for is that of the world

@@ -32,8 +32,9 @@ use Rattle.theory.proofs.ListLaws.{get_set, set_get_other, set_get_same, true_lt
 use Rattle.shared_log.specs.Logged.{Grows, IsLeftOf, Logged, places_of}
 use Rattle.shared_log.proofs.LeftLaws.{same_grows}
 use Rattle.orphan.specs.Tests.{is_orphan_by}
-use Rattle.compact.specs.Compact.{Compact, Interval, Progress, Snapshot, Unit}
-use Rattle.compact.specs.Steps.{Done, at_unit_of, back_state, back_unit, first_progress, kept_places, knowing_unit}
+use Rattle.compact.specs.Compact.{Compact, Interval, Progress, Snapshot, CompactUnit}
+use Rattle.compact.specs.Steps.{StepResult, at_unit_of, back_state, back_unit, first_progress, kept_places}
+use Rattle.compact.specs.Steps.{knowing_unit}
 use Rattle.compact.specs.Steps.{notice_of, or_refused, places as all_of, rebuilt, restart_of, row_to, tests_of_back}
 use Rattle.compact.specs.Steps.{with_unit_at}
 use Rattle.compact.specs.StepLaws.{IsRebuilt, StandsCompact}
@@ -194,16 +195,16 @@ module _ {S : Type 0} (M : Meaning S) (name : List ℕ)
     r = m.unit_state
 
     -- what a notice does where it cuts, and where it cuts nothing
-    abbrev going : Said → Progress S → Done S
+    abbrev going : Said → Progress S → StepResult S
     going said progress = or_refused k (record {
       reply = Noticed (Some (start_of (row_to k u (kept_places k x.unit))));
       state = back_state k u x.unit progress;
     }) (first_refusal (tests_of_back k u said))
 
-    abbrev staying : Done S
+    abbrev staying : StepResult S
     staying = record { reply = Noticed None; state = with_unit_at k u (knowing_unit k x.unit) }
 
-    only : (P : Unit S → Type 0) → P x.unit → (y : Unit S) → slice_get k.units u ≡ Some y → P y
+    only : (P : CompactUnit S → Type 0) → P x.unit → (y : CompactUnit S) → slice_get k.units u ≡ Some y → P y
     only P p y at = subst P (same_Some x.unit y (sym x.at ∙ at)) p
 
     -- refused whatever the store said
@@ -218,7 +219,8 @@ module _ {S : Type 0} (M : Meaning S) (name : List ℕ)
           whole (restart w u said) (reach_restart said) _ (record { reply = Refused q; state = k })
           (restarts_follow M name k w whole st u said some_progress
           (λ y at none. absurd (none_or_some (first_refusal ((x.unit.up, Up) ∷ tests_of_back k u said)) q
-          (ap (λ (z : Unit S). first_refusal ((z.up, Up) ∷ tests_of_back k u said)) (same_Some x.unit y (sym x.at ∙ at))
+          (ap (λ (z : CompactUnit S). first_refusal ((z.up, Up) ∷ tests_of_back k u said))
+          (same_Some x.unit y (sym x.at ∙ at))
           ∙ none) e)))
           (ap (at_unit_of k (restart_of k u said some_progress)) x.at
           ∙ ap (or_refused k _) e) t (same_live after records))
@@ -348,7 +350,7 @@ module _ {S : Type 0} (M : Meaning S) (name : List ℕ)
         abbrev q : Member S
         q = returned_member m target wt.progress (length t.table + 1)
 
-        abbrev after_unit : Unit S
+        abbrev after_unit : CompactUnit S
         after_unit = back_unit k x.unit p
 
         seen_after : IsSeen (returned r target wt.progress) after_unit
@@ -458,14 +460,14 @@ module _ {S : Type 0} (M : Meaning S) (name : List ℕ)
           letters = is.letters;
         }
           where
-            own_stands : (c : ℕ) (n : Member S) (z : Unit S)
+            own_stands : (c : ℕ) (n : Member S) (z : CompactUnit S)
                 → c ≡ u → n ≡ q → z ≡ after_unit → IsMember v2 (live_in name after.records) c n z
             own_stands c n z e f g =
-                subst (λ (z : Unit S). IsMember v2 (live_in name after.records) c n z) (sym g)
+                subst (λ (z : CompactUnit S). IsMember v2 (live_in name after.records) c n z) (sym g)
                 (subst (λ (n : Member S). IsMember v2 (live_in name after.records) c n after_unit) (sym f)
                 (subst (λ (c : ℕ). IsMember v2 (live_in name after.records) c q after_unit) (sym e) one))
 
-            other_stands : (c : ℕ) (n : Member S) (z : Unit S)
+            other_stands : (c : ℕ) (n : Member S) (z : CompactUnit S)
                 → (c ≡ u → ⊥) → IsMember t live c n z → IsMember v2 (live_in name after.records) c n z
             other_stands c n z other i = record {
               kept = i.kept;
@@ -515,7 +517,7 @@ module _ {S : Type 0} (M : Meaning S) (name : List ℕ)
               state = state;
             })
             (restarts_follow M name k w whole st u quiet p (λ y at none. only
-            (λ (z : Unit S). IsRebuilt M k z whole p) back.rebuilt y at))
+            (λ (z : CompactUnit S). IsRebuilt M k z whole p) back.rebuilt y at))
             (ap (at_unit_of k (restart_of k u quiet p)) x.at ∙ ap (or_refused k _) (later_first x.unit.up Up _ down
             ∙ no_refusal room) ∙ (λ i. record { reply = Restarted (start_is i); state = state }))
             v2 is_after)
@@ -536,7 +538,7 @@ module _ {S : Type 0} (M : Meaning S) (name : List ℕ)
               state = state;
             })
             (notices_follow M name k w whole st u quiet p (λ y at less none. only
-            (λ (z : Unit S). IsRebuilt M k z whole p) back.rebuilt y at))
+            (λ (z : CompactUnit S). IsRebuilt M k z whole p) back.rebuilt y at))
             (is_up t live k is u (notice_of k u quiet p) m x up ∙ ap (λ c. cond c (going quiet p) staying) (true_lt
             (kept_places k x.unit) (all_of x.unit) (some_cut cut)) ∙ ap (or_refused k _) (no_refusal room)
             ∙ (λ i. record { reply = Noticed (Some (start_is i)); state = state }))
@@ -630,11 +632,11 @@ module _ {S : Type 0} (M : Meaning S) (name : List ℕ)
           })))
           unchanged (quiet_asked _) (λ f. absurd (cc f))
         where
-          not_cut : (y : Unit S) → slice_get k.units u ≡ Some y → kept_places k y < all_of y → ⊥
+          not_cut : (y : CompactUnit S) → slice_get k.units u ≡ Some y → kept_places k y < all_of y → ⊥
           not_cut y at less =
               let e = same_Some x.unit y (sym x.at ∙ at) in
               let h : kept_places k x.unit < all_of x.unit =
-              subst (λ (z : Unit S). kept_places k z < all_of z) (sym e) less in
+              subst (λ (z : CompactUnit S). kept_places k z < all_of z) (sym e) less in
               none_true (true_lt (kept_places k x.unit) (all_of x.unit) h) (all_kept whole_path)
 
   -- A restart that is refused whatever the store says is refused as the definitions say.
@@ -667,7 +669,8 @@ module _ {S : Type 0} (M : Meaning S) (name : List ℕ)
       → up_refusal (slice_get t.members u) ≡ Some q → Did M name w t (Notice u) quiet (Refused q) before before
   notice_not_up q e = go (slice_get t.members u) refl
     where
-      refused : (progress : Progress S) → ((y : Unit S) → slice_get k.units u ≡ Some y → IsRebuilt M k y whole progress)
+      refused : (progress : Progress S) → ((y : CompactUnit S) → slice_get k.units u ≡ Some y
+          → IsRebuilt M k y whole progress)
           → Did M name w t (Notice u) quiet (Refused q) before before
       refused progress rebuilds =
           closes (Notice u) quiet (Refused q) t before
@@ -686,4 +689,4 @@ module _ {S : Type 0} (M : Meaning S) (name : List ℕ)
           M name k w whole st u y (x m a).at y.base (inl refl) (bases_serve M name k w whole st u y (x m a).at) in
           let p = rebuilt M k y y.base served.0 in
           refused p (λ z at. only m a
-          (λ (z : Unit S). IsRebuilt M k z whole p) (y.base, (served.0, served.1, refl)) z at)
+          (λ (z : CompactUnit S). IsRebuilt M k z whole p) (y.base, (served.0, served.1, refl)) z at)

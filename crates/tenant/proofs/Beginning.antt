@@ -18,7 +18,7 @@ use Rattle.model.specs.Steps.{can_open, kind_or_0, open_new, opened_with}
 use Rattle.model.specs.Alone.Reachable.{opened}
 use Rattle.theory.proofs.ListLaws.{get_append}
 use Rattle.checkpoint.specs.declared.snapshot.Snapshot.{Snapshot}
-use Rattle.compact.specs.Compact.{Compact, Progress, Unit}
+use Rattle.compact.specs.Compact.{Compact, Progress, CompactUnit}
 use Rattle.compact.specs.Steps.{first_unit, opened_of, with_first}
 use Rattle.compact.proofs.Opens.{opens_follow}
 use Rattle.rollback.specs.Units.{IsKept, begun_unit}
@@ -53,7 +53,7 @@ replicated (suc n) (suc i) x h = replicated n i x (omega (arith, h))
 
 module _ {S : Type 0} (M : Meaning S) (width : ℕ) (quota : Quota) (optimism : ℕ) where
   -- both at their beginning
-  record Begins (u : ℕ) (m : Member S) (x : Unit S) : Type 0 where
+  record Begins (u : ℕ) (m : Member S) (x : CompactUnit S) : Type 0 where
     pub seat : Seat
     pub own : seat.unit ≡ u
     pub member : m ≡ begun_member M width seat 0
@@ -62,7 +62,7 @@ module _ {S : Type 0} (M : Meaning S) (width : ℕ) (quota : Quota) (optimism : 
   -- so far all units are at their beginning
   record AllBegin (ms : List (Member S)) (k : Compact S) : Type 0 where
     pub same : length ms ≡ length k.units
-    pub each : (u : ℕ) (m : Member S) (x : Unit S)
+    pub each : (u : ℕ) (m : Member S) (x : CompactUnit S)
         → slice_get ms u ≡ Some m → slice_get k.units u ≡ Some x → Begins u m x
     pub table : k.table ≡ []
     pub letters : k.letters ≡ []
@@ -101,7 +101,7 @@ module _ {S : Type 0} (M : Meaning S) (width : ℕ) (quota : Quota) (optimism : 
       new : Member S
       new = begun_member M width (record { unit = length ms; kind = kind; home = width }) 0
 
-      one : Unit S
+      one : CompactUnit S
       one = first_unit M width (record { unit = length k.units; kind = kind; home = width }) (length k.table)
 
   all_begin : (names : List (List ℕ)) (ms : List (Member S)) (k : Compact S) → AllBegin ms k
@@ -175,7 +175,7 @@ module _ {S : Type 0} (M : Meaning S) (kinds : List (List ℕ)) (quota : Quota) 
         let b = all_begun.each u m x e f in
         let within : u < width = (let a = slice_get_within k.units u x f in omega (arith, a, count)) in
         subst (λ (m : Member S). IsMember t live u m x) (sym b.member)
-        (subst (λ (x : Unit S). IsMember t live u (begun_member M width b.seat 0) x) (sym b.unit) (record {
+        (subst (λ (x : CompactUnit S). IsMember t live u (begun_member M width b.seat 0) x) (sym b.unit) (record {
           kept = kept_begun M width b.seat;
           seen = beginnings_are_seen M width 0 b.seat;
           own = b.own;

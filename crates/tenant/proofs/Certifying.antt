@@ -9,7 +9,7 @@ use Rattle.model.specs.World.{World, executed}
 use Rattle.layer_laws.specs.Laws.{frontier, frontiers}
 use Rattle.certificate.specs.Laws.{IsKeptOf}
 use Rattle.certificate.specs.Moves.{route_of, routes_of}
-use Rattle.compact.specs.Compact.{Letter}
+use Rattle.compact.specs.Compact.{CompactLetter}
 use Rattle.compact.proofs.Words.{maps_same}
 use Rattle.tenant.specs.Kept.{TenantState}
 use Rattle.tenant.specs.Reads.{routes_by}
@@ -24,12 +24,12 @@ module _ {S : Type 0} (M : Meaning S) (name : List ℕ)
       let x = stands_at M name live t w log s u m b in
       same_Some f x.unit.frontier (sym a ∙ x.kept.frontier) ∙ x.stands.front)
 
-  route_same : (x : Letter) (m : Message)
+  route_same : (x : CompactLetter) (m : Message)
       → x.source ≡ m.source → x.receiver ≡ m.receiver → record { source = x.source; receiver = x.receiver } ≡ route_of m
   route_same x m a b = λ i. record { source = a i; receiver = b i }
 
   routes_same : routes_by t.letters ≡ routes_of M w
-  routes_same = ap routes_by (sym s.1.letters) ∙ maps_same (λ (l : Letter). record {
+  routes_same = ap routes_by (sym s.1.letters) ∙ maps_same (λ (l : CompactLetter). record {
     source = l.source;
     receiver = l.receiver;
   }) route_of s.0.letters (executed M w).letters s.2.represents.sent (λ l x m a b.

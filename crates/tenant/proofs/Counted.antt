@@ -19,11 +19,12 @@ use Rattle.model.proofs.Places.{get_below}
 use Rattle.theory.specs.Laws.{rows_of}
 use Rattle.theory.proofs.ListLaws.{at_map, bool_cases, eq_true, take_while_le}
 use Rattle.layer_laws.specs.Laws.{frontier}
-use Rattle.compact.specs.Compact.{Letter, interval_of}
+use Rattle.compact.specs.Compact.{CompactLetter, interval_of}
 use Rattle.rollback_laws.proofs.Places.{places_are_seen}
 use Rattle.tenant.specs.declared.footprint.Footprint.{Footprint}
-use Rattle.tenant.specs.Footprint.{IsFootprint, IsLengths, gives_up_letter, is_spent_to}
-use Rattle.tenant.specs.Past.{IsKeeping, KeepsPast, amount_of, is_whole_to, kept_by, shelf_of}
+use Rattle.unit_steps.specs.SentLetters.{is_spent_to, is_whole_to}
+use Rattle.tenant.specs.Footprint.{IsFootprint, IsLengths, gives_up_letter}
+use Rattle.tenant.specs.Past.{IsKeeping, KeepsPast, amount_of, kept_by, shelf_of}
 use Rattle.tenant.specs.Kept.{TenantState, Member as MemberOf}
 use Rattle.tenant.specs.Stands.{Stands, live_in}
 use Rattle.tenant.proofs.Lasting.{past_opened}
@@ -57,7 +58,7 @@ module _ {S : Type 0} (M : Meaning S) (name : List ℕ) (t : TenantState S) (w :
 
   -- a letter to a unit that is there has its content just where it was not received for good
   whole_same : (u : ℕ) (m : Member) (f : Shelf) → slice_get w.members u ≡ Some m → slice_get shelves u ≡ Some f
-      → (l : ℕ) (c : Letter) (x : Message)
+      → (l : ℕ) (c : CompactLetter) (x : Message)
       → slice_get t.letters l ≡ Some c → c.receiver ≡ x.receiver → is_whole_to u c ≡ keeps_letter w u m f (l, x)
   whole_same u m f here there l c x at to = elim (bool_cases (x.receiver == u)) [
     | inl e ↦
@@ -116,7 +117,7 @@ module _ {S : Type 0} (M : Meaning S) (name : List ℕ) (t : TenantState S) (w :
 
   -- a letter to a unit that is there gave its content up just where it was received for good
   spent_at : (u : ℕ) (m : Member) (f : Shelf) → slice_get w.members u ≡ Some m → slice_get shelves u ≡ Some f
-      → (l : ℕ) (c : Letter) (x : Message) → slice_get t.letters l ≡ Some c → c.receiver ≡ x.receiver
+      → (l : ℕ) (c : CompactLetter) (x : Message) → slice_get t.letters l ≡ Some c → c.receiver ≡ x.receiver
       → is_spent_to u c ≡ gives_up_letter w u m f (l, x)
   spent_at u m f here there l c x at to = elim (bool_cases (x.receiver == u)) [
     | inl e ↦

@@ -25,8 +25,9 @@ use Rattle.theory.proofs.Sending.{letters_made}
 use Rattle.handler.specs.Inputs.{Input, turn_upon_input}
 use Rattle.layer_laws.specs.Laws.{stable_lengths}
 use Rattle.layer_laws.proofs.Unstable.{unstable_are_counted}
-use Rattle.compact.specs.Compact.{Compact, Content, IsContent, IsLetter, Letter, Progress, Unit}
-use Rattle.compact.specs.Steps.{Done, Receipt, accepted_of, at_unit_of, deliver_content, deliver_of}
+use Rattle.compact.specs.Compact.{Compact, CompactLetter, CompactUnit, Content, IsContent, IsLetter, Progress}
+use Rattle.compact.specs.Compact.{content_of}
+use Rattle.compact.specs.Steps.{StepResult, Receipt, accepted_of, at_unit_of, deliver_content, deliver_of}
 use Rattle.compact.specs.Steps.{delivered, if_letter_of, lengths_of, letter_refusal, or_next, or_refused}
 use Rattle.compact.specs.Steps.{receiving_state}
 use Rattle.compact.proofs.Receipts.{deliveries_follow}
@@ -62,7 +63,7 @@ next_none None next e = e
 next_none (Some r) next e = absurd (cc e)
 
 -- a letter of the world
-record IsSent {S : Type 0} (M : Meaning S) (w : World) (l : ℕ) (c : Letter) : Type 0 where
+record IsSent {S : Type 0} (M : Meaning S) (w : World) (l : ℕ) (c : CompactLetter) : Type 0 where
   pub message : Message
   pub at : slice_get (executed M w).letters l ≡ Some message
   pub is : IsLetter w l message c
@@ -77,7 +78,7 @@ module _ {S : Type 0} (M : Meaning S) (name : List ℕ) (live : ℕ → List ℕ
 
   -- how many intervals of each unit are stable
   lengths_kept : lengths_of k ≡ t.stable_lengths
-  lengths_kept = same_list (λ (x : Unit S). x.stable) k.units t.stable_lengths s.1.stables (λ u x at.
+  lengths_kept = same_list (λ (x : CompactUnit S). x.stable) k.units t.stable_lengths s.1.stables (λ u x at.
       let within = slice_get_within k.units u x at in
       let width = s.1.width in
       let m = get_below t.members u (omega (arith, within, width)) in
@@ -93,17 +94,17 @@ module _ {S : Type 0} (M : Meaning S) (name : List ℕ) (live : ℕ → List ℕ
         | yes q ↦
             let sent = s.2.represents.sent in
             let c = get_below k.letters l (omega (arith, q, sent)) in
-            absurd (different c.0 (sym c.1 ∙ ap (λ (ls : List Letter). slice_get ls l) s.1.letters ∙ e))
+            absurd (different c.0 (sym c.1 ∙ ap (λ (ls : List CompactLetter). slice_get ls l) s.1.letters ∙ e))
         | no q ↦ slice_get_past (executed M w).letters l (omega (arith, q))
       ] in
       (ap (letter_needs M w) none, ap (if_letter M w l) none)
     where
-      different : (c : Letter) → Some c ≡ None → ⊥
+      different : (c : CompactLetter) → Some c ≡ None → ⊥
       different c e = cc e
 
-  module _ (c : Letter) (there : slice_get t.letters l ≡ Some c) where
+  module _ (c : CompactLetter) (there : slice_get t.letters l ≡ Some c) where
     at_k : slice_get k.letters l ≡ Some c
-    at_k = ap (λ (ls : List Letter). slice_get ls l) s.1.letters ∙ there
+    at_k = ap (λ (ls : List CompactLetter). slice_get ls l) s.1.letters ∙ there
 
     sent : IsSent M w l c
     sent =
@@ -160,7 +161,7 @@ module _ {S : Type 0} (M : Meaning S) (name : List ℕ) (live : ℕ → List ℕ
       refusal_of : letter_refusal k x.unit c c.content ≡ letter_refusal_of t m c
       refusal_of = letters_are_refused M m.unit_state x.unit x.is.kept x.is.seen k c
           ∙ (λ i. letter_refused
-          (known_is i) (s.1.optimism i) (s.1.quota i).volatile m.unit_state c.source c.number c.content)
+          (known_is i) (s.1.optimism i) (s.1.quota i).volatile m.unit_state c.source c.content)
 
       before : first_refusal (deliver_front w received f.member) ≡ letter_refusal_of t m c
       before = sym (deliveries_are_tested M name k w log s.2 l received c sent.at at_k f.member x.unit at_w unit_at)
@@ -180,7 +181,7 @@ module _ {S : Type 0} (M : Meaning S) (name : List ℕ) (live : ℕ → List ℕ
           )
 
       module _ (content : Content) (whole : c.content ≡ Some content) where
-        content_is : content ≡ record { text = received.text; vector = vector_of w.nodes received.sender }
+        content_is : content ≡ content_of w received
         content_is = subst (IsContent w l received) whole sent.is.content
 
         asked_by : letter_refusal_of t m c ≡ None → (input : Input S)
@@ -201,14 +202,14 @@ module _ {S : Type 0} (M : Meaning S) (name : List ℕ) (live : ℕ → List ℕ
         letter_asked passes (Ok input) a b = asked_by passes input a
         letter_asked passes (Err refusal) a b =
             let some : letter_refused (known_of t m) t.optimism
-            t.quota.volatile m.unit_state c.source c.number (Some content) ≡ None = (sym (ap (letter_refused
-            (known_of t m) t.optimism t.quota.volatile m.unit_state c.source c.number) whole) ∙ passes) in
+            t.quota.volatile m.unit_state c.source (Some content) ≡ None = (sym (ap (letter_refused
+            (known_of t m) t.optimism t.quota.volatile m.unit_state c.source) whole) ∙ passes) in
             let none = next_none
             (first_refusal (past_tests (known_of t m) t.optimism m.unit_state content.vector)) (arrival_refusal
-            t.quota.volatile m.unit_state (FromUnit c.source) c.number content.text m.unit_state.progress) some in
+            t.quota.volatile m.unit_state (FromUnit c.source) content.number content.text m.unit_state.progress) some in
             let down : arrival_refusal t.quota.volatile
-            m.unit_state (FromUnit c.source) c.number content.text m.unit_state.progress ≡ Some Down =
-            ap (arrival_refusal t.quota.volatile m.unit_state (FromUnit c.source) c.number content.text) b.1 in
+            m.unit_state (FromUnit c.source) content.number content.text m.unit_state.progress ≡ Some Down =
+            ap (arrival_refusal t.quota.volatile m.unit_state (FromUnit c.source) content.number content.text) b.1 in
             absurd (cc (sym none ∙ down))
 
         -- ---- upon the turn
@@ -247,7 +248,10 @@ module _ {S : Type 0} (M : Meaning S) (name : List ℕ) (live : ℕ → List ℕ
           letter_done none p up reply answer v new =
               let told = reply_is M name live t w log s c.receiver m x q input is.asked in
               let kept = received_is M name live t w log s c.receiver m x q input is.asked p up is.room in
-              let given : Done S = record { reply = reply; state = receiving_state M name k c.receiver q x.unit } in
+              let given : StepResult S = record {
+                reply = reply;
+                state = receiving_state M name k c.receiver q x.unit;
+              } in
               leaves M name live log (deliver M w l) reach _ given (deliveries_follow M name k w log s.2 l)
               (turned None none ∙ (λ i. record {
                 reply = (told ∙ sym answer) i;
@@ -270,13 +274,9 @@ module _ {S : Type 0} (M : Meaning S) (name : List ℕ) (live : ℕ → List ℕ
               (new ∙ (λ i. received_kept M t c.receiver m (made.logged i) (turn_upon_input M input).outputs
               ((made.made ∙ (λ j. next_letters_of t c.receiver m q (e j) p.0.sessions)) i)))
 
--- a content told by its parts
-abbrev content_of : List ℕ → List Mark → Option Content
-content_of text vector = Some (record { text = text; vector = vector })
-
 -- what is there, by what its parts are
-pub content_parts : (sent : Option Content) (content : Content) (text : List ℕ) (vector : List Mark)
-    → sent ≡ Some content → text ≡ content.text → vector ≡ content.vector
-    → sent ≡ Some (record { text = text; vector = vector })
-content_parts sent content text vector is t v =
-    is ∙ (ap (λ x. content_of x content.vector) (sym t) ∙ ap (λ y. content_of text y) (sym v))
+pub content_parts : (sent : Option Content) (content : Content) (number : ℕ) (text : List ℕ) (vector : List Mark)
+    → sent ≡ Some content → number ≡ content.number → text ≡ content.text → vector ≡ content.vector
+    → sent ≡ Some (record { number = number; text = text; vector = vector })
+content_parts _ content number text vector is n t v =
+    is ∙ (λ i. Some (record { number = sym n i; text = sym t i; vector = sym v i }))

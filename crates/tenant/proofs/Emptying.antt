@@ -19,7 +19,7 @@ use Rattle.theory.proofs.Certificate.{Invariant, reachable_invariant}
 use Rattle.theory.proofs.ListLaws.{any_none, at_map, bool_cases, eq_true, get_drop, get_set, get_take}
 use Rattle.theory.proofs.ListLaws.{set_get_other, set_get_same, true_eq, or_false}
 use Rattle.layer_laws.specs.Laws.{frontier}
-use Rattle.compact.specs.Compact.{Compact, Interval, IsUnit, Letter, interval_of}
+use Rattle.compact.specs.Compact.{Compact, Interval, IsUnit, CompactLetter, interval_of}
 use Rattle.compact.specs.Forgetting.{without_content}
 use Rattle.compact.specs.StepLaws.{StandsCompact}
 use Rattle.rollback.specs.Units.{Recovering, based_on, forgotten}
@@ -54,18 +54,18 @@ is_not : (n l : ℕ) → (n ≡ l → ⊥) → (n == l) ≡ false
 is_not n l h = elim (bool_cases (n == l)) [ inl e ↦ absurd (h (eq_true n l e)) | inr e ↦ e ]
 
 -- a letter after some gave up their contents, and as it was before
-pub record Was (letters : List Letter) (l : ℕ) (c : Letter) (gone : Bool) : Type 0 where
-  pub was : Letter
+pub record Was (letters : List CompactLetter) (l : ℕ) (c : CompactLetter) (gone : Bool) : Type 0 where
+  pub was : CompactLetter
   pub at : slice_get letters l ≡ Some was
   pub receiver : c.receiver ≡ was.receiver
   pub content : is_none c.content ≡ (is_none was.content || gone)
 
-was_by : (letters : List Letter) (o : Option ℕ) (l : ℕ) (c : Letter)
+was_by : (letters : List CompactLetter) (o : Option ℕ) (l : ℕ) (c : CompactLetter)
     → slice_get (emptied_by letters o) l ≡ Some c → Was letters l c (is_of l o)
 was_by letters None l c e = record { was = c; at = e; receiver = refl; content = or_false (is_none c.content) }
 was_by letters (Some n) l c e = go (slice_get letters n) refl e
   where
-    go : (o : Option Letter) → slice_get letters n ≡ o
+    go : (o : Option CompactLetter) → slice_get letters n ≡ o
         → slice_get (emptied_at letters n o) l ≡ Some c → Was letters l c (n == l)
     go None f e =
         let other : (n == l) ≡ false = is_not n l (λ same. let none : slice_get letters l ≡ None =
@@ -82,8 +82,8 @@ was_by letters (Some n) l c e = go (slice_get letters n) refl e
           record {
             was = d;
             at = ap (slice_get letters) h.0 ∙ f;
-            receiver = ap (λ (x : Letter). x.receiver) h.1;
-            content = ap (λ (x : Letter). is_none x.content) h.1
+            receiver = ap (λ (x : CompactLetter). x.receiver) h.1;
+            content = ap (λ (x : CompactLetter). is_none x.content) h.1
                 ∙ or_true (is_none d.content) ∙ ap (λ b. is_none d.content || b) (sym same);
           }
       | inr h ↦
@@ -96,7 +96,7 @@ was_by letters (Some n) l c e = go (slice_get letters n) refl e
           }
     ]
 
-was_all : (letters : List Letter) (given : List Interval) (l : ℕ) (c : Letter)
+was_all : (letters : List CompactLetter) (given : List Interval) (l : ℕ) (c : CompactLetter)
     → slice_get (emptied_all letters given) l ≡ Some c → Was letters l c (list_any (λ i. is_of l i.letter) given)
 was_all letters [] l c e = record { was = c; at = e; receiver = refl; content = or_false (is_none c.content) }
 was_all letters (v ∷ given) l c e =
@@ -217,7 +217,7 @@ module _ {S : Type 0} (M : Meaning S) (name : List ℕ) (t : TenantState S) (w :
         go (outside number text) e = absurd (cc e)
         go (letter n a) e = (a, ap (λ i. letter i a) (eq_true n l e))
 
-    other_none : (l : ℕ) (c : Letter) → slice_get t.letters l ≡ Some c
+    other_none : (l : ℕ) (c : CompactLetter) → slice_get t.letters l ≡ Some c
         → (c.receiver ≡ u → ⊥) → list_any (λ (i : Interval). is_of l i.letter) given ≡ false
     other_none l c at other = given_any l ∙ any_none (λ y. receives l (node_at w.nodes y).cause) (take (base - r.base)
         (drop (suc r.base) q.path)) (λ i y e. elim (bool_cases (receives l (node_at w.nodes y).cause)) [
@@ -250,7 +250,7 @@ module _ {S : Type 0} (M : Meaning S) (name : List ℕ) (t : TenantState S) (w :
     not_lower : r.base ≤ base
     not_lower = not_back r x.is.kept f base next
 
-    own_letter : (l : ℕ) (c : Letter) → Was t.letters l c (list_any (λ (i : Interval). is_of l i.letter) given)
+    own_letter : (l : ℕ) (c : CompactLetter) → Was t.letters l c (list_any (λ (i : Interval). is_of l i.letter) given)
         → c.receiver ≡ u → (z : Shelf) → z ≡ based f (shelf_of m.first_put r)
         → is_none c.content ≡ received_for_good w q z l
     own_letter l c was to z same =

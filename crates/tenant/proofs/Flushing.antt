@@ -25,7 +25,7 @@ use Rattle.theory.proofs.Certificate.{reachable_invariant}
 use Rattle.theory.proofs.ListLaws.{at_map, get_set, get_take, get_drop, map_at}
 use Rattle.shared_log.specs.Logged.{Logged, places_from}
 use Rattle.shared_log.proofs.LeftLaws.{appended_grows, same_grows}
-use Rattle.compact.specs.Compact.{Compact, Unit}
+use Rattle.compact.specs.Compact.{Compact, CompactUnit}
 use Rattle.compact.specs.Steps.{at_up_of, flush_of, flushed_unit, going_on, lengths_of, refronted, places as all_of}
 use Rattle.compact.specs.Steps.{with_unit_at}
 use Rattle.compact.specs.StepLaws.{StandsCompact}
@@ -148,10 +148,10 @@ module _ {S : Type 0} (M : Meaning S) (name : List ℕ)
       (λ down. absurd (down (sym (st.represents.units u mw.0 x.unit mw.1 x.at).up ∙ x.is.seen.up ∙ up))),
     )
 
-    abbrev y : Unit S
+    abbrev y : CompactUnit S
     y = flushed_unit (length whole) said.appended x.unit
 
-    abbrev units : List (Unit S)
+    abbrev units : List (CompactUnit S)
     units = slice_set k.units u y
 
     abbrev lengths : List ℕ
@@ -181,17 +181,17 @@ module _ {S : Type 0} (M : Meaning S) (name : List ℕ)
 
     lengths_are : lengths ≡ v.stable_lengths
     lengths_are = same_list lengths v.stable_lengths
-        (length-map units (λ (z : Unit S). z.stable) ∙ length-set k.units u y ∙ sym is.stables
+        (length-map units (λ (z : CompactUnit S). z.stable) ∙ length-set k.units u y ∙ sym is.stables
         ∙ sym (length-set t.stable_lengths u (stable_places (flushed_member m said.appended).unit_state))
         ∙ sym (ap length f.stable_lengths))
         (λ i a b ea eb.
-        let h = map_at (λ (z : Unit S). z.stable) units i a ea in
+        let h = map_at (λ (z : CompactUnit S). z.stable) units i a ea in
         let eb' : slice_get (slice_set t.stable_lengths u (stable_places (flushed_member m said.appended).unit_state))
         i ≡ Some b = ap (λ ls. slice_get ls i) (sym f.stable_lengths) ∙ eb in
         h.2 ∙ elim (get_set k.units u i y h.0 h.1) [
           | inl p ↦
               elim (get_set t.stable_lengths u i (stable_places (flushed_member m said.appended).unit_state) b eb') [
-                | inl q ↦ ap (λ (z : Unit S). z.stable) p.1 ∙ seen_y.stable ∙ sym q.1
+                | inl q ↦ ap (λ (z : CompactUnit S). z.stable) p.1 ∙ seen_y.stable ∙ sym q.1
                 | inr q ↦ absurd (q.0 p.0)
               ]
           | inr p ↦
@@ -241,7 +241,7 @@ module _ {S : Type 0} (M : Meaning S) (name : List ℕ)
 
     -- ---- each unit
 
-    front_is : (a : ℕ) (z : Unit S)
+    front_is : (a : ℕ) (z : CompactUnit S)
         → slice_get k.units a ≡ Some z → (q : Recovering S) → IsKept q → IsSeen q z → (p : Recovering S)
         → p.base ≡ q.base → p.intervals ≡ q.intervals → IsFrontier (length v.stable_lengths) p z.frontier
     front_is a z at q kept seen p base path =
@@ -252,7 +252,7 @@ module _ {S : Type 0} (M : Meaning S) (name : List ℕ)
         let d = all.base in
         let e = all.long in
         let wide : length k.units ≡ length v.stable_lengths =
-        sym (length-map units (λ (z : Unit S). z.stable) ∙ length-set k.units u y) ∙ ap length lengths_are in
+        sym (length-map units (λ (z : CompactUnit S). z.stable) ∙ length-set k.units u y) ∙ ap length lengths_are in
         let long : length p.intervals ≡ length q.intervals = ap length path in
         record {
           base = omega (arith, b, d, base);
@@ -265,7 +265,7 @@ module _ {S : Type 0} (M : Meaning S) (name : List ℕ)
         low : (f n l b c i j : ℕ) → f ≤ n → n ≡ l → b ≡ c → i ≡ j → l ≡ c + j → f ≤ b + i
         low f n l b c i j h e g o q = omega (arith, h, e, g, o, q)
 
-    gone : (a : ℕ) (n : Member S) (z : Unit S)
+    gone : (a : ℕ) (n : Member S) (z : CompactUnit S)
         → slice_get v.members a ≡ Some n → IsKept n.unit_state → IsSeen n.unit_state z
         → n.unit ≡ a → z.hold ≡ n.outputs → z.known ≡ n.known → slice_get v.stable_lengths a ≡ Some z.stable
         → slice_get t.frontiers a ≡ Some z.frontier → IsFrontier (length v.stable_lengths) n.unit_state z.frontier
@@ -299,7 +299,7 @@ module _ {S : Type 0} (M : Meaning S) (name : List ℕ)
       table = is.table ∙ sym f.table;
       width = ap length f.members ∙ length-set t.members u (flushed_member m said.appended) ∙ is.width ∙ sym width_is;
       stables = sym (ap length lengths_are)
-          ∙ length-map units (λ (z : Unit S). z.stable) ∙ length-set k.units u y ∙ sym width_is;
+          ∙ length-map units (λ (z : CompactUnit S). z.stable) ∙ length-set k.units u y ∙ sym width_is;
       fronts = f.fronts ∙ is.fronts ∙ sym width_is;
       counts = ap length f.gone ∙ is.counts ∙ sym width_is;
       lines = ap length f.released ∙ is.lines ∙ sym width_is;
@@ -308,8 +308,8 @@ module _ {S : Type 0} (M : Meaning S) (name : List ℕ)
           let own : slice_get (slice_set t.members u (flushed_member m said.appended)) a ≡ Some n =
           ap (λ ms. slice_get ms a) (sym f.members) ∙ atn in
           let stable_at : slice_get v.stable_lengths a ≡ Some h.0.stable =
-          ap (λ ls. slice_get ls a) (sym lengths_are) ∙ at_map (λ (z : Unit S). z.stable) units a h.0 h.1 in
-          subst (λ (z : Unit S). IsMember v (live_in name after.records) a n z)
+          ap (λ ls. slice_get ls a) (sym lengths_are) ∙ at_map (λ (z : CompactUnit S). z.stable) units a h.0 h.1 in
+          subst (λ (z : CompactUnit S). IsMember v (live_in name after.records) a n z)
           (sym h.2) (elim (get_set t.members u a (flushed_member m said.appended) n own) [
             | inl p ↦ elim (get_set k.units u a y h.0 h.1) [
               | inl q ↦ own_stands a n h.0 p.0 p.1 q.1 atn stable_at
@@ -327,18 +327,19 @@ module _ {S : Type 0} (M : Meaning S) (name : List ℕ)
       letters = is.letters ∙ sym f.letters;
     }
       where
-        own_stands : (a : ℕ) (n : Member S) (z : Unit S) → a ≡ u → n ≡ flushed_member m said.appended
+        own_stands : (a : ℕ) (n : Member S) (z : CompactUnit S) → a ≡ u → n ≡ flushed_member m said.appended
             → z ≡ y → slice_get v.members a ≡ Some n → slice_get v.stable_lengths a ≡ Some z.stable
             → IsMember v (live_in name after.records) a n (going_on k.table lengths z)
         own_stands a n z e g h at stable_at =
-            subst (λ (z : Unit S). IsMember v (live_in name after.records) a n (going_on k.table lengths z)) (sym h)
+            subst (λ (z : CompactUnit S). IsMember v (live_in name after.records) a n (going_on k.table lengths z))
+            (sym h)
             (subst (λ (n : Member S). IsMember v (live_in name after.records) a n (going_on k.table lengths y)) (sym g)
             (subst (λ (a : ℕ). IsMember v (live_in name after.records)
             a (flushed_member m said.appended) (going_on k.table lengths y)) (sym e)
             (gone u (flushed_member m said.appended) y (ap (slice_get v.members) (sym e) ∙ at
             ∙ ap (λ z. Some z) g) (kept_marked r (drop said.appended r.volatile) said.appended x.is.kept refl)
             seen_y x.is.own x.is.outputs x.is.known
-            (ap (slice_get v.stable_lengths) (sym e) ∙ stable_at ∙ ap (λ (z : Unit S). Some z.stable) h)
+            (ap (slice_get v.stable_lengths) (sym e) ∙ stable_at ∙ ap (λ (z : CompactUnit S). Some z.stable) h)
             x.is.frontier
             (front_is u x.unit x.at r x.is.kept x.is.seen (marked_stable r said.appended) refl refl) x.is.released
             (subst (λ (ps : List ℕ). AreLast (x.unit.live ++ numbers_from (length whole) said.appended) ps)

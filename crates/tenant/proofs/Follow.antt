@@ -16,8 +16,8 @@ use Rattle.model.specs.Steps.{Outcome, first_refusal}
 use Rattle.model.specs.Alone.{Reachable}
 use Rattle.model.proofs.Places.{get_below}
 use Rattle.theory.proofs.ListLaws.{get_set, set_get_other}
-use Rattle.compact.specs.Compact.{Compact, Represents, Unit}
-use Rattle.compact.specs.Steps.{Done, at_unit_of, at_up_of, or_refused, with_unit_at}
+use Rattle.compact.specs.Compact.{Compact, Represents, CompactUnit}
+use Rattle.compact.specs.Steps.{StepResult, at_unit_of, at_up_of, or_refused, with_unit_at}
 use Rattle.compact.specs.StepLaws.{Answers, StandsCompact}
 use Rattle.tenant.specs.Kept.{TenantState, Member, up_refusal}
 use Rattle.tenant.specs.Represents.{IsCompact, IsMember, Leaves}
@@ -25,16 +25,16 @@ use Rattle.tenant.specs.Represents.{IsCompact, IsMember, Leaves}
 -- What the compact state answers, a tenant does, and it keeps a compact state that stands for the same world as the one
 -- left.
 pub leaves_on : {S : Type 0} (M : Meaning S) (name : List ℕ) (live : ℕ → List ℕ) (log : List Record) (outcome : Outcome)
-    → ((z : World) → outcome.world ≡ Some z → Reachable M z) → (done given : Done S)
+    → ((z : World) → outcome.world ≡ Some z → Reachable M z) → (done given : StepResult S)
     → Answers M name outcome done log → done ≡ given
     → (k : Compact S) → ((z : World) → StandsCompact M name given.state z log → Represents M name k z log)
     → (t : TenantState S) → IsCompact t live k → Leaves M name live outcome given.reply t log
 leaves_on {S} M name live log outcome reach done given a same k goes t is =
     let z = a.after.0 in
     let there : outcome.world ≡ Some z = a.after.1 in
-    let reply : outcome.reply ≡ given.reply = a.reply ∙ ap (λ (d : Done S). d.reply) same in
+    let reply : outcome.reply ≡ given.reply = a.reply ∙ ap (λ (d : StepResult S). d.reply) same in
     let represents : Represents M name given.state z log =
-    subst (λ (d : Done S). Represents M name d.state z log) same a.after.2 in (
+    subst (λ (d : StepResult S). Represents M name d.state z log) same a.after.2 in (
       z,
       (λ i. record { reply = reply i; world = there i }),
       (
@@ -49,7 +49,7 @@ leaves_on {S} M name live log outcome reach done given a same k goes t is =
 
 -- or the very one
 pub leaves : {S : Type 0} (M : Meaning S) (name : List ℕ) (live : ℕ → List ℕ) (log : List Record) (outcome : Outcome)
-    → ((z : World) → outcome.world ≡ Some z → Reachable M z) → (done given : Done S)
+    → ((z : World) → outcome.world ≡ Some z → Reachable M z) → (done given : StepResult S)
     → Answers M name outcome done log
     → done ≡ given → (t : TenantState S) → IsCompact t live given.state → Leaves M name live outcome given.reply t log
 leaves M name live log outcome reach done given a same t is =
@@ -60,7 +60,7 @@ leaves M name live log outcome reach done given a same t is =
 -- the unit of the compact state that a member keeps
 pub record KeepsUnit {S : Type 0}
     (t : TenantState S) (live : ℕ → List ℕ) (k : Compact S) (u : ℕ) (m : Member S) : Type 0 where
-  pub unit : Unit S
+  pub unit : CompactUnit S
   pub at : slice_get k.units u ≡ Some unit
   pub is : IsMember t live u m unit
 
@@ -84,11 +84,11 @@ module _ {S : Type 0} (t : TenantState S) (live : ℕ → List ℕ) (k : Compact
       different m e = cc e
 
   -- a unit that is not there
-  pub no_unit : (h : Unit S → Done S) → slice_get t.members u ≡ None
+  pub no_unit : (h : CompactUnit S → StepResult S) → slice_get t.members u ≡ None
       → at_unit_of k h (slice_get k.units u) ≡ record { reply = Refused NoUnit; state = k }
   no_unit h e = ap (at_unit_of k h) (none_kept e)
 
-  down : (done : Done S) (r : Refusal) (up b : Bool) → up ≡ b → cond b None (Some Down) ≡ Some r
+  down : (done : StepResult S) (r : Refusal) (up b : Bool) → up ≡ b → cond b None (Some Down) ≡ Some r
       → or_refused k done (first_refusal ((not up, Down) ∷ [])) ≡ record { reply = Refused r; state = k }
   unfolding first_refusal
   down done r true true e f = absurd (cc f)
@@ -98,7 +98,7 @@ module _ {S : Type 0} (t : TenantState S) (live : ℕ → List ℕ) (k : Compact
       ap (λ (r : Refusal). record { reply = Refused r; state = k }) q
 
   -- or not up
-  pub not_up : (h : Unit S → Done S) (r : Refusal) → up_refusal (slice_get t.members u) ≡ Some r
+  pub not_up : (h : CompactUnit S → StepResult S) (r : Refusal) → up_refusal (slice_get t.members u) ≡ Some r
       → at_up_of k h (slice_get k.units u) ≡ record { reply = Refused r; state = k }
   not_up h r e = elim (dec_lt u (length t.members)) [
     | yes q ↦
@@ -113,18 +113,18 @@ module _ {S : Type 0} (t : TenantState S) (live : ℕ → List ℕ) (k : Compact
         ap (at_up_of k h) (none_kept none) ∙ ap (λ (r : Refusal). record { reply = Refused r; state = k }) same
   ]
 
-  up : (done : Done S) (b : Bool) → b ≡ true → or_refused k done (first_refusal ((not b, Down) ∷ [])) ≡ done
+  up : (done : StepResult S) (b : Bool) → b ≡ true → or_refused k done (first_refusal ((not b, Down) ∷ [])) ≡ done
   unfolding first_refusal
   up done true e = refl
   up done false e = absurd (cc e)
 
   -- and one that is
-  pub is_up : (h : Unit S → Done S) (m : Member S) (x : KeepsUnit t live k u m)
+  pub is_up : (h : CompactUnit S → StepResult S) (m : Member S) (x : KeepsUnit t live k u m)
       → is_some m.unit_state.progress ≡ true → at_up_of k h (slice_get k.units u) ≡ h x.unit
   is_up h m x e = ap (at_up_of k h) x.at ∙ up (h x.unit) x.unit.up (x.is.seen.up ∙ e)
 
   -- what a unit keeps is the same beside other units and where as much is released of it
-  beside : (members : List (Member S)) (released : List (List (List ℕ))) (v : ℕ) (m : Member S) (x : Unit S)
+  beside : (members : List (Member S)) (released : List (List (List ℕ))) (v : ℕ) (m : Member S) (x : CompactUnit S)
       → slice_get released v ≡ slice_get t.released v
       → IsMember t live v m x → IsMember (record t { members = members; released = released }) live v m x
   beside members released v m x same i = record {
@@ -140,7 +140,7 @@ module _ {S : Type 0} (t : TenantState S) (live : ℕ → List ℕ) (k : Compact
   }
 
   -- one unit changes, and what it released
-  pub with_one_out : (m : Member S) (x : Unit S) (texts : List (List ℕ))
+  pub with_one_out : (m : Member S) (x : CompactUnit S) (texts : List (List ℕ))
       → IsMember (record t { members = slice_set t.members u m; released = slice_set t.released u texts }) live u m x
       → IsCompact (record t { members = slice_set t.members u m; released = slice_set t.released u texts })
       live (with_unit_at k u x)
@@ -168,7 +168,7 @@ module _ {S : Type 0} (t : TenantState S) (live : ℕ → List ℕ) (k : Compact
   }
 
   -- one unit changes
-  pub with_one : (m : Member S) (x : Unit S)
+  pub with_one : (m : Member S) (x : CompactUnit S)
       → IsMember t live u m x → IsCompact (record t { members = slice_set t.members u m }) live (with_unit_at k u x)
   with_one m x i = record {
     quota = is.quota;

@@ -20,7 +20,7 @@ use Rattle.model.proofs.Places.{get_below}
 use Rattle.theory.proofs.ListLaws.{append_get, append_get_last, get_append, map_at, take_get, true_le}
 use Rattle.output_commit.specs.Holds.{Line}
 use Rattle.session.specs.Counts.{Counts, widened_counts}
-use Rattle.compact.specs.Compact.{Compact, Unit}
+use Rattle.compact.specs.Compact.{Compact, CompactUnit}
 use Rattle.compact.specs.Steps.{first_unit, fitted_unit, join_kind_of, joined_state}
 use Rattle.compact.proofs.Joins.{joins_follow}
 use Rattle.rollback.specs.Units.{IsKept, Recovering, widened_to}
@@ -153,7 +153,7 @@ module _ {S : Type 0} (M : Meaning S) (name : List ℕ) (live : ℕ → List ℕ
     abbrev seat : Seat
     seat = record { unit = length t.members; kind = kind; home = width }
 
-    abbrev first : Unit S
+    abbrev first : CompactUnit S
     first = first_unit M (length k.units + 1)
         (record { unit = length k.units; kind = kind; home = length k.units + 1 }) (length k.table)
 
@@ -164,7 +164,7 @@ module _ {S : Type 0} (M : Meaning S) (name : List ℕ) (live : ℕ → List ℕ
         (record { unit = sym e i; kind = kind; home = sym e i + 1 }) (length (s.1.table i)))
 
     -- a unit that was there
-    stays : (u : ℕ) (m : Member S) (x : Unit S)
+    stays : (u : ℕ) (m : Member S) (x : CompactUnit S)
         → IsMember t live u m x → IsMember after live u (fitted_member width m) (fitted_unit width x)
     stays u m x i = record {
       kept = kept_fitted m.unit_state width i.kept;
@@ -240,7 +240,7 @@ module _ {S : Type 0} (M : Meaning S) (name : List ℕ) (live : ℕ → List ℕ
                       let q = map_at (fitted_unit (length k.units + 1)) k.units u x b in
                       let same : x ≡ fitted_unit width q.0 = q.2 ∙ ap (λ n. fitted_unit (n + 1) q.0) (sym e) in
                       subst (λ (m : Member S). IsMember after live u m x) (sym p.2)
-                      (subst (λ (x : Unit S). IsMember after live u (fitted_member width p.0) x)
+                      (subst (λ (x : CompactUnit S). IsMember after live u (fitted_member width p.0) x)
                       (sym same) (stays u p.0 q.0 (i.members u p.0 q.0 p.1 q.1)))
                   | inr b ↦
                       let within = slice_get_within (map (fitted_member width) t.members) u m a in
@@ -261,7 +261,7 @@ module _ {S : Type 0} (M : Meaning S) (name : List ℕ) (live : ℕ → List ℕ
                       let same : x ≡ first_unit M width seat (length t.table) = b.1 ∙ same_first in
                       subst (λ (u : ℕ). IsMember after live u m x) at
                       (subst (λ (m : Member S). IsMember after live (length t.members) m x) (sym a.1)
-                      (subst (λ (x : Unit S). IsMember after
+                      (subst (λ (x : CompactUnit S). IsMember after
                       live (length t.members) (begun_member M width seat (length t.table)) x) (sym same) begins))
                 ]
               ];

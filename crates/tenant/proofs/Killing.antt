@@ -22,7 +22,7 @@ use Rattle.theory.proofs.ListLaws.{bool_cases, take_while_le}
 use Rattle.output_commit.specs.declared.held.Held.{Held}
 use Rattle.output_commit.specs.Holds.{held_below}
 use Rattle.layer_laws.specs.Laws.{held_outputs}
-use Rattle.compact.specs.Compact.{Compact, Unit}
+use Rattle.compact.specs.Compact.{Compact, CompactUnit}
 use Rattle.compact.specs.Steps.{kill_of, killed_unit, places as all_of}
 use Rattle.compact.specs.StepLaws.{StandsCompact}
 use Rattle.compact.proofs.Cuts.{cut_hold, cut_member}
@@ -40,7 +40,7 @@ use Rattle.tenant.proofs.Follow.{is_up, keeps, leaves, not_up, with_one}
 -- no output is of an interval that the path does not have
 pub whole_hold : {S : Type 0} (M : Meaning S) (name : List ℕ) (k : Compact S) (w : World) (log : List Record)
     → StandsCompact M name k w log
-    → (u : ℕ) (x : Unit S) → slice_get k.units u ≡ Some x → held_below x.hold (all_of x) ≡ x.hold
+    → (u : ℕ) (x : CompactUnit S) → slice_get k.units u ≡ Some x → held_below x.hold (all_of x) ≡ x.hold
 whole_hold M name k w log s u x at =
     let width = s.represents.width in
     let f = get_below w.members u (let a = slice_get_within k.units u x at in omega (arith, a, width)) in
@@ -88,7 +88,7 @@ module _ {S : Type 0} (M : Meaning S) (name : List ℕ) (live : ℕ → List ℕ
       (kills_follow M name k w log s.2 u) (not_up t live k s.1 u (kill_of k u) r e) t s.1
 
   module _ (m : Member S) (found : slice_get t.members u ≡ Some m) where
-    killed_is : (x : Unit S) → slice_get k.units u ≡ Some x
+    killed_is : (x : CompactUnit S) → slice_get k.units u ≡ Some x
         → IsMember t live u m x → IsMember t live u (killed_member m) (killed_unit x)
     killed_is x at i =
         let r = m.unit_state in

@@ -30,7 +30,7 @@ use Rattle.theory.proofs.Released.{firm_on, nodes_kept}
 use Rattle.layer_laws.specs.Laws.{frontier}
 use Rattle.compact.proofs.Tails.{before_frontier}
 use Rattle.rollback_laws.proofs.Places.{places_are_seen}
-use Rattle.compact.specs.Compact.{Content, IsContent, IsLetter, Letter}
+use Rattle.compact.specs.Compact.{Content, IsContent, IsLetter, CompactLetter}
 use Rattle.tenant.specs.Past.{IsKeeping, KeepsPast, Shelves, shelf_of, shelves_of}
 use Rattle.tenant.specs.Kept.{TenantState, Member as MemberOf}
 use Rattle.tenant.specs.Outcomes.{done}
@@ -182,7 +182,7 @@ module _ {S : Type 0} (M : Meaning S) (name : List ℕ)
       (m.0, m.1, omega (arith, base, seen, firm))
 
   -- a letter to a unit that was not there has its content
-  content_there : (l : ℕ) (c : Letter) (received : Message) → IsLetter w l received c
+  content_there : (l : ℕ) (c : CompactLetter) (received : Message) → IsLetter w l received c
       → length w.members ≤ c.receiver → (o : Option Content) → IsContent w l received o → is_none o ≡ false
   content_there l c received is high None taken =
       let within = slice_get_within w.members received.receiver taken.member taken.found in
@@ -190,7 +190,7 @@ module _ {S : Type 0} (M : Meaning S) (name : List ℕ)
       absurd (omega (arith, within, same, high))
   content_there l c received is high (Some content) e = refl
 
-  has_content : (l : ℕ) (c : Letter)
+  has_content : (l : ℕ) (c : CompactLetter)
       → slice_get t.letters l ≡ Some c → length w.members ≤ c.receiver → is_none c.content ≡ false
   has_content l c at high =
       let rep = standing.stands.2.represents in
@@ -202,7 +202,7 @@ module _ {S : Type 0} (M : Meaning S) (name : List ℕ)
       content_there l c received.0 is high c.content is.content
 
   -- a letter that was there, or a new one
-  module _ (l : ℕ) (c : Letter) (n : Member) (s : Shelf) (after : slice_get z.members c.receiver ≡ Some n) where
+  module _ (l : ℕ) (c : CompactLetter) (n : Member) (s : Shelf) (after : slice_get z.members c.receiver ≡ Some n) where
     first_of : s.base ≡ 0 → received_for_good z n s l ≡ false
     first_of none = ap (λ b. received_at z.nodes (take (suc b) n.path) l) none ∙ first_none M z g' c.receiver n after l
 
@@ -226,7 +226,7 @@ module _ {S : Type 0} (M : Meaning S) (name : List ℕ)
         has_content l c at (let a = h.0 in let b = width in omega (arith, a, b)) ∙ sym (first_of h.1)
     by_shelf (inr new) (inr h) = new.1 ∙ sym (first_of h.1)
 
-  letter_cases : (l : ℕ) (c : Letter) → slice_get v.letters l ≡ Some c
+  letter_cases : (l : ℕ) (c : CompactLetter) → slice_get v.letters l ≡ Some c
       → (slice_get t.letters l ≡ Some c) ⊎ ((length t.letters ≤ l) × (is_none c.content ≡ false))
   letter_cases l c at =
       let e : slice_get (t.letters ++ made.letters.made) l ≡ Some c =
@@ -235,7 +235,7 @@ module _ {S : Type 0} (M : Meaning S) (name : List ℕ)
         | yes q ↦
             let old = get_below t.letters l q in
             let same : old.0 ≡ c = same_Some old.0 c (sym (append_get t.letters made.letters.made l old.0 old.1) ∙ e) in
-            inl (old.1 ∙ ap (λ (d : Letter). Some d) same)
+            inl (old.1 ∙ ap (λ (d : CompactLetter). Some d) same)
         | no q ↦ elim (get_append_any t.letters made.letters.made l c e) [
           | inl h ↦ absurd (let within = slice_get_within t.letters l c h in omega (arith, within, q))
           | inr h ↦ inr (omega (arith, q), made.letters.whole (l - length t.letters) c h)

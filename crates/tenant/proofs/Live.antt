@@ -29,7 +29,7 @@ use Rattle.theory.proofs.Changes.{if_unit_cases, unless_cases}
 use Rattle.theory.proofs.ListLaws.{append_get, at_map, eq_true, get_append, get_set, set_get_other}
 use Rattle.theory.proofs.ListLaws.{set_get_same}
 use Rattle.layer_laws.proofs.Numbers.{length-numbers}
-use Rattle.compact.specs.Compact.{Letter}
+use Rattle.compact.specs.Compact.{CompactLetter}
 use Rattle.rollback.specs.Units.{IsKept, IsTarget, OrphansAreTail, Recovering, based_on, forgotten, marked_stable}
 use Rattle.rollback_laws.proofs.Places.{places_are_seen}
 use Rattle.rollback_laws.proofs.Standing.{units_are_ready}
@@ -57,7 +57,7 @@ use Rattle.tenant.proofs.Standing.{opened}
 
 -- ---- by the tenant's lists, and by the world
 
-own_amount : {S : Type 0} (letters : List Letter) (u : ℕ) (o : Option (MemberOf S))
+own_amount : {S : Type 0} (letters : List CompactLetter) (u : ℕ) (o : Option (MemberOf S))
     → live_of o ≡ amount_live (option_map (amount_of letters u) o)
 own_amount letters u None = refl
 own_amount letters u (Some m) = refl

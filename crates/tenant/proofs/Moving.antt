@@ -22,7 +22,7 @@ use Rattle.theory.proofs.ListLaws.{any_at, bool_cases, eq_same, eq_true, get_dro
 use Rattle.theory.proofs.ListLaws.{or_cases, or_left, or_right, true_eq, set_same}
 use Rattle.checkpoint.specs.declared.snapshot.Snapshot.{Snapshot as Shelf}
 use Rattle.checkpoint.specs.Shelves.{Shelved, based_at, has_index, is_at, later_of, nearest_of}
-use Rattle.compact.specs.Compact.{Compact, Interval, Letter, Represents, Snapshot, Unit}
+use Rattle.compact.specs.Compact.{Compact, Interval, CompactLetter, Represents, Snapshot, CompactUnit}
 use Rattle.compact.specs.Forgetting.{rebased}
 use Rattle.compact.specs.Steps.{with_unit_at}
 use Rattle.compact.specs.StepLaws.{StandsCompact}
@@ -195,11 +195,11 @@ module _ {S : Type 0} (M : Meaning S) (name : List ℕ) (t : TenantState S) (w :
 
   letter_goes : (v : Interval)
       → ((i : ℕ) × (slice_get x.unit.intervals i ≡ Some v) × (x.unit.base.index + i < x.unit.frontier))
-      → (letters : List Letter) → Represents M name (record k { letters = letters }) w whole
+      → (letters : List CompactLetter) → Represents M name (record k { letters = letters }) w whole
       → Represents M name (record k { letters = emptied_by letters v.letter }) w whole
   letter_goes v at letters rep = by_letter v.letter refl
     where
-      by_content : (l : ℕ) → v.letter ≡ Some l → (o : Option Letter)
+      by_content : (l : ℕ) → v.letter ≡ Some l → (o : Option CompactLetter)
           → slice_get letters l ≡ o → Represents M name (record k { letters = emptied_at letters l o }) w whole
       by_content l e None g = rep
       by_content l e (Some c) g = contents_go M name (record k { letters = letters })
@@ -211,7 +211,7 @@ module _ {S : Type 0} (M : Meaning S) (name : List ℕ) (t : TenantState S) (w :
       by_letter (Some l) e = by_content l e (slice_get letters l) refl
 
   letters_go : (given : List Interval)
-      → AreFirm given → (letters : List Letter) → Represents M name (record k { letters = letters }) w whole
+      → AreFirm given → (letters : List CompactLetter) → Represents M name (record k { letters = letters }) w whole
       → Represents M name (record k { letters = emptied_all letters given }) w whole
   letters_go [] firm letters rep = rep
   letters_go (v ∷ given) firm letters rep = letters_go
@@ -256,7 +256,7 @@ module _ {S : Type 0} (M : Meaning S) (name : List ℕ) (t : TenantState S) (w :
     firm : base < x.unit.frontier
     firm = let a = ready.firm_base in let b = front_is in omega (arith, low, a, b)
 
-    abbrev letters : List Letter
+    abbrev letters : List CompactLetter
     letters = emptied_all t.letters (passed r base)
 
     abbrev q : Member S
@@ -270,13 +270,14 @@ module _ {S : Type 0} (M : Meaning S) (name : List ℕ) (t : TenantState S) (w :
 
     emptier_stands : Represents M name emptier w whole
     emptier_stands = letters_go (passed r base) (passed_firm base firm) t.letters
-        (subst (λ (ls : List Letter). Represents M name (record k { letters = ls }) w whole) is.letters st.represents)
+        (subst (λ (ls : List CompactLetter). Represents M name (record k { letters = ls }) w whole)
+        is.letters st.represents)
 
     to : (i : ℕ) × ((z : Snapshot S)
         × (slice_get x.unit.shelf i ≡ Some z) × (z.index ≡ base) × IsSeen (forgotten r base) (rebased x.unit i z))
     to = forgetting_is_seen M r x.unit x.is.kept x.is.seen base has other
 
-    abbrev y : Unit S
+    abbrev y : CompactUnit S
     y = rebased x.unit to.0 to.1.0
 
     rebased_stands : Represents M name (with_unit_at emptier u y) w whole
@@ -332,14 +333,14 @@ module _ {S : Type 0} (M : Meaning S) (name : List ℕ) (t : TenantState S) (w :
       letters = refl;
     }
       where
-        own_stands : (c : ℕ) (n : Member S) (z : Unit S)
+        own_stands : (c : ℕ) (n : Member S) (z : CompactUnit S)
             → c ≡ u → n ≡ q → z ≡ y → IsMember v (live_in name after.records) c n z
         own_stands c n z e g h =
-            subst (λ (z : Unit S). IsMember v (live_in name after.records) c n z) (sym h)
+            subst (λ (z : CompactUnit S). IsMember v (live_in name after.records) c n z) (sym h)
             (subst (λ (n : Member S). IsMember v (live_in name after.records) c n y) (sym g)
             (subst (λ (c : ℕ). IsMember v (live_in name after.records) c q y) (sym e) one))
 
-        other_stands : (c : ℕ) (n : Member S) (z : Unit S)
+        other_stands : (c : ℕ) (n : Member S) (z : CompactUnit S)
             → (c ≡ u → ⊥) → IsMember t live c n z → IsMember v (live_in name after.records) c n z
         other_stands c n z other i = record {
           kept = i.kept;
@@ -462,7 +463,7 @@ next_at [] i j v e h = absurd (cc h)
 next_at (x ∷ xs) i j v e h = ap (slice_get (x ∷ xs)) (sym e) ∙ h
 
 -- Emptying one more interval's letter leaves the letters emptied up to that interval.
-pub passed_one : (letters : List Letter) (intervals : List Interval) (base index : ℕ)
+pub passed_one : (letters : List CompactLetter) (intervals : List Interval) (base index : ℕ)
     → base ≤ index → (v : Interval) → slice_get intervals (index + 1 - base) ≡ Some v
     → emptied_by (emptied_all letters (take (index - base) (drop 1 intervals)))
     v.letter ≡ emptied_all letters (take (index + 1 - base) (drop 1 intervals))

@@ -16,7 +16,7 @@ use Rattle.theory.proofs.ListLaws.{set_get_same}
 use Rattle.output_commit.specs.declared.held.Held.{Held}
 use Rattle.output_commit.specs.Holds.{held_below}
 use Rattle.compact.specs.Compact.{Compact}
-use Rattle.compact.specs.Steps.{Done, release_of, released_unit}
+use Rattle.compact.specs.Steps.{StepResult, release_of, released_unit}
 use Rattle.compact.proofs.Releases.{releases_follow}
 use Rattle.tenant.specs.Kept.{TenantState, Member, firm_of, firm_texts, released_member, unfirm, up_refusal}
 use Rattle.tenant.specs.Kept.{with_firm_out}
@@ -57,7 +57,7 @@ module _ {S : Type 0} (M : Meaning S) (name : List ℕ) (live : ℕ → List ℕ
         let same : v ≡ after f had = is f had i.own i.frontier out.3 in
         let all : List (List ℕ) = had ++ firm_texts m.outputs f in
         let put : slice_get (firm_of t.released u m f had) u ≡ Some all = set_get_same t.released u all had out.3 in
-        let given : Done S = record { reply = Released texts; state = (release_of k u x.unit).state } in
+        let given : StepResult S = record { reply = Released texts; state = (release_of k u x.unit).state } in
         let reply : map (λ (h : Held). h.text) (held_below x.unit.hold f) ≡ texts =
         ap (λ os. firm_texts os f) i.outputs ∙ sym (are f i.frontier) in
         let one : IsMember (after f had) live u (released_member m f) (released_unit x.unit) = record {

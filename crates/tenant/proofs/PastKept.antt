@@ -30,10 +30,10 @@ use Rattle.model.specs.World.{World}
 use Rattle.model.proofs.Places.{get_below}
 use Rattle.theory.proofs.ListLaws.{at_map, set_get_same, set_same}
 use Rattle.session.specs.Counts.{Counts, sent_one}
-use Rattle.compact.specs.Compact.{Letter, Progress, Unit}
+use Rattle.compact.specs.Compact.{CompactLetter, Progress, CompactUnit}
 use Rattle.compact.specs.Steps.{last_mark, letters_by, places as all_of}
 use Rattle.compact.proofs.Tests.{places_are}
-use Rattle.rollback.specs.Units.{IsKept, Recovering, checkpointed, places, shelf_with}
+use Rattle.rollback.specs.Units.{IsKept, Recovering, places, shelf_with}
 use Rattle.rollback_laws.proofs.Places.{places_are_seen}
 use Rattle.shared_log.specs.Logged.{Logged}
 use Rattle.rollback_laws.specs.Seen.{IsSeen}
@@ -56,10 +56,10 @@ use Rattle.tenant.proofs.Standing.{closed, opened}
 -- ---- letters
 
 -- letters are made with their contents
-pub letters_whole : (u : ℕ) (vector : List Mark) (c : Counts) (sends : List (ℕ × List ℕ)) (i : ℕ) (l : Letter)
+pub letters_whole : (u : ℕ) (vector : List Mark) (c : Counts) (sends : List (ℕ × List ℕ)) (i : ℕ) (l : CompactLetter)
     → slice_get (letters_by u vector c sends) i ≡ Some l → is_none l.content ≡ false
 letters_whole u vector c [] i l e = absurd (cc e)
-letters_whole u vector c (s ∷ sends) zero l e = ap (λ (x : Letter). is_none x.content) (sym (same_Some _ l e))
+letters_whole u vector c (s ∷ sends) zero l e = ap (λ (x : CompactLetter). is_none x.content) (sym (same_Some _ l e))
 letters_whole u vector c (s ∷ sends) (suc i) l e = letters_whole u vector (sent_one c s.0) sends i l e
 
 -- Where the letters stay as they were, none is made and none gives up its content.
@@ -268,9 +268,10 @@ module _ {S : Type 0} (M : Meaning S) (name : List ℕ) (t v : TenantState S) (r
 
 -- a receipt was entered
 pub received_same : {S : Type 0} (M : Meaning S) (t : TenantState S) (u : ℕ) (m : Member S)
-    → slice_get t.members u ≡ Some m → (v : TenantState S) (r : Record) (outputs : List (List ℕ)) (made : List Letter)
+    → slice_get t.members u ≡ Some m → (v : TenantState S) (r : Record) (outputs : List (List ℕ))
+    (made : List CompactLetter)
     → v ≡ received_kept M t u m r outputs made
-    → ((i : ℕ) (c : Letter) → slice_get made i ≡ Some c → is_none c.content ≡ false) → SameShelves t v
+    → ((i : ℕ) (c : CompactLetter) → slice_get made i ≡ Some c → is_none c.content ≡ false) → SameShelves t v
 received_same {S} M t u m found v r outputs made e whole =
     one_same t u m found (received_member M m r outputs) v (ap (λ (z : TenantState S). z.members) e)
     refl (record { made = made; letters = ap (λ (z : TenantState S). z.letters) e; whole = whole })
@@ -296,7 +297,7 @@ returned_shelves {S} M name t v u m found target given a before after start inde
 module _ {S : Type 0} (M : Meaning S) (name : List ℕ) (t mid v : TenantState S)
     (records : List (Option Record)) (u : ℕ) (m : Member S) (found : slice_get t.members u ≡ Some m)
     (up : is_some m.unit_state.progress ≡ true) (none : length m.unit_state.volatile ≡ 0)
-    (at : Mark) (is_last : (x : Unit S) → IsKept m.unit_state → IsSeen m.unit_state x → at ≡ last_mark u x)
+    (at : Mark) (is_last : (x : CompactUnit S) → IsKept m.unit_state → IsSeen m.unit_state x → at ≡ last_mark u x)
     (put_there : mid ≡ record t { members = slice_set t.members u (checkpointed_member m) })
     (moved : Bases M name mid records v) where
   there : (o : Option (Progress S)) → is_some o ≡ true → (p : Progress S) × (o ≡ Some p)
@@ -404,7 +405,7 @@ opens_past {S} M kinds quota optimism reply t is answer z shelves =
           (none l c (ap (λ (k : TenantState S). slice_get k.letters l) (sym is) ∙ at));
     }))
   where
-    none : (l : ℕ) (c : Letter) → slice_get (opened_kept M kinds quota optimism).letters l ≡ Some c → ⊥
+    none : (l : ℕ) (c : CompactLetter) → slice_get (opened_kept M kinds quota optimism).letters l ≡ Some c → ⊥
     none l c e = cc e
 
 -- What an opened tenant keeps by a reply it keeps by an equal one.

@@ -9,7 +9,7 @@ use Rattle.model.specs.Handler.{Turn}
 use Rattle.handler.specs.Inputs.{Input}
 use Rattle.model.specs.Nodes.{sends_within}
 use Rattle.session.specs.Counts.{advanced}
-use Rattle.compact.specs.Compact.{Letter, Progress}
+use Rattle.compact.specs.Compact.{CompactLetter, Progress}
 use Rattle.compact.specs.Steps.{Receipt}
 use Rattle.rollback.specs.Units.{asking}
 use Rattle.tenant.specs.declared.receipts.Plan.{Plan}
@@ -50,6 +50,6 @@ module _ {S : Type 0} (name : List ℕ) (t : TenantState S)
       })
 
   -- each letter has its content
-  pub planned_whole : (i : ℕ) (c : Letter) → slice_get plan.made.items i ≡ Some c → is_none c.content ≡ false
+  pub planned_whole : (i : ℕ) (c : CompactLetter) → slice_get plan.made.items i ≡ Some c → is_none c.content ≡ false
   planned_whole i c e = letters_whole u (next_vector_of t u m q) (advanced up.0.sessions q.source)
       (sends_within (length t.members) turn) i c (ap (λ ls. slice_get ls i) (sym plan_is.made) ∙ e)

@@ -18,7 +18,7 @@ use Rattle.model.specs.Alone.Reachable.{stepped}
 use Rattle.model.proofs.Places.{at_unit_found}
 use Rattle.handler.specs.Inputs.{Input, turn_upon_input}
 use Rattle.compact.specs.Compact.{Compact, Progress}
-use Rattle.compact.specs.Steps.{Done, Receipt, accepted_of, at_unit_of, or_next, or_refused, post_of}
+use Rattle.compact.specs.Steps.{StepResult, Receipt, accepted_of, at_unit_of, or_next, or_refused, post_of}
 use Rattle.compact.specs.Steps.{post_refusal, posted, receiving_state}
 use Rattle.compact.proofs.Receipts.{posts_follow}
 use Rattle.compact.proofs.Tests.{posts_are_tested}
@@ -126,7 +126,7 @@ module _ {S : Type 0} (M : Meaning S) (name : List ℕ) (live : ℕ → List ℕ
           let q = posted number text in
           let told = reply_is M name live t w log s u m x q input is.asked in
           let kept = received_is M name live t w log s u m x q input is.asked p up is.room in
-          let given : Done S = record { reply = reply; state = receiving_state M name k u q x.unit } in
+          let given : StepResult S = record { reply = reply; state = receiving_state M name k u q x.unit } in
           leaves M name live log (post M w u number text) reach _ given (posts_follow M name k w log s.2 u number text)
           (turned None none
           ∙ (λ i. record { reply = (told ∙ sym answer) i; state = receiving_state M name k u q x.unit }))

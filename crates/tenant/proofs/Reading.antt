@@ -16,7 +16,7 @@ use Rattle.model.specs.Handler.{Meaning}
 use Rattle.model.specs.Nodes.{Message}
 use Rattle.model.specs.World.{World, Member as InWorld, executed}
 use Rattle.model.proofs.Places.{get_below}
-use Rattle.compact.specs.Compact.{IsUnit, Letter, Unit}
+use Rattle.compact.specs.Compact.{IsUnit, CompactLetter, CompactUnit}
 use Rattle.compact.proofs.Words.{maps_same}
 use Rattle.tenant.specs.Kept.{TenantState, Member}
 use Rattle.tenant.specs.Reads.{opening_count, opening_of, seats_of}
@@ -53,7 +53,7 @@ module _ {S : Type 0} (M : Meaning S) (name : List ℕ)
   -- the unit of the tenant, and that of the compact state, which stand for a member of the world
   pub record StandsAt (u : ℕ) (m : InWorld) : Type 0 where
     pub member : Member S
-    pub unit : Unit S
+    pub unit : CompactUnit S
     pub found : slice_get t.members u ≡ Some member
     pub kept : IsMember t live u member unit
     pub stands : IsUnit M name w log m unit
@@ -109,7 +109,8 @@ module _ {S : Type 0} (M : Meaning S) (name : List ℕ)
       ∙ ap (λ n. take n (map (λ (m : InWorld). m.seat) w.members)) (sym (units_opened w.members))
 
   -- whom the letter is to
-  pub receiver_same : (l : ℕ) → option_map (λ (c : Letter). c.receiver) (slice_get t.letters l) ≡ receiver_in M w l
+  pub receiver_same : (l : ℕ) → option_map (λ (c : CompactLetter). c.receiver) (slice_get t.letters l)
+      ≡ receiver_in M w l
   receiver_same l =
       let represents = s.2.represents in
       let sent : length t.letters ≡ length (executed M w).letters = ap length (sym s.1.letters) ∙ represents.sent in
@@ -118,10 +119,10 @@ module _ {S : Type 0} (M : Meaning S) (name : List ℕ)
             let c = get_below t.letters l q in
             let received = get_below (executed M w).letters l (omega (arith, q, sent)) in
             let is = represents.letters l received.0 c.0 received.1 (ap (λ ls. slice_get ls l) s.1.letters ∙ c.1) in
-            ap (option_map (λ (c : Letter). c.receiver)) c.1
+            ap (option_map (λ (c : CompactLetter). c.receiver)) c.1
             ∙ ap Some is.receiver ∙ sym (ap (option_map (λ (m : Message). m.receiver)) received.1)
         | no q ↦
-            ap (option_map (λ (c : Letter). c.receiver)) (slice_get_past t.letters l (omega (arith, q)))
+            ap (option_map (λ (c : CompactLetter). c.receiver)) (slice_get_past t.letters l (omega (arith, q)))
             ∙ sym (ap (option_map
             (λ (m : Message). m.receiver)) (slice_get_past (executed M w).letters l (omega (arith, q, sent))))
       ]

@@ -12,7 +12,7 @@ use Rattle.model.specs.World.{World}
 use Rattle.handler.specs.Inputs.{Input, turn_upon_input}
 use Rattle.session.specs.Counts.{advanced}
 use Rattle.output_commit.specs.Holds.{held_of}
-use Rattle.compact.specs.Compact.{Compact, Letter, Progress}
+use Rattle.compact.specs.Compact.{Compact, CompactLetter, Progress}
 use Rattle.compact.specs.Steps.{Receipt, accepted_of, letters_by, new_letters, next_mark, next_record, next_vector}
 use Rattle.compact.specs.Steps.{receiving_state, receiving_unit, tests_of_turn, turn_of_receipt, with_unit_at}
 use Rattle.rollback.specs.Units.{IsKept, asking, places, took}
@@ -31,7 +31,7 @@ use Rattle.tenant.proofs.Follow.{KeepsUnit, with_one}
 
 -- the same letters on both sides
 pub with_letters : {S : Type 0} (t : TenantState S) (live : ℕ → List ℕ) (k : Compact S)
-    → IsCompact t live k → (letters others : List Letter)
+    → IsCompact t live k → (letters others : List CompactLetter)
     → others ≡ letters → IsCompact (record t { letters = letters }) live (record k { letters = others })
 with_letters t live k is letters others same = record {
   quota = is.quota;

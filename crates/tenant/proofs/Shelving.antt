@@ -17,8 +17,8 @@ use Rattle.model.specs.Steps.{checkpoint, first_refusal}
 use Rattle.model.specs.Alone.{Reachable}
 use Rattle.model.specs.Alone.Reachable.{stepped}
 use Rattle.theory.proofs.ListLaws.{set_get_same, true_lt}
-use Rattle.compact.specs.Compact.{Compact, Represents, Unit}
-use Rattle.compact.specs.Steps.{Done, checkpoint_of, last_mark, or_refused, places as all_of, shelved_unit}
+use Rattle.compact.specs.Compact.{Compact, Represents, CompactUnit}
+use Rattle.compact.specs.Steps.{StepResult, checkpoint_of, last_mark, or_refused, places as all_of, shelved_unit}
 use Rattle.compact.specs.Steps.{with_unit_at}
 use Rattle.compact.specs.StepLaws.{StandsCompact}
 use Rattle.compact.proofs.Checkpoints.{checkpoints_follow}
@@ -46,13 +46,13 @@ there : {X : Type 0} (o : Option X) → is_some o ≡ true → (x : X) × (o ≡
 there None e = absurd (cc e)
 there (Some x) e = (x, refl)
 
-passes : {S : Type 0} (k : Compact S) (done : Done S) (r : Refusal) (b : Bool)
+passes : {S : Type 0} (k : Compact S) (done : StepResult S) (r : Refusal) (b : Bool)
     → b ≡ false → or_refused k done (first_refusal ((b, r) ∷ [])) ≡ done
 unfolding first_refusal
 passes k done r true e = absurd (cc e)
 passes k done r false e = refl
 
-fails : {S : Type 0} (k : Compact S) (done : Done S) (r : Refusal) (b : Bool)
+fails : {S : Type 0} (k : Compact S) (done : StepResult S) (r : Refusal) (b : Bool)
     → b ≡ true → or_refused k done (first_refusal ((b, r) ∷ [])) ≡ record { reply = Refused r; state = k }
 unfolding first_refusal
 fails k done r true e = refl
@@ -95,7 +95,7 @@ module _ {S : Type 0} (M : Meaning S) (name : List ℕ) (live : ℕ → List ℕ
 
     -- A checkpoint of a unit that is up and has no volatile record is put, as the definitions say.
     pub checkpoint_done : length m.unit_state.volatile ≡ 0
-        → (at : Mark) → ((x : Unit S) → IsKept m.unit_state → IsSeen m.unit_state x → at ≡ last_mark u x)
+        → (at : Mark) → ((x : CompactUnit S) → IsKept m.unit_state → IsSeen m.unit_state x → at ≡ last_mark u x)
         → Leaves M name live (checkpoint w u)
         (Checkpointed at) (record t { members = slice_set t.members u (checkpointed_member m) }) log
     checkpoint_done none at is =
@@ -105,7 +105,7 @@ module _ {S : Type 0} (M : Meaning S) (name : List ℕ) (live : ℕ → List ℕ
         let all = places_are_seen M r x.unit i.kept i.seen in
         let p = there r.progress up in
         let seen = checkpoints_are_seen M r x.unit i.kept i.seen (empty r.volatile none) p.0 p.1 in
-        let fewer : Unit S = record (shelved_unit x.unit) { shelf = drop seen.0 (shelved_unit x.unit).shelf } in
+        let fewer : CompactUnit S = record (shelved_unit x.unit) { shelf = drop seen.0 (shelved_unit x.unit).shelf } in
         let one : IsMember t live u (checkpointed_member m) fewer = record {
           kept = kept_shelved r (checkpointed r).shelf (places r - 1) r.progress i.kept none refl refl;
           seen = seen.2;
@@ -119,7 +119,7 @@ module _ {S : Type 0} (M : Meaning S) (name : List ℕ) (live : ℕ → List ℕ
         } in
         let first : Compact S = with_unit_at k u (shelved_unit x.unit) in
         let goes : (z : World) → StandsCompact M name first z log → Represents M name (with_unit_at k u fewer) z log =
-        (λ z stands. subst (λ (units : List (Unit S)). Represents M name (record k { units = units }) z log)
+        (λ z stands. subst (λ (units : List (CompactUnit S)). Represents M name (record k { units = units }) z log)
         (set_again k.units u (shelved_unit x.unit) fewer)
         (snapshots_go M name first z
         log stands u (shelved_unit x.unit) (set_get_same k.units u (shelved_unit x.unit) x.unit x.at) seen.0)) in

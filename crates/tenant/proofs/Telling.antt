@@ -12,7 +12,7 @@ use Rattle.model.specs.Handler.{Meaning}
 use Rattle.model.specs.World.{World}
 use Rattle.model.specs.Steps.{status}
 use Rattle.model.specs.Alone.Reachable.{stepped}
-use Rattle.compact.specs.Compact.{Compact, Unit}
+use Rattle.compact.specs.Compact.{Compact, CompactUnit}
 use Rattle.compact.specs.Steps.{at_unit_of, last_mark, status_of}
 use Rattle.compact.proofs.Releases.{statuses_follow}
 use Rattle.rollback.specs.Units.{IsKept, stable_places}
@@ -39,7 +39,7 @@ module _ {S : Type 0} (M : Meaning S) (name : List ℕ) (live : ℕ → List ℕ
   -- A status of a unit that is there tells of it what the definitions say.
   pub status_done : (m : Member S) → slice_get t.members u ≡ Some m
       → (at : Mark) (held known outside released rows stable : ℕ) (up : Bool) (volatile : ℕ)
-      → ((x : Unit S) → IsKept m.unit_state → IsSeen m.unit_state x → at ≡ last_mark u x)
+      → ((x : CompactUnit S) → IsKept m.unit_state → IsSeen m.unit_state x → at ≡ last_mark u x)
       → held ≡ length m.outputs → known ≡ m.known → outside ≡ m.unit_state.outside
       → ((gone : ℕ) (texts : List (List ℕ)) → slice_get t.gone u ≡ Some gone → slice_get t.released u ≡ Some texts
       → released ≡ gone + length texts) → rows ≡ length t.table → stable ≡ stable_places m.unit_state - 1

@@ -10,7 +10,7 @@ use Rattle.model.proofs.Places.{get_below}
 use Rattle.theory.proofs.Certificate.{Invariant, reachable_invariant}
 use Rattle.theory.proofs.FirmVector.{units_within}
 use Rattle.theory.proofs.ListLaws.{get_drop, map_at}
-use Rattle.compact.specs.Compact.{Compact, Interval, Unit, interval_of}
+use Rattle.compact.specs.Compact.{Compact, Interval, CompactUnit, interval_of}
 use Rattle.compact.specs.StepLaws.{StandsCompact}
 use Rattle.unit_steps.specs.Receipts.{NoLonger}
 use Rattle.layer_laws.proofs.Made.{length-vector_of}
@@ -23,7 +23,7 @@ vector_within M w g n x h e = let a = length-vector_of w.nodes x in
 
 -- No vector of a unit's intervals has more entries than there are units.
 pub widths : {S : Type 0} (M : Meaning S) (name : List ℕ) (k : Compact S) (w : World) (log : List Record)
-    → StandsCompact M name k w log → (u : ℕ) (x : Unit S) → slice_get k.units u ≡ Some x
+    → StandsCompact M name k w log → (u : ℕ) (x : CompactUnit S) → slice_get k.units u ≡ Some x
     → (intervals : List Interval) → x.intervals ≡ intervals → (n : ℕ) → length k.units ≡ n → NoLonger n intervals
 widths M name k w log stands u x at intervals same n long i v e =
     let width = stands.represents.width in

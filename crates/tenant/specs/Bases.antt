@@ -3,7 +3,7 @@ use Rattle.std.specs.Prelude.{◌≡◌, ℕ, ◌-◌, false, List, [], drop, mi
 use Rattle.std.specs.Prelude.{slice_set, bytes_eq}
 use Rattle.std.specs.List.{fold}
 use Rattle.checkpoint.specs.Shelves.{nearest_of}
-use Rattle.compact.specs.Compact.{Interval, Letter}
+use Rattle.compact.specs.Compact.{Interval, CompactLetter}
 use Rattle.compact.specs.Forgetting.{without_content}
 use Rattle.rollback.specs.Units.{Recovering, forgotten, places}
 use Rattle.shared_log.specs.Logged.{Grows, Logged, OthersKept, places_of}
@@ -19,17 +19,17 @@ passed r base = take (base - r.base) (drop 1 r.intervals)
 
 -- ---- letters
 
-abbrev pub emptied_at : List Letter → ℕ → Option Letter → List Letter
+abbrev pub emptied_at : List CompactLetter → ℕ → Option CompactLetter → List CompactLetter
 emptied_at letters l None = letters
 emptied_at letters l (Some c) = slice_set letters l (without_content c)
 
 -- without the content of the letter of this number, if there is one
-abbrev pub emptied_by : List Letter → Option ℕ → List Letter
+abbrev pub emptied_by : List CompactLetter → Option ℕ → List CompactLetter
 emptied_by letters None = letters
 emptied_by letters (Some l) = emptied_at letters l (slice_get letters l)
 
 -- without the contents of those that these intervals received
-abbrev pub emptied_all : List Letter → List Interval → List Letter
+abbrev pub emptied_all : List CompactLetter → List Interval → List CompactLetter
 emptied_all letters intervals = fold (λ ls i. emptied_by ls i.letter) letters intervals
 
 -- ---- one unit, whose base moves to the snapshot of this index, if there is one
@@ -41,7 +41,7 @@ abbrev pub moved_member : {S : Type 0} → Member S → Option ℕ → Member S
 moved_member m None = m
 moved_member m (Some base) = rebased_member m base
 
-abbrev pub moved_letters : {S : Type 0} → List Letter → Recovering S → Option ℕ → List Letter
+abbrev pub moved_letters : {S : Type 0} → List CompactLetter → Recovering S → Option ℕ → List CompactLetter
 moved_letters letters r None = letters
 moved_letters letters r (Some base) = emptied_all letters (passed r base)
 

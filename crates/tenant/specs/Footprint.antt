@@ -1,12 +1,12 @@
 -- How long the lists are that a tenant keeps of each unit.
-use Rattle.std.specs.Prelude.{◌≡◌, ◌≤◌, ℕ, ◌+◌, ◌-◌, ◌==◌, ◌&&◌, Bool, List, length, Some, slice_get, is_none}
+use Rattle.std.specs.Prelude.{◌≡◌, ◌≤◌, ℕ, ◌+◌, ◌-◌, ◌==◌, ◌&&◌, Bool, List, length, Some, slice_get}
 use Rattle.std.specs.List.{count_by, enumerate_from, filter}
 use Rattle.model.specs.Handler.{Meaning}
 use Rattle.model.specs.Keeping.{Shelf, received_for_good}
 use Rattle.model.specs.Nodes.{Message}
 use Rattle.model.specs.World.{Member as MemberOf, World, executed, held}
 use Rattle.theory.specs.Laws.{rows_of}
-use Rattle.compact.specs.Compact.{Letter}
+use Rattle.unit_steps.specs.SentLetters.{is_spent_to}
 use Rattle.tenant.specs.declared.footprint.Footprint.{Footprint}
 use Rattle.tenant.specs.Kept.{TenantState, Member}
 
@@ -28,10 +28,6 @@ pub record IsFootprint {S : Type 0} (M : Meaning S) (w : World) (u : ℕ) (m : M
   pub texts : f.texts ≤ f.released
 
 -- ---- by what the tenant keeps
-
--- the letter is to this unit, and has no content
-abbrev pub is_spent_to : ℕ → Letter → Bool
-is_spent_to u c = (c.receiver == u) && is_none c.content
 
 -- these are the lengths of the tenant's own lists
 pub record IsLengths {S : Type 0} (t : TenantState S) (u : ℕ) (m : Member S) (f : Footprint) : Type 0 where

@@ -28,7 +28,7 @@ use Rattle.output_commit.specs.Holds.{Line, held_below, held_of}
 use Rattle.checkpoint.specs.declared.snapshot.Snapshot.{Snapshot}
 use Rattle.checkpoint.specs.Shelves.{nearest_of}
 use Rattle.orphan.specs.Tests.{is_orphan_by}
-use Rattle.compact.specs.Compact.{Letter, Progress, Content}
+use Rattle.compact.specs.Compact.{CompactLetter, Progress, Content}
 use Rattle.rollback.specs.Units.{Recovering, begun_unit, checkpointed, cut_behind, killed_recovering, marked_stable}
 use Rattle.rollback.specs.Units.{places, restored, stable_places, widened_to, asking, took}
 use Rattle.unit_steps.specs.Receipts.{IsFrontier, frontier_of, TenantView, letter_refused, mark_upon, turn_refused}
@@ -55,7 +55,7 @@ pub record TenantState (S : Type 0) : Type 0 where
   pub frontiers : List ℕ
   pub gone : List ℕ
   pub released : List (List (List ℕ))
-  pub letters : List Letter
+  pub letters : List CompactLetter
 
 -- these counts are of texts that were given up, and none was
 abbrev pub NoneGone : List ℕ → Type 0
@@ -289,12 +289,12 @@ abbrev pub known_of : {S : Type 0} → TenantState S → Member S → TenantView
 known_of t m = record { table = t.table; rows = m.known; stable_lengths = t.stable_lengths }
 
 -- why a letter is refused before its turn
-abbrev pub letter_refusal_of : {S : Type 0} → TenantState S → Member S → Letter → Option Refusal
+abbrev pub letter_refusal_of : {S : Type 0} → TenantState S → Member S → CompactLetter → Option Refusal
 letter_refusal_of t m c =
-    letter_refused (known_of t m) t.optimism t.quota.volatile m.unit_state c.source c.number c.content
+    letter_refused (known_of t m) t.optimism t.quota.volatile m.unit_state c.source c.content
 
 -- The letter has a content, upon whose text its receiver's turn has this input, and no test before the turn refuses it.
-abbrev pub IsAskingBy : {S : Type 0} → TenantState S → Member S → Letter → Option Content → Input S → Type 0
+abbrev pub IsAskingBy : {S : Type 0} → TenantState S → Member S → CompactLetter → Option Content → Input S → Type 0
 IsAskingBy t m c None input = ⊥
 IsAskingBy t m c (Some content) input =
     IsAsking (letter_refusal_of t m c) m.unit_state (FromUnit c.source) content.text input
@@ -319,7 +319,8 @@ next_record_of name t u m q = record {
 }
 
 -- the letters that its turn makes, where the unit's sessions were these before
-abbrev pub next_letters_of : {S : Type 0} → TenantState S → ℕ → Member S → Receipt → Turn S → Counts → List Letter
+abbrev pub next_letters_of : {S : Type 0} → TenantState S → ℕ → Member S → Receipt → Turn S → Counts
+    → List CompactLetter
 next_letters_of t u m q turn sessions =
     letters_by u (next_vector_of t u m q) (advanced sessions q.source) (sends_within (length t.members) turn)
 
@@ -339,7 +340,7 @@ received_member M m r outputs =
 
 -- the tenant with such a unit, and with these letters
 abbrev pub received_kept : {S : Type 0} → Meaning S → TenantState S → ℕ → Member S → Record → List (List ℕ)
-    → List Letter → TenantState S
+    → List CompactLetter → TenantState S
 received_kept M t u m r outputs made =
     record t { members = slice_set t.members u (received_member M m r outputs); letters = t.letters ++ made }
 

@@ -1,8 +1,7 @@
 -- What a tenant keeps of its world's past.
-use Rattle.std.specs.Prelude.{◌≡◌, ℕ, ◌+◌, ◌++◌, ◌==◌, ◌&&◌, Bool, false, List, length, map, Option, Some, None}
+use Rattle.std.specs.Prelude.{◌≡◌, ℕ, ◌+◌, ◌++◌, Bool, false, List, length, map, Option, Some, None}
 use Rattle.std.specs.Prelude.{option_map, slice_get, is_none}
 use Rattle.std.specs.List.{filter}
-use Rattle.std.specs.Option.{is_some}
 use Rattle.model.specs.declared.kept.Kept.{Kept as Amount}
 use Rattle.model.specs.declared.replies.Reply.{Reply}
 use Rattle.model.specs.declared.replies.Said.{Said}
@@ -13,7 +12,8 @@ use Rattle.model.specs.Handler.{Meaning}
 use Rattle.model.specs.Keeping.{Shelf, after_open, all_based, base_count, based, changed, firm_length}
 use Rattle.model.specs.Keeping.{received_for_good, shelves_after}
 use Rattle.model.specs.World.{Member as MemberOf, World}
-use Rattle.compact.specs.Compact.{Letter}
+use Rattle.compact.specs.Compact.{CompactLetter}
+use Rattle.unit_steps.specs.SentLetters.{is_whole_to}
 use Rattle.rollback.specs.Units.{Recovering}
 use Rattle.tenant.specs.Kept.{TenantState, Member, live_count}
 use Rattle.tenant.specs.Outcomes.{done}
@@ -30,7 +30,7 @@ shelves_of t = map (λ m. shelf_of m.first_put m.unit_state) t.members
 -- receiver's base received it.
 pub record IsKeeping {S : Type 0} (t : TenantState S) (w : World) (shelves : List Shelf) : Type 0 where
   pub shelved : shelves_of t ≡ shelves
-  pub letters : (l : ℕ) (c : Letter) (m : MemberOf) (s : Shelf) → slice_get t.letters l ≡ Some c
+  pub letters : (l : ℕ) (c : CompactLetter) (m : MemberOf) (s : Shelf) → slice_get t.letters l ≡ Some c
       → slice_get w.members c.receiver ≡ Some m → slice_get shelves c.receiver ≡ Some s
       → is_none c.content ≡ received_for_good w m s l
 
@@ -51,9 +51,9 @@ OpensPast reply t = (z : World) (shelves : List Shelf) → KeepsPast t z (after_
 
 -- No letter gave up its content, and those that were made have theirs.
 pub record AddsLetters {S : Type 0} (t v : TenantState S) : Type 0 where
-  pub made : List Letter
+  pub made : List CompactLetter
   pub letters : v.letters ≡ t.letters ++ made
-  pub whole : (i : ℕ) (c : Letter) → slice_get made i ≡ Some c → is_none c.content ≡ false
+  pub whole : (i : ℕ) (c : CompactLetter) → slice_get made i ≡ Some c → is_none c.content ≡ false
 
 -- The checkpoints changed so.
 pub record Shelves {S : Type 0} (change : List Shelf → List Shelf) (t v : TenantState S) : Type 0 where
@@ -76,15 +76,11 @@ Bases M name t records v = (w : World) (shelves : List Shelf) → Stands M name 
 
 -- ---- how much that is
 
--- the letter is to this unit, and has its content
-abbrev pub is_whole_to : ℕ → Letter → Bool
-is_whole_to u c = (c.receiver == u) && is_some c.content
-
 -- how many checkpoints a unit has
 abbrev pub shelved_count : {S : Type 0} → Member S → ℕ
 shelved_count m = length m.unit_state.shelf.others + base_count m.unit_state.base m.first_put
 
-abbrev pub amount_of : {S : Type 0} → List Letter → ℕ → Member S → Amount
+abbrev pub amount_of : {S : Type 0} → List CompactLetter → ℕ → Member S → Amount
 amount_of letters u m = record {
   records = live_count m.unit_state;
   shelved = shelved_count m;

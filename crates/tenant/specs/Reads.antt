@@ -2,7 +2,7 @@
 use Rattle.std.specs.Prelude.{ℕ, List, [], ◌∷◌, map, take}
 use Rattle.model.specs.declared.names.Seat.{Seat}
 use Rattle.certificate.specs.declared.route.Route.{Route}
-use Rattle.compact.specs.Compact.{Letter}
+use Rattle.compact.specs.Compact.{CompactLetter}
 use Rattle.tenant.specs.Kept.{Member}
 
 -- the seats of the units
@@ -19,5 +19,5 @@ abbrev pub opening_of : List Seat → List Seat
 opening_of seats = take (opening_count seats) seats
 
 -- the route of each letter
-abbrev pub routes_by : List Letter → List Route
+abbrev pub routes_by : List CompactLetter → List Route
 routes_by letters = map (λ l. record { source = l.source; receiver = l.receiver }) letters

@@ -6,7 +6,7 @@ use Rattle.model.specs.declared.replies.Reply.{Reply}
 use Rattle.model.specs.Handler.{Meaning}
 use Rattle.model.specs.World.{World}
 use Rattle.model.specs.Steps.{Outcome, open_new}
-use Rattle.compact.specs.Compact.{Compact, Unit}
+use Rattle.compact.specs.Compact.{Compact, CompactUnit}
 use Rattle.compact.specs.StepLaws.{StandsCompact}
 use Rattle.rollback.specs.Units.{IsKept}
 use Rattle.rollback_laws.specs.Seen.{IsSeen}
@@ -25,7 +25,7 @@ IsReleased gone kept all =
 -- The tenant keeps this unit of the compact state as its u-th. `live` tells the places in the log of each unit's live
 -- records.
 pub record IsMember {S : Type 0} (t : TenantState S) (live : ℕ → List ℕ) (u : ℕ) (m : Member S)
-    (x : Unit S) : Type 0 where
+    (x : CompactUnit S) : Type 0 where
   pub kept : IsKept m.unit_state
   pub seen : IsSeen m.unit_state x
   pub own : m.unit ≡ u
@@ -46,7 +46,8 @@ pub record IsCompact {S : Type 0} (t : TenantState S) (live : ℕ → List ℕ) 
   pub fronts : length t.frontiers ≡ length k.units
   pub counts : length t.gone ≡ length k.units
   pub lines : length t.released ≡ length k.units
-  pub members : (u : ℕ) (m : Member S) (x : Unit S) → slice_get t.members u ≡ Some m → slice_get k.units u ≡ Some x
+  pub members : (u : ℕ) (m : Member S) (x : CompactUnit S) → slice_get t.members u ≡ Some m
+      → slice_get k.units u ≡ Some x
       → IsMember t live u m x
   pub letters : k.letters ≡ t.letters
 

@@ -15,9 +15,9 @@ use certificate::Route;
 use handler::Handler;
 use model::{Entry, Move, NoMemory, TenantName};
 use std::alloc::Global;
-use unit_steps::SentLetter;
+use unit_steps::{LetterRef, SentLetters};
 
-fn route_of(letter: &SentLetter) -> Route
+fn route_of(letter: &LetterRef<'_>) -> Route
     ensures { result ≡ record { source = letter.now.source; receiver = letter.now.receiver } }
 {
     Route {
@@ -27,12 +27,12 @@ fn route_of(letter: &SentLetter) -> Route
 }
 
 /// The route of each letter.
-fn routes(alloc: Global, letters: &[SentLetter]) -> Result<Vec<Route>, NoMemory>
-    ensures { IfOk result (λ routes. routes.items ≡ routes_by letters.now) }
+fn routes(alloc: Global, letters: &SentLetters) -> Result<Vec<Route>, NoMemory>
+    ensures { IfOk result (λ routes. routes.items ≡ routes_by letters.now.items) }
 {
     let mut routes = Vec::new(alloc);
-    for letter in letters {
-        routes.push(route_of(letter))?;
+    for number in 0..letters.len() {
+        routes.push(route_of(&letters.at(number)))?;
     }
     Ok(routes)
 }
@@ -50,7 +50,7 @@ impl<H: Handler> Tenant<H> {
             AreCertificate H.meaning name.now history.now self.now.table self.now.frontiers
             (routes_by self.now.letters) moves.items) }
     {
-        let routes = routes(alloc, self.letters.as_slice())?;
+        let routes = routes(alloc, &self.letters)?;
         let frontiers = self.frontiers.as_slice();
         certificate::certificate(
             alloc,

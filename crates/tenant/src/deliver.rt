@@ -5,7 +5,7 @@ ghost use Rattle.std.specs.Prelude.{length, slice_get, true};
 ghost use Rattle.model.specs.declared.records.Record.{Record as RecordOf};
 ghost use Rattle.model.specs.Steps.{deliver as deliver_of};
 ghost use Rattle.model.specs.World.{World};
-ghost use Rattle.compact.specs.Compact.{Letter as LetterOf};
+ghost use Rattle.compact.specs.Compact.{CompactLetter};
 ghost use Rattle.rollback.specs.Units.{places};
 ghost use Rattle.unit_steps.specs.Receipts.{IsWithin};
 ghost use Rattle.tenant.specs.Past.{SameShelves};
@@ -21,19 +21,19 @@ use crate::tenant::Tenant;
 use handler::{Ask, Done, Handler};
 use model::{Letter, NoMemory, Refusal, Source, TenantName};
 use std::alloc::Global;
-use unit_steps::{SentLetter, TenantView, letter_refusal};
+use unit_steps::{LetterRef, TenantView, letter_refusal};
 
 impl<H: Handler> Tenant<H> {
     /// The letter of this number.
-    pub(crate) fn letter(&self, letter: Letter) -> Option<&SentLetter>
+    pub(crate) fn letter(&self, letter: Letter) -> Option<LetterRef<'_>>
         ensures { MatchOption result (slice_get self.now.letters letter ≡ None) (λ l.
-            slice_get self.now.letters letter ≡ Some l.now) }
+            slice_get self.now.letters letter ≡ Some l) }
     {
         self.letters.get(letter.number() as usize)
     }
 
     /// Why a letter is refused before its turn.
-    fn letter_refusal(&self, member: &Member<H>, sent: &SentLetter) -> Option<Refusal>
+    fn letter_refusal(&self, member: &Member<H>, sent: &LetterRef<'_>) -> Option<Refusal>
         ensures refusal { IsWithin (length self.now.stable_lengths) sent.now.content
             → result ≡ letter_refusal_of self.now member.now sent.now }
         ensures within { IfNone result (IsWithin (length self.now.stable_lengths) sent.now.content) }
@@ -64,7 +64,7 @@ impl<H: Handler> Tenant<H> {
         ensures asked { IfOk result (λ r. (name : List ℕ) (live : ℕ → List ℕ) (w : World) (log : List RecordOf)
             → StandsFor H.meaning name live self.now w log
             → IsAsked (deliver_needs H.meaning w letter) (deliver_of H.meaning w letter) w r) }
-        ensures input { IfOk result (λ r. IfOk r (λ input. (c : LetterOf) (m : MemberOf H.State)
+        ensures input { IfOk result (λ r. IfOk r (λ input. (c : CompactLetter) (m : MemberOf H.State)
             → slice_get self.now.letters letter ≡ Some c → slice_get self.now.members c.receiver ≡ Some m
             → IsAskingBy self.now m c c.content input)) }
     {
@@ -80,11 +80,11 @@ impl<H: Handler> Tenant<H> {
                 return Ok(Err(Refusal::NoUnit));
             }
         };
-        match self.letter_refusal(member, sent) {
+        match self.letter_refusal(member, &sent) {
             Some(refusal) => return Ok(Err(refusal)),
             None => {}
         }
-        let content = match &sent.content {
+        let content = match sent.content {
             Some(content) => content,
             // One that is forgotten is refused before.
             None => {
@@ -104,7 +104,7 @@ impl<H: Handler> Tenant<H> {
         letter: Letter,
         worked: Done<H>,
     ) -> Result<Answer, NoMemory>
-        requires { (c : LetterOf) (m : MemberOf H.State) → slice_get self.old.letters letter ≡ Some c
+        requires { (c : CompactLetter) (m : MemberOf H.State) → slice_get self.old.letters letter ≡ Some c
             → slice_get self.old.members c.receiver ≡ Some m → IsAskingBy self.old m c c.content worked.input }
         ensures done { IfOk result (λ a.
             DoesAs H.meaning name.now (λ w. deliver_of H.meaning w letter) self.old a.reply self.new) }
@@ -126,7 +126,7 @@ impl<H: Handler> Tenant<H> {
                 return Ok(Answer::refused(Refusal::NoUnit));
             }
         };
-        let content = match &sent.content {
+        let content = match sent.content {
             Some(content) => content,
             // One that is forgotten needs no turn.
             None => {
@@ -136,7 +136,7 @@ impl<H: Handler> Tenant<H> {
         let arrival = Incoming {
             source: Source::Unit(sent.source),
             letter: Some(letter),
-            number: sent.number,
+            number: content.number(),
             text: content.text(),
             vector: content.vector(),
         };

@@ -1,11 +1,10 @@
 //! How long the lists are that are kept of a unit.
 
 ghost use Rattle.std.specs.Prelude.{◌≡◌, ℕ, List, MatchOption, None, Option, Some, length, slice_get};
-ghost use Rattle.std.specs.List.{filter};
 ghost use Rattle.model.specs.Keeping.{Shelf};
 ghost use Rattle.model.specs.World.{Member as MemberOf, World};
 ghost use Rattle.model.specs.declared.records.Record.{Record};
-ghost use Rattle.tenant.specs.Footprint.{IsFootprint, IsLengths, is_spent_to};
+ghost use Rattle.tenant.specs.Footprint.{IsFootprint, IsLengths};
 ghost use Rattle.tenant.specs.Past.{KeepsPast};
 ghost use Rattle.tenant.specs.Kept.{Member as MemberState};
 ghost use Rattle.tenant.specs.Stands.{Stands};
@@ -13,7 +12,6 @@ ghost use Rattle.tenant.specs.Stands.{Stands};
 use crate::tenant::Tenant;
 use handler::Handler;
 use model::Unit;
-use unit_steps::SentLetter;
 
 /// How long the lists are that are kept of a unit, beside those that `Kept` counts: its live records, its checkpoints
 /// and the letters to it whose texts are kept. None of them is longer than its quota or limit allows, as
@@ -36,23 +34,6 @@ pub struct Footprint {
     pub texts: u64,
 }
 
-/// Whether the letter is to this unit, and has no content.
-fn is_spent_to(letter: &SentLetter, unit: Unit) -> bool
-    ensures { result ≡ is_spent_to unit letter.now }
-{
-    letter.receiver == unit && letter.content.is_none()
-}
-
-/// How many of the letters are to this unit, and have no content.
-fn count_spent_to(letters: &[SentLetter], unit: Unit) -> usize
-    ensures { result ≡ length (filter (is_spent_to unit) letters.now) }
-{
-    letters
-        .iter()
-        .filter(|letter| is_spent_to(letter, unit))
-        .count()
-}
-
 impl<H: Handler> Tenant<H> {
     /// The lengths of the unit's lists, if the unit is there.
     fn lengths(&self, unit: Unit) -> Option<Footprint>
@@ -66,7 +47,7 @@ impl<H: Handler> Tenant<H> {
                 volatile: member.volatile_count() as u64,
                 held: member.held_count() as u64,
                 rows: self.table.rows_of(unit).len() as u64,
-                spent: count_spent_to(&self.letters, unit) as u64,
+                spent: self.letters.count_spent_to(unit) as u64,
                 released: self.released_count(unit),
                 texts: self.text_count(unit) as u64,
             }),

@@ -2,7 +2,6 @@
 
 ghost use Rattle.std.specs.Prelude.{◌≡◌, ◌<◌, List, Some, length, slice_get, slice_set};
 ghost use Rattle.model.specs.World.{World};
-ghost use Rattle.compact.specs.Forgetting.{without_content};
 ghost use Rattle.rollback.specs.Units.{places};
 ghost use Rattle.tenant.specs.Bases.{IsBeside, LetsGo, emptied_all, emptied_by, given_up, moved_kept, moved_letters};
 ghost use Rattle.tenant.specs.Bases.{moved_member, next_base, passed};
@@ -18,31 +17,20 @@ use handler::Handler;
 use model::{Letter, TenantName};
 use rollback::RecoveryUnit;
 use shared_log::{SharedLog, Store};
-use unit_steps::SentLetter;
+use unit_steps::SentLetters;
 
-/// The letter gives up its content.
-fn empty(sent: &mut SentLetter)
-    ensures { sent.new ≡ without_content sent.old }
-{
-    sent.content = None;
-}
-
-/// So does the letter of this number, if there is one.
-fn empty_letter(letters: &mut Vec<SentLetter>, letter: Option<Letter>)
+/// The letter of this number gives up its content, if there is one.
+fn empty_letter(letters: &mut SentLetters, letter: Option<Letter>)
     ensures { letters.new.items ≡ emptied_by letters.old.items letter }
 {
-    let at = match letter {
-        Some(letter) => letter.number() as usize,
-        None => return,
-    };
-    if at < letters.len() {
-        let sent = &mut letters[at];
-        empty(sent);
+    match letter {
+        Some(letter) => letters.forget(letter.number() as usize),
+        None => {}
     }
 }
 
 /// So do those that the unit received behind its base, up to the interval of this index.
-fn empty_passed<H: Handler>(letters: &mut Vec<SentLetter>, unit_state: &RecoveryUnit<H>, base: u32)
+fn empty_passed<H: Handler>(letters: &mut SentLetters, unit_state: &RecoveryUnit<H>, base: u32)
     requires { base < places unit_state.now }
     ensures { letters.new.items ≡ emptied_all letters.old.items (passed unit_state.now base) }
 {
@@ -56,7 +44,7 @@ fn empty_passed<H: Handler>(letters: &mut Vec<SentLetter>, unit_state: &Recovery
 fn forget_member<H: Handler, S: Store>(
     tenant: &TenantName,
     member: &mut Member<H>,
-    letters: &mut Vec<SentLetter>,
+    letters: &mut SentLetters,
     frontier: u64,
     log: &mut SharedLog<S>,
 )
@@ -79,7 +67,7 @@ fn forget_member<H: Handler, S: Store>(
 fn forget_at<H: Handler, S: Store>(
     tenant: &TenantName,
     members: &mut Vec<Member<H>>,
-    letters: &mut Vec<SentLetter>,
+    letters: &mut SentLetters,
     at: usize,
     frontier: u64,
     log: &mut SharedLog<S>,

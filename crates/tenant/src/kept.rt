@@ -1,34 +1,15 @@
 //! How much is kept of a unit's past.
 
-ghost use Rattle.std.specs.Prelude.{◌≡◌, ℕ, List, Option, length};
-ghost use Rattle.std.specs.List.{filter};
+ghost use Rattle.std.specs.Prelude.{◌≡◌, ℕ, List, Option};
 ghost use Rattle.model.specs.Keeping.{Shelf, kept_in};
 ghost use Rattle.model.specs.World.{World};
 ghost use Rattle.model.specs.declared.records.Record.{Record};
-ghost use Rattle.tenant.specs.Past.{KeepsPast, is_whole_to, kept_by};
+ghost use Rattle.tenant.specs.Past.{KeepsPast, kept_by};
 ghost use Rattle.tenant.specs.Stands.{Stands};
 
 use crate::tenant::Tenant;
 use handler::Handler;
 use model::{Kept, Unit};
-use unit_steps::SentLetter;
-
-/// Whether the letter is to this unit, and has its content.
-fn is_whole_to(letter: &SentLetter, unit: Unit) -> bool
-    ensures { result ≡ is_whole_to unit letter.now }
-{
-    letter.receiver == unit && letter.content.is_some()
-}
-
-/// How many of the letters are to this unit, and have their content.
-fn count_whole_to(letters: &[SentLetter], unit: Unit) -> usize
-    ensures { result ≡ length (filter (is_whole_to unit) letters.now) }
-{
-    letters
-        .iter()
-        .filter(|letter| is_whole_to(letter, unit))
-        .count()
-}
 
 impl<H: Handler> Tenant<H> {
     /// How much it has of this unit's past, if the unit is there.
@@ -39,7 +20,7 @@ impl<H: Handler> Tenant<H> {
             Some(member) => Some(Kept {
                 records: member.live_count() as u64,
                 shelved: member.shelved_count() as u64,
-                letters: count_whole_to(&self.letters, unit) as u64,
+                letters: self.letters.count_whole_to(unit) as u64,
             }),
             None => None,
         }

@@ -4,7 +4,7 @@ ghost use Rattle.std.specs.Prelude.{◌≡◌, ◌≢◌, ◌++◌, ◌+◌, ◌
 ghost use Rattle.std.specs.Prelude.{option_map, slice_index, true};
 ghost use Rattle.std.specs.Option.{is_some};
 ghost use Rattle.output_commit.specs.Holds.{gone_of as count_of, room_of, line_texts};
-ghost use Rattle.compact.specs.Compact.{Unit as UnitOf};
+ghost use Rattle.compact.specs.Compact.{CompactUnit};
 ghost use Rattle.compact.specs.Steps.{last_mark as last_mark_of};
 ghost use Rattle.checkpoint.specs.declared.snapshot.Snapshot.{Snapshot as SnapshotOf};
 ghost use Rattle.checkpoint.specs.Shelves.{has_index, nearest_of};
@@ -205,7 +205,7 @@ impl<H: Handler> Member<H> {
 
     /// The mark of its last interval.
     pub(crate) fn last_mark(&self, unit: Unit) -> Mark
-        ensures { (x : UnitOf H.State) → IsKept self.now.unit_state → IsSeen self.now.unit_state x
+        ensures { (x : CompactUnit H.State) → IsKept self.now.unit_state → IsSeen self.now.unit_state x
             → result ≡ last_mark_of unit x }
     {
         let index = self.unit_state.last_index();

@@ -22,6 +22,7 @@ use model::{
 };
 use output_commit::Outlet;
 use std::alloc::Global;
+use unit_steps::SentLetters;
 
 fn within(low: u32, x: u32, high: u32) -> bool
     ensures { result ≡ is_within low x high }
@@ -134,7 +135,7 @@ impl<H: Handler> Tenant<H> {
             stable_lengths,
             frontiers,
             outlet,
-            letters: Vec::new(alloc),
+            letters: SentLetters::new(alloc),
         })
     }
 

@@ -24,7 +24,7 @@ use model::{Letter, Letters, NoMemory, Record, Refusal, Source, TenantName, Text
 use session::Sessions;
 use std::alloc::Global;
 use unit_steps::{
-    NewLetters, SentLetter, letters_by, mark_upon, record_upon, turn_refusal, vector_upon,
+    NewLetters, SentLetters, letters_by, mark_upon, record_upon, turn_refusal, vector_upon,
 };
 
 /// What a unit receives: from whom, which letter under which number, its text and its vector.
@@ -66,7 +66,7 @@ pub(crate) fn ask_upon<H: Handler>(
 /// Takes a receipt at the unit at this place, with the letters that its turn makes: all or nothing.
 fn receive_at<H: Handler>(
     members: &mut Vec<Member<H>>,
-    letters: &mut Vec<SentLetter>,
+    letters: &mut SentLetters,
     at: usize,
     logged: Record,
     made: NewLetters,
@@ -85,7 +85,7 @@ fn receive_at<H: Handler>(
     letters.reserve(made.len())?;
     let member = &mut members[at];
     member.receive(logged, worked)?;
-    made.move_behind(letters);
+    letters.add(made);
     Ok(())
 }
 

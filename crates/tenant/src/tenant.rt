@@ -10,7 +10,7 @@ use incarnation::StartTable;
 use model::{Quota, Refusal, Unit};
 use output_commit::Outlet;
 use std::marker::Model;
-use unit_steps::SentLetter;
+use unit_steps::SentLetters;
 
 /// An open tenant: its units with the counts of their stable and of their firm intervals, what they released, the
 /// letters, and the table of rows. Whoever writes a tenant down and reads it again makes it of these parts: which world
@@ -24,7 +24,7 @@ pub struct Tenant<H: Handler> {
     pub stable_lengths: Vec<u64>,
     pub frontiers: Vec<u64>,
     pub outlet: Outlet,
-    pub letters: Vec<SentLetter>,
+    pub letters: SentLetters,
 }
 
 impl<H: Handler> Model for Tenant<H> {

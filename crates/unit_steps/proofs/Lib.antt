@@ -4,10 +4,12 @@
 -- Numbers: what numbers letters have (`sent_stays`).
 -- Pending: what holds of a letter that depends on few units (`few_unstable`).
 -- Seen: what is computed at one unit is what the steps of the compact state compute (`letters_are_refused`).
+-- Spent: what is left of letters whose contents are forgotten (`front_stays`).
 -- Vectors: what the vector of a receipt is made of (`joined_first`).
 pub mod Both
 pub mod Frontiers
 pub mod Numbers
 pub mod Pending
 pub mod Seen
+pub mod Spent
 pub mod Vectors

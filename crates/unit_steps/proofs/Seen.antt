@@ -12,7 +12,7 @@ use Rattle.model.specs.declared.refusals.Refusal.TheVariants.{Limit, Quota as Ov
 use Rattle.model.specs.Handler.{Meaning}
 use Rattle.model.specs.Steps.{first_refusal, is_long}
 use Rattle.session.specs.Counts.{taken_from}
-use Rattle.compact.specs.Compact.{Compact, Content, Interval, Letter, Progress, Unit}
+use Rattle.compact.specs.Compact.{Compact, Content, Interval, CompactLetter, Progress, CompactUnit}
 use Rattle.depvector.specs.Vectors.{joined, widened}
 use Rattle.compact.specs.Laws.{firm_front}
 use Rattle.compact.specs.Steps.{Receipt, last_vector, letter_refusal, next_mark, next_vector, or_next, post_refusal}
@@ -35,7 +35,7 @@ vector_at (v ∷ intervals) zero = refl
 vector_at (v ∷ intervals) (suc n) = vector_at intervals n
 
 module _ {S : Type 0} (M : Meaning S)
-    (r : Recovering S) (x : Unit S) (kept : IsKept r) (seen : IsSeen r x) (k : Compact S) where
+    (r : Recovering S) (x : CompactUnit S) (kept : IsKept r) (seen : IsSeen r x) (k : Compact S) where
   there : HasPlaces r x
   there = places_are_seen M r x kept seen
 
@@ -61,22 +61,23 @@ module _ {S : Type 0} (M : Meaning S)
   abbrev past : List Mark → List (Bool × Refusal)
   past vector = past_tests (known_to k x) k.optimism r vector
 
-  letters : (source number : ℕ) (content : Content) (o : Option (Progress S)) → r.progress ≡ o
+  letters : (source : ℕ) (content : Content) (o : Option (Progress S)) → r.progress ≡ o
       → or_next (first_refusal (past content.vector)) (first_refusal
-      (tests_of_number (taken_from x.now.sessions (FromUnit source)) number ++ tests_of_room k x content.text))
+      (tests_of_number (taken_from x.now.sessions (FromUnit source)) content.number ++ tests_of_room k x content.text))
       ≡ or_next (first_refusal (past content.vector))
-      (arrival_refusal k.quota.volatile r (FromUnit source) number content.text o)
+      (arrival_refusal k.quota.volatile r (FromUnit source) content.number content.text o)
   unfolding first_refusal
-  letters source number content None e = rw e refl
-  letters source number content (Some p) e =
-      ap (or_next (first_refusal (past content.vector))) (arrives (FromUnit source) number content.text p e)
+  letters source content None e = rw e refl
+  letters source content (Some p) e =
+      ap (or_next (first_refusal (past content.vector))) (arrives (FromUnit source) content.number content.text p e)
 
-  letter : (c : Letter) (o : Option Content)
-      → letter_refusal k x c o ≡ letter_refused (known_to k x) k.optimism k.quota.volatile r c.source c.number o
+  letter : (c : CompactLetter) (o : Option Content)
+      → letter_refusal k x c o ≡ letter_refused (known_to k x) k.optimism k.quota.volatile r c.source o
   letter c None = rw seen.up refl
   letter c (Some content) = rw seen.up (refusal_append (past content.vector)
-      (tests_of_number (taken_from x.now.sessions (FromUnit c.source)) c.number ++ tests_of_room k x content.text)
-      ∙ letters c.source c.number content r.progress refl)
+      (tests_of_number (taken_from x.now.sessions (FromUnit c.source)) content.number
+      ++ tests_of_room k x content.text)
+      ∙ letters c.source content r.progress refl)
 
   marks : (u : ℕ) → next_mark k u x ≡ mark_upon k.table u r
   marks u = λ i. record { incarnation = incarnation_of k.table u; index = there.long i }

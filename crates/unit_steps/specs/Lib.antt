@@ -1,3 +1,4 @@
 pub mod Receipts
 pub mod Laws
 pub mod NewLetters
+pub mod SentLetters

@@ -53,12 +53,12 @@ past_tests known optimism r vector =
     tests_of_past (is_some r.progress) (take known.rows known.table) known.table known.stable_lengths optimism vector
 
 -- the refusal of a letter before its turn; a forgotten one was taken
-abbrev pub letter_refused : {S : Type 0} → TenantView → ℕ → ℕ → Recovering S → ℕ → ℕ → Option Content → Option Refusal
-letter_refused known optimism volatile_quota r source number None =
+abbrev pub letter_refused : {S : Type 0} → TenantView → ℕ → ℕ → Recovering S → ℕ → Option Content → Option Refusal
+letter_refused known optimism volatile_quota r source None =
     first_refusal ((not (is_some r.progress), Down) ∷ (true, Repeat) ∷ [])
-letter_refused known optimism volatile_quota r source number (Some content) =
+letter_refused known optimism volatile_quota r source (Some content) =
     or_next (first_refusal (past_tests known optimism r content.vector))
-    (arrival_refusal volatile_quota r (FromUnit source) number content.text r.progress)
+    (arrival_refusal volatile_quota r (FromUnit source) content.number content.text r.progress)
 
 -- the refusal of a receipt for what its turn makes, where so many outputs are held, letters made and units there
 abbrev pub turn_refused : {S : Type 0} → Quota → ℕ → ℕ → ℕ → Turn S → Option Refusal

@@ -13,9 +13,10 @@ use session::Sessions;
 use std::alloc::Global;
 use std::marker::Model;
 
-/// The text of a letter, and the vector of its sender's interval.
+/// The number of a letter, its text, and the vector of its sender's interval.
 #[derive(Drop)]
 struct Parts {
+    number: u64,
     text: Text,
     vector: SharedVector,
 }
@@ -25,7 +26,7 @@ impl Model for Parts {
 
     ghost Value = { ContentOf };
 
-    ghost view = { λ p. record { text = p.text; vector = p.vector } };
+    ghost view = { λ p. record { number = p.number; text = p.text; vector = p.vector } };
 }
 
 /// What is forgotten of a letter once its receipt is firm for good. It lies in a place of its own, so that a letter
@@ -44,16 +45,36 @@ impl Model for Content {
 }
 
 impl Content {
-    /// The content of a letter with this text, sent in an interval of this vector.
+    /// The content of the letter of this number in the session of its sender and its receiver, with this text, sent in
+    /// an interval of this vector.
     ///
     /// # Errors
     ///
     /// `NoMemory` where it finds no memory.
-    pub fn new(alloc: Global, text: Text, vector: SharedVector) -> Result<Content, NoMemory>
-        ensures { IfOk result (λ c. c ≡ record { text = text; vector = vector }) }
+    pub fn new(
+        alloc: Global,
+        number: u64,
+        text: Text,
+        vector: SharedVector,
+    ) -> Result<Content, NoMemory>
+        ensures { IfOk result (λ c. c ≡ record { number = number; text = text; vector = vector }) }
     {
-        let parts = Box::new(alloc, Parts { text, vector })?;
+        let parts = Box::new(
+            alloc,
+            Parts {
+                number,
+                text,
+                vector,
+            },
+        )?;
         Ok(Content { parts })
+    }
+
+    /// Its number in the session of its sender and its receiver, from 0.
+    pub fn number(&self) -> u64
+        ensures { result ≡ self.now.number }
+    {
+        self.parts.number
     }
 
     pub fn text(&self) -> &Text
@@ -70,22 +91,20 @@ impl Content {
     }
 }
 
-/// A letter: its sender's unit and its receiver, its number in their session, and its content where that is not
-/// forgotten.
+/// A letter: its sender's unit and its receiver, and its content where that is not forgotten.
 #[derive(Drop)]
 pub struct SentLetter {
     pub source: Unit,
     pub receiver: Unit,
-    pub number: u64,
     pub content: Option<Content>,
 }
 
 impl Model for SentLetter {
-    ghost use Rattle.compact.specs.Compact.{Letter as LetterOf};
+    ghost use Rattle.compact.specs.Compact.{CompactLetter};
 
-    ghost Value = { LetterOf };
+    ghost Value = { CompactLetter };
 
-    ghost view = { λ l. record { source = l.source; receiver = l.receiver; number = l.number; content = l.content } };
+    ghost view = { λ l. record { source = l.source; receiver = l.receiver; content = l.content } };
 }
 
 /// The letter of a send, of which the sender had sent so many to the receiver before.
@@ -102,17 +121,15 @@ fn letter_of(
         l ≡ record {
           source = unit;
           receiver = receiver;
-          number = number;
           content = Some
-              (record { text = text; vector = vector.now });
+              (record { number = number; text = text; vector = vector.now });
         }) }
 {
     let vector = vector.copy(alloc)?;
-    let content = Content::new(alloc, text, vector)?;
+    let content = Content::new(alloc, number, text, vector)?;
     Ok(SentLetter {
         source: unit,
         receiver,
-        number,
         content: Some(content),
     })
 }

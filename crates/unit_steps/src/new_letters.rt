@@ -1,8 +1,10 @@
 //! The letters of one turn.
 
-ghost use Rattle.std.specs.Prelude.{◌≡◌, ◌+◌, ◌≤◌, [], ◌∷◌, ◌++◌, length, vec_capacity, vec_len};
+ghost use Rattle.std.specs.Prelude.{◌≡◌, ◌+◌, ◌≤◌, [], ◌∷◌, ◌++◌, length};
+ghost use Rattle.std.specs.VecDeque.{deque_capacity, deque_len};
 
 use crate::letters::SentLetter;
+use std::collections::VecDeque;
 use std::marker::Model;
 
 /// Where the letters of a turn lie.
@@ -67,18 +69,25 @@ impl NewLetters {
 
     /// Moves them behind other letters, which have room for them. Takes no memory.
     #[inline(always)]
-    pub fn move_behind(self, letters: &mut Vec<SentLetter>)
-        requires { vec_len letters.old + length self.items ≤ vec_capacity letters.old }
+    pub(crate) fn move_behind(self, letters: &mut VecDeque<SentLetter>)
+        requires { deque_len letters.old + length self.items ≤ deque_capacity letters.old }
         ensures { letters.new.items ≡ letters.old.items ++ self.items }
     {
         let NewLetters { letters: made } = self;
         match made {
             LetterStorage::Zero => {}
-            LetterStorage::One(letter) => letters.push_reserved(letter),
-            LetterStorage::Many(more) => {
-                let mut rest = more;
-                let _ = letters.append(&mut rest);
-            }
+            LetterStorage::One(letter) => letters.push_back_reserved(letter),
+            LetterStorage::Many(more) => push_all(letters, more),
         }
+    }
+}
+
+/// Moves these letters behind others, which have room for them.
+fn push_all(letters: &mut VecDeque<SentLetter>, more: Vec<SentLetter>)
+    requires { deque_len letters.old + length more.items ≤ deque_capacity letters.old }
+    ensures { letters.new.items ≡ letters.old.items ++ more.items }
+{
+    for letter in more {
+        letters.push_back_reserved(letter);
     }
 }

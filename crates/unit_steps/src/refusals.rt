@@ -16,7 +16,7 @@ ghost use Rattle.rollback.specs.Units.{places};
 ghost use Rattle.unit_steps.specs.Receipts.{IsWithin, arrival_refusal as arrival_refusal_of, receipt_room_tests};
 ghost use Rattle.unit_steps.specs.Receipts.{post_refused, letter_refused, turn_refused, past_tests};
 
-use crate::letters::{Content, SentLetter};
+use crate::sent_letters::LetterRef;
 use depvector::SharedVector;
 use handler::{Handler, Turn};
 use incarnation::StartTable;
@@ -214,7 +214,7 @@ pub fn letter_refusal<H: Handler>(
     optimism: u32,
     volatile_quota: u32,
     unit: &RecoveryUnit<H>,
-    letter: &SentLetter,
+    letter: &LetterRef<'_>,
 ) -> Option<Refusal>
     ensures refusal { IsWithin (length known.now.stable_lengths.now) letter.now.content
         → result ≡ letter_refused (record {
@@ -222,12 +222,12 @@ pub fn letter_refusal<H: Handler>(
           rows = known.now.rows;
           stable_lengths = known.now.stable_lengths.now;
         })
-        optimism volatile_quota unit.now letter.now.source letter.now.number letter.now.content }
+        optimism volatile_quota unit.now letter.now.source letter.now.content }
     ensures content { IfNone result (is_some letter.now.content ≡ true) }
     ensures within { IfNone result (IsWithin (length known.now.stable_lengths.now) letter.now.content) }
     ensures room { IfNone result (places unit.now < 2 ^ 32) }
 {
-    let content = match &letter.content {
+    let content = match letter.content {
         Some(content) => content,
         None => {
             return forgotten_refusal(unit);
@@ -238,7 +238,13 @@ pub fn letter_refusal<H: Handler>(
         None => {}
     }
     let source = Source::Unit(letter.source);
-    arrival_refusal(volatile_quota, unit, source, letter.number, content.text())
+    arrival_refusal(
+        volatile_quota,
+        unit,
+        source,
+        content.number(),
+        content.text(),
+    )
 }
 
 /// Why a receipt is refused for what its turn makes, where so many outputs are held, so many letters made, and so

@@ -1,4 +1,4 @@
-use Rattle.std.proofs.Common.{bytes_eq, None, ◌≡◌, ◌++◌, ◌∷◌, [], ◌∙◌, ap, sym, subst, List, ℕ, drop, take, ◌+◌, length}
+use Rattle.std.proofs.Common.{bytes_eq, None, ◌≡◌, ◌++◌, ◌∷◌, [], ◌∙◌, ap, sym, subst, List, ℕ, drop, ◌+◌, length}
 use Rattle.std.proofs.Common.{arith}
 use Rattle.std.specs.List.{IsDistinct}
 use Rattle.std.specs.Map.{keys_of, lookup}

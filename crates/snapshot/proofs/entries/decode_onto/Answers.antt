@@ -1,8 +1,7 @@
-use Rattle.std.proofs.Common.{◌≡◌, ◌++◌, ◌∷◌, [], ◌∙◌, ap, sym, subst, bytes_eq, List, ℕ, None}
+use Rattle.std.proofs.Common.{◌≡◌, ◌++◌, ◌∷◌, [], ◌∙◌, sym, subst, bytes_eq, List, ℕ, None}
 use Rattle.codec.specs.Codes.{Unless}
 use Rattle.codec.specs.declared.fault.DecodeFault.TheVariants.{NoMemory}
 use Rattle.indexmap.specs.IndexMap.{get}
-use Rattle.tenant.specs.Kept.{TenantState}
 use Rattle.snapshot.specs.Hosts.{FitsEntry, entry_code}
 use Rattle.snapshot.proofs.Faults.{failed}
 use Rattle.snapshot.proofs.entries.decode_onto.Goals as goal

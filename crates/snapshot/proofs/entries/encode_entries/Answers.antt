@@ -1,4 +1,4 @@
-use Rattle.std.proofs.Common.{◌≡◌, ◌++◌, ◌∙◌, ap, sym, subst, List, ℕ, ◌<◌, ◌^◌, length}
+use Rattle.std.proofs.Common.{◌++◌, ◌∙◌, ap, subst, ℕ, ◌<◌, ◌^◌}
 use Rattle.codec.specs.Codes.{number_code, each_code}
 use Rattle.snapshot.specs.Hosts.{entry_code}
 use Rattle.snapshot.proofs.entries.encode_entries.Goals as goal

@@ -1,4 +1,4 @@
-use Rattle.std.proofs.Common.{◌≡◌, ◌++◌, ◌∙◌}
+use Rattle.std.proofs.Common.{◌∙◌}
 use Rattle.snapshot.proofs.entries.encode_named.Goals as goal
 
 pub returns-clause-code : goal.returns-clause-code

@@ -1,4 +1,4 @@
-use Rattle.std.proofs.Common.{◌≡◌, ◌∙◌, refl, bytes_eq, Bool, true, false, true≢false, sym, ap, Option, Some, None}
+use Rattle.std.proofs.Common.{◌≡◌, ◌∙◌, refl, bytes_eq, false, true≢false, sym, ap, Option, Some, None}
 use Rattle.std.specs.Option.{is_some}
 use Rattle.indexmap.proofs.CallerLemmas.{insert_entry-new}
 use Rattle.snapshot.proofs.entries.put_new.Goals as goal

@@ -1,4 +1,4 @@
-use Rattle.std.proofs.Common.{◌≡◌, ◌++◌, ◌∷◌, ◌∙◌, ap, sym, subst, List, ℕ, drop, ◌+◌, ◌<◌, length, arith}
+use Rattle.std.proofs.Common.{◌++◌, ◌∙◌, ap, sym, subst, drop, ◌+◌, arith}
 use Rattle.codec.specs.Codes.{AllFit, each_code}
 use Rattle.codec.specs.Layers.{FitsHeld, held_code}
 use Rattle.codec.proofs.Each.{found, found_drop}

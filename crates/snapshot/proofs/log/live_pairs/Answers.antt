@@ -1,5 +1,4 @@
-use Rattle.std.proofs.Common.{◌≡◌, ◌∙◌, ap, sym, subst, List, ℕ}
-use Rattle.model.specs.declared.records.Record.{Record}
+use Rattle.std.proofs.Common.{◌∙◌, ap, sym, subst}
 use Rattle.shared_log.specs.Filled.{pairs_at, AreLiveIn, HaveAllLive}
 use Rattle.shared_log.proofs.LiveLaws.{pairs_have, pairs_live}
 use Rattle.snapshot.specs.Logs.{LeaveRoom}

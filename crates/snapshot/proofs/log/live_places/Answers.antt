@@ -1,4 +1,4 @@
-use Rattle.std.proofs.Common.{◌≡◌, ◌<◌, ◌≤◌, ◌∙◌, sym, ap, subst, List, ℕ, [], ◌∷◌, take, drop, length, arith}
+use Rattle.std.proofs.Common.{◌≡◌, ◌<◌, sym, subst, List, ℕ, [], ◌∷◌, take, drop, length, arith}
 use Rattle.std.specs.Prelude.{All, Contains, slice_index_or, ◌+◌}
 use Rattle.std.proofs.lemmas.List.{take_all, get_or_read}
 use Rattle.std.proofs.lemmas.List.Elements.{All-head, All-more, All-nil, All-tail, All-weaker}

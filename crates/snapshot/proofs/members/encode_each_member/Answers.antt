@@ -1,4 +1,4 @@
-use Rattle.std.proofs.Common.{◌≡◌, ◌++◌, ◌∷◌, ◌∙◌, ap, sym, subst, List, ℕ, drop, ◌+◌, arith}
+use Rattle.std.proofs.Common.{◌++◌, ◌∙◌, ap, sym, subst, drop, ◌+◌, arith}
 use Rattle.codec.specs.Codes.{AllFit, each_code}
 use Rattle.snapshot.specs.Tenants.{FitsMember, member_code}
 use Rattle.codec.proofs.Each.{at_drop, from_start}

@@ -1,6 +1,6 @@
-use Rattle.std.proofs.Common.{rules, ◌≡◌, ◌++◌, ◌∷◌, [], ◌∙◌, ap, sym, subst, List, ℕ, drop, take, ◌+◌, length, arith}
+use Rattle.std.proofs.Common.{rules, ◌≡◌, ◌++◌, ◌∷◌, [], ◌∙◌, ap, sym, subst, drop, ◌+◌, arith}
 use Rattle.codec.specs.Codes.{AllFit, UnlessEach, each_code}
-use Rattle.snapshot.specs.Parts.{FitsLine, line_code, pairs_of}
+use Rattle.snapshot.specs.Parts.{FitsLine, line_code}
 use Rattle.codec.specs.declared.fault.DecodeFault.TheVariants.{NoMemory}
 use Rattle.codec.proofs.Each.{there, from_start}
 use Rattle.snapshot.proofs.outlets.decode_all_onto.Goals as goal

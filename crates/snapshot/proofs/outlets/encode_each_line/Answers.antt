@@ -1,4 +1,4 @@
-use Rattle.std.proofs.Common.{◌≡◌, ◌++◌, ◌∷◌, ◌∙◌, ap, sym, subst, List, ℕ, drop, ◌+◌}
+use Rattle.std.proofs.Common.{◌++◌, ◌∙◌, ap, sym, subst, List, drop, ◌+◌}
 use Rattle.output_commit.specs.Holds.{Line}
 use Rattle.codec.specs.Codes.{AllFit, each_code}
 use Rattle.snapshot.specs.Parts.{FitsLine, line_code, pairs_of}

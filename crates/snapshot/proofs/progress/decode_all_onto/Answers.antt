@@ -1,4 +1,4 @@
-use Rattle.std.proofs.Common.{rules, ◌≡◌, ◌++◌, ◌∷◌, [], ◌∙◌, ap, sym, subst, List, ℕ, drop, take, ◌+◌, length, arith}
+use Rattle.std.proofs.Common.{rules, ◌≡◌, ◌++◌, ◌∷◌, [], ◌∙◌, ap, sym, subst, drop, ◌+◌, arith}
 use Rattle.codec.specs.Codes.{AllFit, UnlessEach, each_code}
 use Rattle.snapshot.specs.Parts.{FitsSnapshot, snapshot_code}
 use Rattle.codec.specs.declared.fault.DecodeFault.TheVariants.{NoMemory}

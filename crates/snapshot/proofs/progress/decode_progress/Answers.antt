@@ -1,4 +1,4 @@
-use Rattle.std.proofs.Common.{◌≡◌, ◌∙◌, sym}
+use Rattle.std.proofs.Common.{◌≡◌, sym}
 use Rattle.codec.specs.Codes.{Unless}
 use Rattle.codec.specs.declared.fault.DecodeFault.TheVariants.{NoMemory}
 use Rattle.snapshot.specs.Parts.{FitsProgress, progress_code}

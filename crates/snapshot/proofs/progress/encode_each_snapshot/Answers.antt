@@ -1,4 +1,4 @@
-use Rattle.std.proofs.Common.{◌≡◌, ◌++◌, ◌∷◌, ◌∙◌, ap, sym, subst, List, ℕ, drop, ◌+◌}
+use Rattle.std.proofs.Common.{◌++◌, ◌∙◌, ap, sym, subst, drop, ◌+◌}
 use Rattle.codec.specs.Codes.{AllFit, each_code}
 use Rattle.snapshot.specs.Parts.{FitsSnapshot, snapshot_code}
 use Rattle.codec.proofs.Each.{at_drop}

@@ -1,9 +1,7 @@
-use Rattle.std.proofs.Common.{◌≡◌, refl, ◌∙◌, ap, sym, subst, List, ℕ, [], length, ◌⊎◌, inl, inr, arith}
+use Rattle.std.proofs.Common.{◌≡◌, refl, ◌∙◌, ap, sym, subst, List, ℕ, [], length, ◌⊎◌, inl, inr}
 use Rattle.std.specs.Prelude.{◌≢◌}
 use Rattle.tenant.specs.Kept.{TenantState}
 use Rattle.book.specs.Standing.{HostReplays, Hosted}
-use Rattle.sha2.specs.Sha256.{sha256}
-use Rattle.codec.specs.Codes.{bytes_code}
 use Rattle.snapshot.specs.declared.load_fault.LoadFault.{LoadFault}
 use Rattle.snapshot.specs.declared.load_fault.LoadFault.TheVariants.{AnotherHandler, NoMemory}
 use Rattle.snapshot.specs.Faults.{RefusesName, of_part}

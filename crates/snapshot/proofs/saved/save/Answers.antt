@@ -1,4 +1,4 @@
-use Rattle.std.proofs.Common.{◌≡◌, ◌∙◌, ap, sym, subst, List, ℕ, ◌<◌, ◌^◌, length}
+use Rattle.std.proofs.Common.{◌∙◌, ap, subst, List, ℕ, ◌<◌, ◌^◌, length}
 use Rattle.sha2.specs.Sha256.{sha256}
 use Rattle.codec.specs.Codes.{bytes_code}
 use Rattle.snapshot.specs.Hosts.{head_code}

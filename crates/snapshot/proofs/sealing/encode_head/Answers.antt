@@ -1,4 +1,4 @@
-use Rattle.std.proofs.Common.{◌≡◌, ◌++◌, ◌∙◌}
+use Rattle.std.proofs.Common.{◌∙◌}
 use Rattle.snapshot.proofs.sealing.encode_head.Goals as goal
 
 pub returns : goal.returns

@@ -1,4 +1,3 @@
-use Rattle.std.proofs.Common.{◌≡◌, ◌∙◌, ap, sym, subst, List, ℕ}
 use Rattle.snapshot.proofs.Lines.{lists_are}
 use Rattle.snapshot.proofs.tenants.decode_lines.Goals as goal
 

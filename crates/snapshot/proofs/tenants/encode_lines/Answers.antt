@@ -1,4 +1,4 @@
-use Rattle.std.proofs.Common.{◌≡◌, ◌∙◌, ap, sym, subst, List, ℕ}
+use Rattle.std.proofs.Common.{sym, subst, List, ℕ}
 use Rattle.codec.specs.Codes.{Encodes, FitEach, list_code}
 use Rattle.snapshot.specs.Parts.{FitsLine, line_code}
 use Rattle.snapshot.proofs.Lines.{lines_are, same_length}

@@ -1,4 +1,4 @@
-use Rattle.std.proofs.Common.{◌≡◌, ◌++◌, ◌∙◌, subst, List, ℕ}
+use Rattle.std.proofs.Common.{◌∙◌, subst}
 use Rattle.codec.specs.Codes.{Encodes}
 use Rattle.snapshot.specs.Tenants.{FitsTenant, tenant_code}
 use Rattle.tenant.specs.Kept.{TenantState}
@@ -7,8 +7,8 @@ use Rattle.snapshot.proofs.tenants.encode_tenant.Goals as goal
 pub returns-clause-code : goal.returns-clause-code
 returns-clause-code g c =
     subst (λ (t : TenantState _). Encodes (tenant_code g.H.Portable.state_code) t c.args.out.now.items
-    c.encode_vec-3.new.out.items) c.tenant.view_is
-    (λ rest. c.in_ok-encode_vec-3.ensures.code rest ∙ c.in_ok-encode_lines.ensures.code _
+    c.encode_letters.new.out.items) c.tenant.view_is
+    (λ rest. c.in_ok-encode_letters.ensures.code rest ∙ c.in_ok-encode_lines.ensures.code _
     ∙ c.in_ok-encode_vec-2.ensures.code _ ∙ c.in_ok-encode_vec.ensures.code _
     ∙ c.in_ok-encode_members.ensures.code _ ∙ c.in_ok-encode-3.ensures.code _
     ∙ c.in_ok-encode-2.ensures.code _ ∙ c.in_ok-encode.ensures.code _)
@@ -23,5 +23,5 @@ returns-clause-fits g c =
       stable_lengths = c.in_ok-encode_vec.ensures.fits;
       frontiers = c.in_ok-encode_vec-2.ensures.fits;
       outlet = c.in_ok-encode_lines.ensures.fits;
-      letters = c.in_ok-encode_vec-3.ensures.fits;
+      letters = c.in_ok-encode_letters.ensures.fits;
     })

@@ -1,4 +1,4 @@
-use Rattle.std.proofs.Common.{◌≡◌, ◌∙◌, sym}
+use Rattle.std.proofs.Common.{◌∙◌, sym}
 use Rattle.snapshot.proofs.unit.decode_parts.Goals as goal
 
 pub returns-clause-ok : goal.returns-clause-ok

@@ -1,4 +1,4 @@
-use Rattle.std.proofs.Common.{◌≡◌, ◌++◌, ◌∷◌, ◌∙◌, ap, sym, subst, List, ℕ, drop, ◌+◌, ◌-◌, arith}
+use Rattle.std.proofs.Common.{◌≡◌, ◌++◌, ◌∙◌, ap, sym, subst, drop, ◌+◌, ◌-◌, arith}
 use Rattle.std.specs.Prelude.{Some, slice_get}
 use Rattle.codec.specs.Codes.{AllFit, each_code}
 use Rattle.codec.specs.Layers.{FitsInterval, interval_code}

@@ -1,4 +1,4 @@
-use Rattle.std.proofs.Common.{◌≡◌, ◌++◌, ◌∷◌, ◌∙◌, ap, sym, subst, List, ℕ, drop, ◌+◌, ◌-◌, arith}
+use Rattle.std.proofs.Common.{◌≡◌, ◌++◌, ◌∙◌, ap, sym, subst, drop, ◌+◌}
 use Rattle.std.specs.Prelude.{Some, slice_get}
 use Rattle.codec.specs.Codes.{AllFit, FitsRecord, each_code, record_code}
 use Rattle.codec.proofs.Each.{found_drop}

@@ -1,4 +1,4 @@
-use Rattle.std.proofs.Common.{◌∙◌, sym, length, arith}
+use Rattle.std.proofs.Common.{◌∙◌, sym, arith}
 use Rattle.unit_steps.proofs.Numbers.{sent_past}
 use Rattle.unit_steps.proofs.letters.count_sent.Goals as goal
 

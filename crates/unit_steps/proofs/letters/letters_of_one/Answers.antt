@@ -1,4 +1,4 @@
-use Rattle.std.proofs.Common.{◌≡◌, ◌∙◌, sym, ap, ◌∷◌, [], ◌<◌, true, arith, rules}
+use Rattle.std.proofs.Common.{◌≡◌, ◌∙◌, sym, ap, ◌∷◌, [], true, arith}
 use Rattle.std.specs.Prelude.{nat_lt, Some}
 use Rattle.theory.proofs.ListLaws.{true_lt}
 use Rattle.unit_steps.proofs.Numbers.{sent_stays}
@@ -13,7 +13,10 @@ returns c =
     rw (within) (c.one.ensures ∙ ap (λ l. l ∷ []) (c.in_ok-letter.ensures ∙ (λ i. record {
       source = c.args.unit;
       receiver = c.args.send.now.0;
-      number =
-          (c.number_to-number.ensures ∙ sym (sent_stays c.args.sessions.now c.args.source.now c.args.send.now.0)) i;
-      content = Some (record { text = c.in_ok-text.ensures i; vector = c.args.vector.now });
+      content = Some (record {
+        number =
+            (c.number_to-number.ensures ∙ sym (sent_stays c.args.sessions.now c.args.source.now c.args.send.now.0)) i;
+        text = c.in_ok-text.ensures i;
+        vector = c.args.vector.now;
+      });
     })))

@@ -1,12 +1,11 @@
-use Rattle.std.proofs.Common.{◌≡◌, sym, ◌∙◌, ap, List, length}
+use Rattle.std.proofs.Common.{◌≡◌, sym, ◌∙◌, ap, length}
 use Rattle.std.specs.Prelude.{◌==◌}
 use Rattle.std.specs.List.{filter}
 use Rattle.std.proofs.lemmas.List.Sums.{length-filter}
 use Rattle.std.proofs.lemmas.Option.{same_Some}
 use Rattle.model.specs.declared.names.Row.{Row}
 use Rattle.theory.specs.Laws.{rows_of}
-use Rattle.compact.specs.Compact.{Letter}
-use Rattle.tenant.specs.Footprint.{is_spent_to}
+use Rattle.unit_steps.specs.SentLetters.{is_spent_to}
 use Rattle.tenant.specs.Kept.{TenantState, Member}
 use Rattle.tenant.proofs.tenant.Tenant.lengths.Goals as goal
 
@@ -24,7 +23,6 @@ returns-in-Some g c = λ m found.
       rows = ap length c.rows_of.ensures ∙ rows;
       spent =
           c.count_spent_to.ensures
-          ∙ ap (λ (ls : List Letter). length (filter (is_spent_to u) ls)) c.deref.ensures.value
           ∙ ap (λ (t : TenantState g.row.H-State.Denot). length (filter (is_spent_to u) t.letters)) c.self.view_is;
       released = c.released_count.ensures;
       texts = c.text_count.ensures;

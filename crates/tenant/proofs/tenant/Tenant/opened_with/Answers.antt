@@ -15,5 +15,5 @@ returns g c =
       frontiers = fronts i;
       gone = c.in_ok-outlet.ensures.gone i;
       released = c.in_ok-outlet.ensures.texts i;
-      letters = c.new-2.ensures.items i;
+      letters = c.new-2.ensures i;
     }

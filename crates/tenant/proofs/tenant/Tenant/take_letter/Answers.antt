@@ -1,6 +1,7 @@
 use Rattle.std.proofs.Common.{◌≡◌, refl, sym, ◌∙◌, ap, subst}
+use Rattle.std.specs.Option.{option_copied}
 use Rattle.std.specs.Prelude.{Option, Some, slice_get}
-use Rattle.compact.specs.Compact.{Content, Letter}
+use Rattle.compact.specs.Compact.{Content, CompactLetter}
 use Rattle.std.proofs.lemmas.Option.{slice_get_within}
 use Rattle.model.specs.declared.names.Source.TheVariants.{Unit as FromUnit}
 use Rattle.compact.specs.Steps.{delivered}
@@ -21,65 +22,70 @@ returns-in-None-clause-done g c = λ live w log s.
 
 pub returns-in-None-member-clause-done : goal.returns-in-None-member-clause-done
 returns-in-None-member-clause-done g c = λ live w log s.
-    let sent : Letter = record {
+    let sent : CompactLetter = record {
       source = c.sent.inside.source;
       receiver = c.sent.inside.receiver;
-      number = c.sent.inside.number;
-      content = c.sent.inside.content;
+      content = option_copied c.sent.inside.content;
     } in
     let there : slice_get c.args.self.now.letters c.args.letter ≡ Some sent =
-    (c.in-Some.ensures ∙ ap (λ (l : Letter). Some l) (sym c.sent.view_is)) in
+    (c.in-Some.ensures ∙ ap (λ (l : CompactLetter). Some l) (sym c.sent.view_is)) in
     refused_stays g.H.Handler.meaning c.args.name.now
     live c.args.self.now w log s _ _ _ (letter_no_unit g.H.Handler.meaning c.args.name.now live c.args.self.now
     w log s c.args.letter sent there c.in-None-member.ensures).1 c.refused-in-None-member.ensures.reply
 
 pub returns-in-None-content-clause-done : goal.returns-in-None-content-clause-done
 returns-in-None-content-clause-done g c = λ live w log s.
-    let sent : Letter = record {
+    let sent : CompactLetter = record {
       source = c.sent.inside.source;
       receiver = c.sent.inside.receiver;
-      number = c.sent.inside.number;
-      content = c.sent.inside.content;
+      content = option_copied c.sent.inside.content;
     } in
     let there : slice_get c.args.self.now.letters c.args.letter ≡ Some sent =
-    (c.in-Some.ensures ∙ ap (λ (l : Letter). Some l) (sym c.sent.view_is)) in
+    (c.in-Some.ensures ∙ ap (λ (l : CompactLetter). Some l) (sym c.sent.view_is)) in
     let none = subst
     (λ (o : Option Content). IsAskingBy c.args.self.now c.in-Some-member.member.now sent o c.args.worked.input)
-    c.in-None-content.is (c.requires sent c.in-Some-member.member.now there c.in-Some-member.ensures) in
+    (ap option_copied c.in-None-content.is)
+    (c.requires sent c.in-Some-member.member.now there c.in-Some-member.ensures) in
     absurd none
 
 pub admit-requires-clause-room : goal.admit-requires-clause-room
 admit-requires-clause-room g c κs within =
-    let sent : Letter = record {
+    let sent : CompactLetter = record {
       source = c.sent.inside.source;
       receiver = c.sent.inside.receiver;
-      number = c.sent.inside.number;
-      content = c.sent.inside.content;
+      content = option_copied c.sent.inside.content;
     } in
     let there : slice_get c.args.self.now.letters c.args.letter ≡ Some sent =
-    (c.in-Some.ensures ∙ ap (λ (l : Letter). Some l) (sym c.sent.view_is)) in
-    let content : Content = record { text = c.text.result.now; vector = c.vector.result.now } in
+    (c.in-Some.ensures ∙ ap (λ (l : CompactLetter). Some l) (sym c.sent.view_is)) in
+    let content : Content = record {
+      number = c.number.result;
+      text = c.text.result.now;
+      vector = c.vector.result.now;
+    } in
     let whole : sent.content ≡ Some content =
-    content_parts sent.content c.in-Some-content.content
-    c.text.result.now c.vector.result.now c.in-Some-content.is c.text.ensures c.vector.ensures in
+    content_parts sent.content c.in-Some-content.content.now c.number.result c.text.result.now c.vector.result.now
+    (ap option_copied c.in-Some-content.is) c.number.ensures c.text.ensures c.vector.ensures in
     let is = subst (λ (o : Option Content). IsAskingBy c.args.self.now c.in-Some-member.member.now sent
     o c.args.worked.input) whole (c.requires sent c.in-Some-member.member.now there c.in-Some-member.ensures) in
     is.room
 
 pub admit-requires-clause-up : goal.admit-requires-clause-up
 admit-requires-clause-up g c κs within =
-    let sent : Letter = record {
+    let sent : CompactLetter = record {
       source = c.sent.inside.source;
       receiver = c.sent.inside.receiver;
-      number = c.sent.inside.number;
-      content = c.sent.inside.content;
+      content = option_copied c.sent.inside.content;
     } in
     let there : slice_get c.args.self.now.letters c.args.letter ≡ Some sent =
-    (c.in-Some.ensures ∙ ap (λ (l : Letter). Some l) (sym c.sent.view_is)) in
-    let content : Content = record { text = c.text.result.now; vector = c.vector.result.now } in
+    (c.in-Some.ensures ∙ ap (λ (l : CompactLetter). Some l) (sym c.sent.view_is)) in
+    let content : Content = record {
+      number = c.number.result;
+      text = c.text.result.now;
+      vector = c.vector.result.now;
+    } in
     let whole : sent.content ≡ Some content =
-    content_parts sent.content c.in-Some-content.content
-    c.text.result.now c.vector.result.now c.in-Some-content.is c.text.ensures c.vector.ensures in
+    content_parts sent.content c.in-Some-content.content.now c.number.result c.text.result.now c.vector.result.now
+    (ap option_copied c.in-Some-content.is) c.number.ensures c.text.ensures c.vector.ensures in
     let is = subst (λ (o : Option Content). IsAskingBy c.args.self.now c.in-Some-member.member.now sent
     o c.args.worked.input) whole (c.requires sent c.in-Some-member.member.now there c.in-Some-member.ensures) in
     asked_is_up c.in-Some-member.member.now.unit_state (FromUnit sent.source) content.text c.args.worked.input is.asked
@@ -94,18 +100,21 @@ apply-requires-clause-within g c κs within =
 
 pub apply-requires-clause-few : goal.apply-requires-clause-few
 apply-requires-clause-few g c κs within =
-    let sent : Letter = record {
+    let sent : CompactLetter = record {
       source = c.sent.inside.source;
       receiver = c.sent.inside.receiver;
-      number = c.sent.inside.number;
-      content = c.sent.inside.content;
+      content = option_copied c.sent.inside.content;
     } in
     let there : slice_get c.args.self.now.letters c.args.letter ≡ Some sent =
-    (c.in-Some.ensures ∙ ap (λ (l : Letter). Some l) (sym c.sent.view_is)) in
-    let content : Content = record { text = c.text.result.now; vector = c.vector.result.now } in
+    (c.in-Some.ensures ∙ ap (λ (l : CompactLetter). Some l) (sym c.sent.view_is)) in
+    let content : Content = record {
+      number = c.number.result;
+      text = c.text.result.now;
+      vector = c.vector.result.now;
+    } in
     let whole : sent.content ≡ Some content =
-    content_parts sent.content c.in-Some-content.content
-    c.text.result.now c.vector.result.now c.in-Some-content.is c.text.ensures c.vector.ensures in
+    content_parts sent.content c.in-Some-content.content.now c.number.result c.text.result.now c.vector.result.now
+    (ap option_copied c.in-Some-content.is) c.number.ensures c.text.ensures c.vector.ensures in
     let is = subst (λ (o : Option Content). IsAskingBy c.args.self.now c.in-Some-member.member.now sent
     o c.args.worked.input) whole (c.requires sent c.in-Some-member.member.now there c.in-Some-member.ensures) in
     let planned = rw (c.in-Ok.is) at c.in_ok-refusal.ensures in
@@ -115,18 +124,21 @@ apply-requires-clause-few g c κs within =
 
 pub apply-requires-clause-next : goal.apply-requires-clause-next
 apply-requires-clause-next g c κs within = λ m at.
-    let sent : Letter = record {
+    let sent : CompactLetter = record {
       source = c.sent.inside.source;
       receiver = c.sent.inside.receiver;
-      number = c.sent.inside.number;
-      content = c.sent.inside.content;
+      content = option_copied c.sent.inside.content;
     } in
     let there : slice_get c.args.self.now.letters c.args.letter ≡ Some sent =
-    (c.in-Some.ensures ∙ ap (λ (l : Letter). Some l) (sym c.sent.view_is)) in
-    let content : Content = record { text = c.text.result.now; vector = c.vector.result.now } in
+    (c.in-Some.ensures ∙ ap (λ (l : CompactLetter). Some l) (sym c.sent.view_is)) in
+    let content : Content = record {
+      number = c.number.result;
+      text = c.text.result.now;
+      vector = c.vector.result.now;
+    } in
     let whole : sent.content ≡ Some content =
-    content_parts sent.content c.in-Some-content.content
-    c.text.result.now c.vector.result.now c.in-Some-content.is c.text.ensures c.vector.ensures in
+    content_parts sent.content c.in-Some-content.content.now c.number.result c.text.result.now c.vector.result.now
+    (ap option_copied c.in-Some-content.is) c.number.ensures c.text.ensures c.vector.ensures in
     let is = subst (λ (o : Option Content). IsAskingBy c.args.self.now c.in-Some-member.member.now sent
     o c.args.worked.input) whole (c.requires sent c.in-Some-member.member.now there c.in-Some-member.ensures) in
     let planned = rw (c.in-Ok.is) at c.in_ok-refusal.ensures in
@@ -136,18 +148,21 @@ apply-requires-clause-next g c κs within = λ m at.
 
 pub returns-in-Err-clause-done : goal.returns-in-Err-clause-done
 returns-in-Err-clause-done g c = λ live w log s.
-    let sent : Letter = record {
+    let sent : CompactLetter = record {
       source = c.sent.inside.source;
       receiver = c.sent.inside.receiver;
-      number = c.sent.inside.number;
-      content = c.sent.inside.content;
+      content = option_copied c.sent.inside.content;
     } in
     let there : slice_get c.args.self.now.letters c.args.letter ≡ Some sent =
-    (c.in-Some.ensures ∙ ap (λ (l : Letter). Some l) (sym c.sent.view_is)) in
-    let content : Content = record { text = c.text.result.now; vector = c.vector.result.now } in
+    (c.in-Some.ensures ∙ ap (λ (l : CompactLetter). Some l) (sym c.sent.view_is)) in
+    let content : Content = record {
+      number = c.number.result;
+      text = c.text.result.now;
+      vector = c.vector.result.now;
+    } in
     let whole : sent.content ≡ Some content =
-    content_parts sent.content c.in-Some-content.content
-    c.text.result.now c.vector.result.now c.in-Some-content.is c.text.ensures c.vector.ensures in
+    content_parts sent.content c.in-Some-content.content.now c.number.result c.text.result.now c.vector.result.now
+    (ap option_copied c.in-Some-content.is) c.number.ensures c.text.ensures c.vector.ensures in
     let is = subst (λ (o : Option Content). IsAskingBy c.args.self.now c.in-Some-member.member.now sent
     o c.args.worked.input) whole (c.requires sent c.in-Some-member.member.now there c.in-Some-member.ensures) in
     let planned = rw (c.in-Err.is, c.turn.ensures) at c.in_ok-refusal.ensures in
@@ -157,18 +172,21 @@ returns-in-Err-clause-done g c = λ live w log s.
 
 pub returns-in_ok-answer-in-Ok-clause-plain : goal.returns-in_ok-answer-in-Ok-clause-plain
 returns-in_ok-answer-in-Ok-clause-plain g c =
-    let sent : Letter = record {
+    let sent : CompactLetter = record {
       source = c.sent.inside.source;
       receiver = c.sent.inside.receiver;
-      number = c.sent.inside.number;
-      content = c.sent.inside.content;
+      content = option_copied c.sent.inside.content;
     } in
     let there : slice_get c.args.self.now.letters c.args.letter ≡ Some sent =
-    (c.in-Some.ensures ∙ ap (λ (l : Letter). Some l) (sym c.sent.view_is)) in
-    let content : Content = record { text = c.text.result.now; vector = c.vector.result.now } in
+    (c.in-Some.ensures ∙ ap (λ (l : CompactLetter). Some l) (sym c.sent.view_is)) in
+    let content : Content = record {
+      number = c.number.result;
+      text = c.text.result.now;
+      vector = c.vector.result.now;
+    } in
     let whole : sent.content ≡ Some content =
-    content_parts sent.content c.in-Some-content.content
-    c.text.result.now c.vector.result.now c.in-Some-content.is c.text.ensures c.vector.ensures in
+    content_parts sent.content c.in-Some-content.content.now c.number.result c.text.result.now c.vector.result.now
+    (ap option_copied c.in-Some-content.is) c.number.ensures c.text.ensures c.vector.ensures in
     let is = subst (λ (o : Option Content). IsAskingBy c.args.self.now c.in-Some-member.member.now sent
     o c.args.worked.input) whole (c.requires sent c.in-Some-member.member.now there c.in-Some-member.ensures) in
     let planned = rw (c.in-Ok.is) at c.in_ok-refusal.ensures in
@@ -178,18 +196,21 @@ returns-in_ok-answer-in-Ok-clause-plain g c =
 
 pub returns-in_ok-answer-in-Ok-clause-done : goal.returns-in_ok-answer-in-Ok-clause-done
 returns-in_ok-answer-in-Ok-clause-done g c = λ live w log s.
-    let sent : Letter = record {
+    let sent : CompactLetter = record {
       source = c.sent.inside.source;
       receiver = c.sent.inside.receiver;
-      number = c.sent.inside.number;
-      content = c.sent.inside.content;
+      content = option_copied c.sent.inside.content;
     } in
     let there : slice_get c.args.self.now.letters c.args.letter ≡ Some sent =
-    (c.in-Some.ensures ∙ ap (λ (l : Letter). Some l) (sym c.sent.view_is)) in
-    let content : Content = record { text = c.text.result.now; vector = c.vector.result.now } in
+    (c.in-Some.ensures ∙ ap (λ (l : CompactLetter). Some l) (sym c.sent.view_is)) in
+    let content : Content = record {
+      number = c.number.result;
+      text = c.text.result.now;
+      vector = c.vector.result.now;
+    } in
     let whole : sent.content ≡ Some content =
-    content_parts sent.content c.in-Some-content.content
-    c.text.result.now c.vector.result.now c.in-Some-content.is c.text.ensures c.vector.ensures in
+    content_parts sent.content c.in-Some-content.content.now c.number.result c.text.result.now c.vector.result.now
+    (ap option_copied c.in-Some-content.is) c.number.ensures c.text.ensures c.vector.ensures in
     let is = subst (λ (o : Option Content). IsAskingBy c.args.self.now c.in-Some-member.member.now sent
     o c.args.worked.input) whole (c.requires sent c.in-Some-member.member.now there c.in-Some-member.ensures) in
     let planned = rw (c.in-Ok.is) at c.in_ok-refusal.ensures in
@@ -201,18 +222,21 @@ returns-in_ok-answer-in-Ok-clause-done g c = λ live w log s.
 
 pub returns-in_ok-answer-in-Ok-clause-shelves : goal.returns-in_ok-answer-in-Ok-clause-shelves
 returns-in_ok-answer-in-Ok-clause-shelves g c =
-    let sent : Letter = record {
+    let sent : CompactLetter = record {
       source = c.sent.inside.source;
       receiver = c.sent.inside.receiver;
-      number = c.sent.inside.number;
-      content = c.sent.inside.content;
+      content = option_copied c.sent.inside.content;
     } in
     let there : slice_get c.args.self.now.letters c.args.letter ≡ Some sent =
-    (c.in-Some.ensures ∙ ap (λ (l : Letter). Some l) (sym c.sent.view_is)) in
-    let content : Content = record { text = c.text.result.now; vector = c.vector.result.now } in
+    (c.in-Some.ensures ∙ ap (λ (l : CompactLetter). Some l) (sym c.sent.view_is)) in
+    let content : Content = record {
+      number = c.number.result;
+      text = c.text.result.now;
+      vector = c.vector.result.now;
+    } in
     let whole : sent.content ≡ Some content =
-    content_parts sent.content c.in-Some-content.content
-    c.text.result.now c.vector.result.now c.in-Some-content.is c.text.ensures c.vector.ensures in
+    content_parts sent.content c.in-Some-content.content.now c.number.result c.text.result.now c.vector.result.now
+    (ap option_copied c.in-Some-content.is) c.number.ensures c.text.ensures c.vector.ensures in
     let is = subst (λ (o : Option Content). IsAskingBy c.args.self.now c.in-Some-member.member.now sent
     o c.args.worked.input) whole (c.requires sent c.in-Some-member.member.now there c.in-Some-member.ensures) in
     let planned = rw (c.in-Ok.is) at c.in_ok-refusal.ensures in
