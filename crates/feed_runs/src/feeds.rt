@@ -3,6 +3,7 @@
 use crate::budget::{Budgeted, MOST};
 use handler::Handler;
 use lines::{Counted, LineFault, ServeFault, fault_reply, put_reply, read_feed};
+use log::sink::Discard;
 use log::{Log, error, info};
 use model::{MAX_FEEDS, NoMemory, Reply, Step};
 use reports::{audit_all, tell_kept};
@@ -41,12 +42,40 @@ impl<'a, R: Eprint + Clock> Gate for Counting<'a, R> {
     }
 }
 
+/// Runs each input as a feed, all at once over a store in memory, writes the reply lines, feed by feed, and audits each
+/// open tenant behind them where `audit` says so. Tells the status to end with, and says nothing else: 0 where all
+/// lines are answered, 1 after a fault of input, output, memory or threads, or where an audit doesn't say yes. For a
+/// program that has streams of its own, and no words.
+pub fn feeds_on<
+    R: Threads + Wait + Sync + Eprint + Clock + AllocGlobal,
+    I: Read + Drop,
+    W: Write + Drop,
+    H: Handler + Copy + Send + Sync,
+>(rt: &R, handler: H, inputs: Vec<I>, output: W, audit: bool) -> u8 {
+    let Some(named) = unnamed(rt.alloc(), inputs) else {
+        return 1;
+    };
+    let asked = FeedsWords::of_audit(rt.alloc(), audit);
+    feeds_asked(rt, &Discard, handler, named, output, &asked, false)
+}
+
+/// The inputs, each with an empty name. None where there is no memory for their list.
+fn unnamed<I: Drop>(alloc: Global, inputs: Vec<I>) -> Option<Vec<(&'static str, I)>> {
+    let mut named = Vec::new(alloc);
+    for input in inputs {
+        if named.push(("", input)).is_err() {
+            return None;
+        }
+    }
+    Some(named)
+}
+
 /// Runs each input as a feed, all at once over a store in memory, and then writes the reply lines to the output, feed
 /// by feed in their order. An input comes with the name that it is told by. Tells the status to end with: 0 where all
 /// lines are answered, 1 after a fault of input, output, memory or threads; where the feeds can't be read or run,
 /// nothing is written. Where it is asked for, it audits each open tenant after the last reply; 1 too where an audit
 /// doesn't say yes. Where it `shows`, a bar tells how far the steps are.
-pub fn feeds_on<
+pub fn feeds_asked<
     R: Threads + Wait + Sync + Eprint + Clock + AllocGlobal,
     L: Log,
     I: Read + Drop,

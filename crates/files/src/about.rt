@@ -15,7 +15,7 @@ use terminal::Plural;
 const SUFFIX: &str = ".about";
 
 /// The program and the handler that a journal is of.
-#[derive(Clone, Copy, Debug)]
+#[derive(Clone, Copy)]
 pub struct Owner<'a> {
     /// The version of the program.
     pub version: &'a str,
@@ -26,7 +26,7 @@ pub struct Owner<'a> {
 }
 
 /// What a page says of a program and its handler. A page that says less says nothing of that.
-#[derive(Debug, Drop)]
+#[derive(Drop)]
 pub struct Maker {
     version: Option<String>,
     handler: Option<String>,
@@ -68,7 +68,7 @@ impl Maker {
 }
 
 /// A program and its handler that had the journal before another.
-#[derive(Debug, Drop)]
+#[derive(Drop)]
 pub struct Earlier {
     pub maker: Maker,
     /// How many lines the journal had when the next began.
@@ -76,7 +76,7 @@ pub struct Earlier {
 }
 
 /// What the page beside a journal says.
-#[derive(Debug, Drop)]
+#[derive(Drop)]
 pub struct About {
     /// Whose the journal is.
     pub maker: Maker,

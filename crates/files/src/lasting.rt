@@ -9,7 +9,7 @@ use std::io::{ErrorKind, Seek, SeekFrom, Write};
 use std::{fs, io};
 
 /// What became of a journal.
-#[derive(Clone, Copy, Debug, PartialEq, Eq)]
+#[derive(Clone, Copy, PartialEq, Eq)]
 pub enum Standing {
     /// All that was written and synced stands.
     Whole,

@@ -70,7 +70,7 @@ pub struct JournalFile<'a, R> {
 }
 
 /// Which journals a run takes besides those that are known to be of its program and handler.
-#[derive(Clone, Copy, Debug)]
+#[derive(Clone, Copy)]
 pub struct Takeover {
     /// One of which nothing tells whose it is.
     pub adopt: bool,

@@ -34,7 +34,7 @@ const MAGIC: [u8; 8] = *b"RECALLSJ";
 const VERSION: u8 = 1;
 
 /// How much of a journal a snapshot stands behind.
-#[derive(Clone, Copy, Debug, PartialEq, Eq)]
+#[derive(Clone, Copy, PartialEq, Eq)]
 pub struct Stand {
     /// The whole lines.
     pub lines: u64,
@@ -45,7 +45,7 @@ pub struct Stand {
 }
 
 /// A snapshot that fits its journal.
-#[derive(Debug, Drop)]
+#[derive(Drop)]
 pub struct FoundSnapshot {
     pub stand: Stand,
     /// The digest of the last block of what it stands behind.

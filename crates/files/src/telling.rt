@@ -13,7 +13,7 @@ use std::{fmt, io};
 use terminal::{BLOCK, Plural};
 
 /// What a journal has.
-#[derive(Debug, Drop)]
+#[derive(Drop)]
 pub struct Told {
     /// Whole lines, with those that were trimmed away.
     pub lines: u64,

@@ -25,7 +25,7 @@ const MOST: usize = 160;
 const DIGITS: [u8; 16] = *b"0123456789abcdef";
 
 /// What the first line of a trimmed journal says.
-#[derive(Clone, Copy, Debug, PartialEq, Eq)]
+#[derive(Clone, Copy, PartialEq, Eq)]
 pub(crate) struct Trimmed {
     /// How many lines went before.
     pub(crate) lines: u64,

@@ -4,7 +4,7 @@ use crate::journals::{journal_as_asked, trim_as_asked};
 use crate::run_asked::{run_as_asked, shows_bar};
 use codec::Portable;
 use drawings::draw_on;
-use feed_runs::{feeds_on, open_feeds};
+use feed_runs::{feeds_asked, open_feeds};
 use files::fill_descriptors;
 use handler::Handler;
 use images::load_on;
@@ -20,7 +20,7 @@ use views::{status_on, why_on};
 use words::{Asked, FeedsWords, Pages, Program, read_words};
 
 /// Which standard streams are terminals.
-#[derive(Clone, Copy, Debug)]
+#[derive(Clone, Copy)]
 pub struct Terminals {
     pub input: bool,
     pub errors: bool,
@@ -162,5 +162,5 @@ fn feeds_as_asked<
     };
     let output = Patient::new(rt, io::writer(rt));
     let shows = shows_bar(terminals, feeds.verbosity);
-    feeds_on(rt, &told, handler, inputs, output, feeds, shows)
+    feeds_asked(rt, &told, handler, inputs, output, feeds, shows)
 }

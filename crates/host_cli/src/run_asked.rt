@@ -8,7 +8,7 @@ use crate::program_run::Terminals;
 use codec::Portable;
 use files::{LogFile, Takeover, has_snapshot, lock_journal, make_log};
 use log::{Log, Logged, error, info, warn};
-use runs::{Hosted, Snapshots, run_journaled, run_on, run_on_cores};
+use runs::{Hosted, Snapshots, run_asked, run_journaled, run_on_cores};
 use shared_log::MemoryStore;
 use stable_log::WriterStore;
 use std::fs::{File, Files};
@@ -158,12 +158,12 @@ fn run_watched<
             return run_on_cores(rt, told, alloc, host, input, output, cores, run);
         }
         let store = MemoryStore::new(alloc);
-        return run_on(rt, told, alloc, host, input, output, store, run);
+        return run_asked(rt, told, alloc, host, input, output, store, run);
     };
     match make_log(rt, told, path) {
         Some(file) => {
             let store = WriterStore::new(alloc, LogFile::new(told, file));
-            run_on(rt, told, alloc, host, input, output, store, run)
+            run_asked(rt, told, alloc, host, input, output, store, run)
         }
         None => 1,
     }

@@ -43,7 +43,7 @@ fn word_at(file: &[u8], place: u64) -> Result<u64, Unfit> {
 }
 
 /// A segment of a file: its bytes there, and where they lie in memory.
-#[derive(Clone, Copy, Debug)]
+#[derive(Clone, Copy)]
 struct Segment {
     offset: u64,
     address: u64,

@@ -11,7 +11,7 @@ pub(crate) const MAX_BYTES: usize = 258_048;
 const HEADER: &[u8] = b"RV1\x01";
 
 /// The bytes of a program as they lie in memory from address 0 on.
-#[derive(Debug, Drop)]
+#[derive(Drop)]
 pub struct Image {
     bytes: Vec<u8>,
 }

@@ -24,7 +24,7 @@ const LAST_UNIT: u64 = 255;
 const LAST_NUMBER: u64 = 4_294_967_295;
 
 /// Whom an image is for.
-#[derive(Clone, Copy, Debug)]
+#[derive(Clone, Copy)]
 struct Addressee<'a> {
     tenant: &'a str,
     unit: u64,

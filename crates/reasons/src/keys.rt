@@ -7,7 +7,7 @@ pub(crate) const GREATEST_BYTE: u64 = u8::MAX as u64;
 pub(crate) const GREATEST_WORD: u64 = u32::MAX as u64;
 
 /// What a key's value must be.
-#[derive(Clone, Copy, Debug, PartialEq, Eq)]
+#[derive(Clone, Copy, PartialEq, Eq)]
 pub(crate) enum Value {
     /// A tenant's name.
     Name,
@@ -22,7 +22,7 @@ pub(crate) enum Value {
 }
 
 /// A key of a form.
-#[derive(Clone, Copy, Debug)]
+#[derive(Clone, Copy)]
 pub(crate) struct Key {
     pub name: &'static str,
     pub value: Value,

@@ -5,7 +5,7 @@ use model::{NoMemory, Unit};
 use std::alloc::Global;
 
 /// What a step does that helps an output.
-#[derive(Clone, Copy, Debug, PartialEq, Eq)]
+#[derive(Clone, Copy, PartialEq, Eq)]
 pub enum Action {
     Flush,
     Restart,
@@ -14,7 +14,7 @@ pub enum Action {
 }
 
 /// A step of one unit.
-#[derive(Clone, Copy, Debug)]
+#[derive(Clone, Copy)]
 pub struct Remedy {
     pub action: Action,
     pub unit: Unit,

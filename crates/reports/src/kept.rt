@@ -9,7 +9,7 @@ use terminal::Plural;
 use words::Verbosity;
 
 /// What is kept of some units: of their past, and in lists beside it.
-#[derive(Clone, Copy, Debug)]
+#[derive(Clone, Copy)]
 pub struct Amount {
     past: Kept,
     lists: Footprint,

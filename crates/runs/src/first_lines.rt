@@ -2,6 +2,7 @@
 
 ghost use Rattle.std.specs.Prelude.{◌≤◌, length};
 
+use memchr::memchr_iter;
 use std::io;
 use std::io::{BufRead, Read};
 
@@ -21,19 +22,17 @@ pub(crate) struct FirstLines<R> {
 
 /// How many line feeds there are.
 fn line_feeds(bytes: &[u8]) -> u64 {
-    let mut count = 0u64;
-    for byte in bytes {
-        if *byte == b'\n' {
-            count = count.saturating_add(1);
-        }
-    }
-    count
+    memchr_iter(b'\n', bytes).count() as u64
 }
 
-/// How many of the bytes belong to so many lines at most.
+/// How many of the bytes belong to so many lines at most. Each line has one byte at least, so that where there are no
+/// more bytes than lines none is looked at.
 fn len_of_lines(bytes: &[u8], lines: u64) -> usize
     ensures { result ≤ length bytes.now }
 {
+    if bytes.len() as u64 <= lines {
+        return bytes.len();
+    }
     let mut left = lines;
     for at in 0..bytes.len() {
         if bytes[at] == b'\n' {

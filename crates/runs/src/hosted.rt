@@ -1,7 +1,7 @@
 //! What is hosted.
 
 /// A handler, and the names of the kinds that it knows.
-#[derive(Clone, Copy, Debug)]
+#[derive(Clone, Copy)]
 pub struct Hosted<'a, H> {
     pub handler: H,
     pub kinds: &'a [&'a str],

@@ -28,7 +28,7 @@ use terminal::{BLOCK, Plural};
 use words::RunWords;
 
 /// Where a run ended early.
-#[derive(Clone, Copy, Debug)]
+#[derive(Clone, Copy)]
 enum Place {
     // A line of the journal was read or stepped again.
     Again,
@@ -39,7 +39,7 @@ enum Place {
 }
 
 /// What ended a run early, with so many lines in the journal.
-#[derive(Clone, Copy, Debug)]
+#[derive(Clone, Copy)]
 struct Stop {
     place: Place,
     fault: ServeFault,
@@ -47,7 +47,7 @@ struct Stop {
 }
 
 /// Why a run ended early.
-#[derive(Clone, Copy, Debug)]
+#[derive(Clone, Copy)]
 enum Ending {
     // A journal of so many lines gives so many fewer than were asked to be left out.
     Short { lines: u64, fewer: u64 },
@@ -63,10 +63,10 @@ type Output<W> = Counted<DurableReplies<Skipping<W>>>;
 
 /// Steps the lines of the journal, answers those that were asked for, and then answers each line of the input. Where a
 /// snapshot is beside the journal that the run can go on from, only the lines behind it are stepped; and others are
-/// kept behind each so many lines, where that is asked for. Tells the status to end with, as `run_on` does; 1 too where
-/// the journal fails, or where a step finds no memory: its line stands unanswered in the journal; 2 where a line is
-/// asked for that the journal doesn't have. Of several cores nothing that needs a book may be asked for, no driver, and
-/// no snapshot.
+/// kept behind each so many lines, where that is asked for. Tells the status to end with, as `run_asked` does; 1 too
+/// where the journal fails, or where a step finds no memory: its line stands unanswered in the journal; 2 where a line
+/// is asked for that the journal doesn't have. Of several cores nothing that needs a book may be asked for, no driver,
+/// and no snapshot.
 pub fn run_journaled<
     'a,
     T: Threads + Sync,

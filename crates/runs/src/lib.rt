@@ -1,6 +1,7 @@
 //! `run` and `drive`, for any handler: step lines in, reply lines out, and of `drive` what was released.
 //!
-//! - `run_on` (`run`): reads and writes by blocks; `run_on_cores`: so on several cores;
+//! - `run_asked` (`run`): reads and writes by blocks; `run_on`: so without words, over any streams; `run_on_cores`: so
+//!   on several cores;
 //! - `run_journaled` (`journaled_run`): the same behind a journal, thin over `durable` and `journal`, which carry
 //!   their own theorems;
 //! - `Engine`: a host, several of them, or a book where the past is asked for, thin over `serve_host` and `serve` of
@@ -17,7 +18,7 @@
 //!
 //! ```
 //! let store = MemoryStore::new(alloc);
-//! run_on(rt, told, alloc, Hosted { handler, kinds: program.kinds }, input, output, store, &run)
+//! run_asked(rt, told, alloc, Hosted { handler, kinds: program.kinds }, input, output, store, &run)
 //! ```
 #![tactic(auto)]
 
@@ -35,5 +36,5 @@ mod waits;
 
 pub use hosted::Hosted;
 pub use journaled_run::run_journaled;
-pub use run::{run_on, run_on_cores};
+pub use run::{run_asked, run_on, run_on_cores};
 pub use snapshots::{Snapshots, trim_on};

@@ -7,6 +7,7 @@ use crate::hosted::Hosted;
 use crate::judged::Judged;
 use handler::Handler;
 use lines::{Counted, ServeFault};
+use log::sink::Discard;
 use log::{Log, error, info};
 use shared_log::Store;
 use std::alloc::Global;
@@ -18,11 +19,37 @@ use words::RunWords;
 /// How much of the input is read at once where several cores step it: their threads begin once for each block.
 pub(crate) const WIDE_BLOCK: usize = 1_048_576;
 
+/// Answers each line of the input, over a store that acknowledged nothing yet, and audits each open tenant after the
+/// last line where `audit` says so. Tells the status to end with, and says nothing else: 0 where all lines are
+/// answered, 1 after a fault of input, output or memory, or where an audit doesn't say yes. For a program that has
+/// streams of its own, and no words.
+pub fn run_on<
+    T: Threads + Sync + AllocGlobal,
+    R: Read + Drop,
+    W: Write + Drop,
+    H: Handler + Copy + Send,
+    S: Store,
+>(rt: &T, hosted: Hosted<'_, H>, input: R, output: W, store: S, audit: bool) -> u8
+    requires { S.log store ≡ [] }
+{
+    let asked = RunWords::of_audit(audit);
+    run_asked(
+        rt,
+        &Discard,
+        rt.alloc(),
+        hosted,
+        input,
+        output,
+        store,
+        &asked,
+    )
+}
+
 /// Answers each line of the input, over a store that acknowledged nothing yet, and tells the status to end with: 0
 /// where all lines are answered, 1 after a fault of input, output or memory. Where it is asked for, each refusal is
 /// told with its reason, and each open tenant is audited after the last line; 1 too where an audit doesn't say yes,
 /// and else 3 where a line was refused, if that is asked for.
-pub fn run_on<
+pub fn run_asked<
     T: Threads + Sync,
     L: Log,
     R: Read + Drop,

@@ -28,7 +28,7 @@ pub fn input_size<R: Files>(rt: &R) -> Option<u64> {
 }
 
 /// What is told of how far a run is.
-#[derive(Clone, Copy, Debug)]
+#[derive(Clone, Copy)]
 pub struct Progress {
     /// The work, in bytes or in steps, where a bar is drawn.
     pub work: Option<u64>,
@@ -158,7 +158,7 @@ fn line_feeds(bytes: &[u8]) -> u64 {
 }
 
 /// How many lines there were in how many milliseconds.
-#[derive(Clone, Copy, Debug)]
+#[derive(Clone, Copy)]
 pub struct Pace {
     pub lines: u64,
     pub millis: u64,
@@ -177,7 +177,7 @@ impl Pace {
 }
 
 /// A pace as `key=value` words.
-#[derive(Clone, Copy, Debug)]
+#[derive(Clone, Copy)]
 struct Words(Pace);
 
 impl Display for Words {
@@ -193,7 +193,7 @@ impl Display for Words {
 }
 
 /// What a bar shows.
-#[derive(Clone, Copy, Debug)]
+#[derive(Clone, Copy)]
 struct Reached {
     work: u64,
     done: u64,

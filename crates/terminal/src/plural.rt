@@ -4,7 +4,7 @@ use std::fmt;
 use std::fmt::{Display, Formatter};
 
 /// A number with its noun, which has an `s` where it isn't one: `1 line`, `2 lines`.
-#[derive(Clone, Copy, Debug)]
+#[derive(Clone, Copy)]
 pub struct Plural(pub u64, pub &'static str);
 
 impl Display for Plural {

@@ -2,6 +2,7 @@
 
 use crate::verbosity::Verbosity;
 use diagram::Window;
+use std::alloc::Global;
 
 /// What the words ask for.
 pub enum Asked<'a> {
@@ -26,7 +27,7 @@ pub enum Asked<'a> {
 }
 
 /// What `run` or `drive` is to do beside answering lines.
-#[derive(Clone, Copy, Debug)]
+#[derive(Clone, Copy)]
 pub struct RunWords<'a> {
     /// Carry on behind each line, and tell what left.
     pub drives: bool,
@@ -58,8 +59,30 @@ pub struct RunWords<'a> {
     pub verbosity: Verbosity,
 }
 
+impl<'a> RunWords<'a> {
+    /// To answer lines, to audit after the last one where `audit` says so, and nothing else.
+    pub fn of_audit(audit: bool) -> RunWords<'a> {
+        RunWords {
+            drives: false,
+            programs: false,
+            audit,
+            explain: false,
+            strict: false,
+            log: None,
+            journal: None,
+            from: None,
+            snapshot: None,
+            adopt: false,
+            accept_upgrade: false,
+            report: None,
+            cores: None,
+            verbosity: Verbosity::Quiet,
+        }
+    }
+}
+
 /// What `feeds` is to do.
-#[derive(Debug, Drop)]
+#[derive(Drop)]
 pub struct FeedsWords<'a> {
     /// Host programs, by the second handler.
     pub programs: bool,
@@ -71,8 +94,20 @@ pub struct FeedsWords<'a> {
     pub verbosity: Verbosity,
 }
 
+impl<'a> FeedsWords<'a> {
+    /// To run feeds, to audit after the last reply where `audit` says so, and nothing else.
+    pub fn of_audit(alloc: Global, audit: bool) -> FeedsWords<'a> {
+        FeedsWords {
+            programs: false,
+            audit,
+            files: Vec::new(alloc),
+            verbosity: Verbosity::Quiet,
+        }
+    }
+}
+
 /// What `draw` is to draw, and where to.
-#[derive(Clone, Copy, Debug)]
+#[derive(Clone, Copy)]
 pub struct DrawWords<'a> {
     /// Host programs, by the second handler.
     pub programs: bool,
@@ -87,7 +122,7 @@ pub struct DrawWords<'a> {
 }
 
 /// What `journal` is to tell.
-#[derive(Clone, Copy, Debug)]
+#[derive(Clone, Copy)]
 pub struct JournalWords<'a> {
     /// The journal.
     pub file: &'a str,
@@ -96,7 +131,7 @@ pub struct JournalWords<'a> {
 }
 
 /// What `trim` is to shorten.
-#[derive(Clone, Copy, Debug)]
+#[derive(Clone, Copy)]
 pub struct TrimWords<'a> {
     /// The journal is of the second handler.
     pub programs: bool,
@@ -107,7 +142,7 @@ pub struct TrimWords<'a> {
 }
 
 /// Which lines `why` and `status` look at.
-#[derive(Clone, Copy, Debug)]
+#[derive(Clone, Copy)]
 pub struct ViewWords<'a> {
     /// Carry on behind each line.
     pub drives: bool,
@@ -118,7 +153,7 @@ pub struct ViewWords<'a> {
 }
 
 /// What `why` is to tell.
-#[derive(Clone, Copy, Debug)]
+#[derive(Clone, Copy)]
 pub struct WhyWords<'a> {
     /// The lines.
     pub view: ViewWords<'a>,
@@ -131,7 +166,7 @@ pub struct WhyWords<'a> {
 }
 
 /// What `status` is to tell.
-#[derive(Clone, Copy, Debug)]
+#[derive(Clone, Copy)]
 pub struct StatusWords<'a> {
     /// The lines.
     pub view: ViewWords<'a>,
@@ -140,7 +175,7 @@ pub struct StatusWords<'a> {
 }
 
 /// What `load` is to write lines for.
-#[derive(Clone, Copy, Debug)]
+#[derive(Clone, Copy)]
 pub struct LoadWords<'a> {
     /// The file of the image.
     pub image: &'a str,

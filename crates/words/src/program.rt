@@ -1,7 +1,7 @@
 //! What a program tells of itself.
 
 /// A program that hosts a handler. Its words are those of `recall`, whatever its name and its handler are.
-#[derive(Clone, Copy, Debug)]
+#[derive(Clone, Copy)]
 pub struct Program<'a> {
     /// Its name on the command line.
     pub name: &'a str,
@@ -23,7 +23,7 @@ pub struct Program<'a> {
 }
 
 /// A handler, as the program tells of it.
-#[derive(Clone, Copy, Debug)]
+#[derive(Clone, Copy)]
 pub struct Hosting<'a> {
     /// Its name, which is written beside each journal.
     pub handler: &'a str,

@@ -3,7 +3,7 @@
 use log::LevelFilter;
 
 /// How much is told.
-#[derive(Clone, Copy, Debug, PartialEq, Eq)]
+#[derive(Clone, Copy, PartialEq, Eq)]
 pub enum Verbosity {
     /// Faults alone.
     Quiet,
