@@ -2,8 +2,8 @@
 //!
 //! The lines of standard input are answered by `run_on`, which writes to standard output; the status that it tells
 //! stands in a line behind. Then there are runs whose writer has room for 0, 1, 2 and so on bytes, and fails then: the
-//! program tells for which room a run first ends with 0. Last the lines are two feeds of `feeds_on`, for a writer with
-//! room and for one without: which feed comes first is told by nothing, so only the status is printed.
+//! program tells for which room a run first ends with 0, with audits and without. Last the same is told of `feeds_on`,
+//! whose two feeds are the first line: which comes first is told by nothing, but both replies together have one length.
 #![tactic(auto)]
 
 use anyhow::bail;
@@ -34,30 +34,57 @@ fn main(rt: HostRuntime) -> anyhow::Result<()> {
     let store = MemoryStore::new(rt.alloc());
     let status = run_on(&rt, HOSTED, steps, io::writer(&rt), store, true);
     println!(rt; "run_on: {status}")?;
-    match room_needed(&rt, steps) {
-        Some(room) => println!(rt; "a writer needs room for {room} bytes")?,
-        None => bail!("no writer had enough room"),
+    for audit in [true, false] {
+        println!(rt;
+            "run_on, audit {audit}: a writer needs room for {} bytes",
+            run_room(&rt, steps, audit)?
+        )?;
     }
-    println!(rt; "feeds_on: {}", feeds_status(&rt, steps, MOST_ROOM)?)?;
-    println!(rt; "feeds_on, without room: {}", feeds_status(&rt, steps, 0)?)?;
+    for audit in [true, false] {
+        println!(rt;
+            "feeds_on, audit {audit}: a writer needs room for {} bytes",
+            feeds_room(&rt, first_line(steps), audit)?
+        )?;
+    }
     Ok(())
 }
 
-/// The least room of a writer for which a run ends well.
-fn room_needed<R: Threads + Sync + AllocGlobal>(rt: &R, steps: &[u8]) -> Option<usize> {
-    for room in 0..MOST_ROOM {
-        if run_status(rt, steps, room) == 0 {
-            return Some(room);
-        }
+/// The first line, with its line feed.
+fn first_line(steps: &[u8]) -> &[u8] {
+    match steps.iter().position(|byte| *byte == b'\n') {
+        Some(end) => &steps[..end + 1],
+        None => steps,
     }
-    None
 }
 
-/// How a run ends whose writer has so much room.
-fn run_status<R: Threads + Sync + AllocGlobal>(rt: &R, steps: &[u8], room: usize) -> u8 {
+/// The least room of a writer for which a run ends well.
+fn run_room<R: Threads + Sync + AllocGlobal>(
+    rt: &R,
+    steps: &[u8],
+    audit: bool,
+) -> anyhow::Result<usize> {
     let alloc = rt.alloc();
-    let writer = FuseWriter::new(alloc, room);
-    run_on(rt, HOSTED, steps, writer, MemoryStore::new(alloc), true)
+    for room in 0..MOST_ROOM {
+        let writer = FuseWriter::new(alloc, room);
+        if run_on(rt, HOSTED, steps, writer, MemoryStore::new(alloc), audit) == 0 {
+            return Ok(room);
+        }
+    }
+    bail!("no writer had enough room")
+}
+
+/// The same of two equal feeds.
+fn feeds_room<R: Threads + Wait + Sync + Eprint + Clock + AllocGlobal>(
+    rt: &R,
+    steps: &[u8],
+    audit: bool,
+) -> anyhow::Result<usize> {
+    for room in 0..MOST_ROOM {
+        if feeds_status(rt, steps, room, audit)? == 0 {
+            return Ok(room);
+        }
+    }
+    bail!("no writer had enough room")
 }
 
 /// How two equal feeds end whose writer has so much room.
@@ -65,11 +92,12 @@ fn feeds_status<R: Threads + Wait + Sync + Eprint + Clock + AllocGlobal>(
     rt: &R,
     steps: &[u8],
     room: usize,
+    audit: bool,
 ) -> anyhow::Result<u8> {
     let alloc = rt.alloc();
     let mut inputs = Vec::new(alloc);
     inputs.push(steps)?;
     inputs.push(steps)?;
     let writer = FuseWriter::new(alloc, room);
-    Ok(feeds_on(rt, Sample, inputs, writer, true))
+    Ok(feeds_on(rt, Sample, inputs, writer, audit))
 }
