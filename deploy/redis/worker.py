@@ -146,10 +146,10 @@ class Worker(working.Worker):
         last, count = self.first, self.behind
         while True:
             for _, entries in self.server.xread({self.streams[0]: last}, count=BATCH, block=1000):
-                yield [step_of(at, words) for at, words in entries]
-                last = entries[-1][0]
+                # Places first: a snapshot behind these steps may be there as soon as they are given.
                 self.places.update((count + more, at) for more, (at, _) in enumerate(entries, 1))
-                count += len(entries)
+                count, last = count + len(entries), entries[-1][0]
+                yield [step_of(at, words) for at, words in entries]
 
     def append(self, steps, replies):
         self.lease.append(self.streams, self.count, steps, replies)
