@@ -2,7 +2,7 @@
 
 use crate::fitness::unfit_kind;
 use crate::replacing::replace_file;
-use serde_json::{Error as JsonError, Value, json};
+use serde_json::{Error as JsonError, Map, Value, json};
 use std::alloc::{AllocError, Global};
 use std::fmt::{Display, Formatter};
 use std::fs::{File, Files};
@@ -254,45 +254,63 @@ fn page(
     trimmed: Option<u64>,
     when: u64,
 ) -> Result<String, AllocError> {
-    let mut value = json!(in alloc; {
-        "handler": owner.handler,
-        "handler_version": owner.handler_version,
-        "recall": owner.version,
-        "when": when,
-    })?;
-    if !earlier.is_empty() {
-        if let Some(members) = value.as_object_mut() {
-            members.insert(
-                String::from_str(alloc, "earlier")?,
-                earlier_value(alloc, earlier)?,
-            )?;
-        }
-    }
-    if let (Some(lines), Some(members)) = (trimmed, value.as_object_mut()) {
-        members.insert(String::from_str(alloc, "trimmed")?, Value::from(lines))?;
+    let mut value = owner_value(alloc, owner, when)?;
+    if let Some(members) = value.as_object_mut() {
+        add_past(alloc, members, earlier, trimmed)?;
     }
     let mut text = value.to_string(alloc)?;
     text.push('\n')?;
     Ok(text)
 }
 
+/// The object of a page that says whose the journal is, and since when.
+fn owner_value(alloc: Global, owner: &Owner<'_>, when: u64) -> Result<Value, AllocError> {
+    json!(in alloc; {
+        "handler": owner.handler,
+        "handler_version": owner.handler_version,
+        "recall": owner.version,
+        "when": when,
+    })
+}
+
+/// Adds to a page those that had the journal before, and how many lines went, where there is anything to say.
+fn add_past(
+    alloc: Global,
+    members: &mut Map<String, Value>,
+    earlier: &[Earlier],
+    trimmed: Option<u64>,
+) -> Result<(), AllocError> {
+    if !earlier.is_empty() {
+        let value = earlier_value(alloc, earlier)?;
+        members.insert(String::from_str(alloc, "earlier")?, value)?;
+    }
+    if let Some(lines) = trimmed {
+        members.insert(String::from_str(alloc, "trimmed")?, Value::from(lines))?;
+    }
+    Ok(())
+}
+
 /// Those that had the journal before.
 pub(crate) fn earlier_value(alloc: Global, earlier: &[Earlier]) -> Result<Value, AllocError> {
     let mut values = Vec::new(alloc);
     for each in earlier {
-        let maker = &each.maker;
-        let handler = text_or_null(alloc, maker.handler())?;
-        let handler_version = text_or_null(alloc, maker.handler_version())?;
-        let version = text_or_null(alloc, maker.version())?;
-        let value = json!(in alloc; {
-            "handler": handler,
-            "handler_version": handler_version,
-            "lines": each.lines,
-            "recall": version,
-        })?;
-        values.push(value)?;
+        values.push(one_earlier(alloc, each)?)?;
     }
     Ok(Value::Array(values))
+}
+
+/// One of them.
+fn one_earlier(alloc: Global, earlier: &Earlier) -> Result<Value, AllocError> {
+    let maker = &earlier.maker;
+    let handler = text_or_null(alloc, maker.handler())?;
+    let handler_version = text_or_null(alloc, maker.handler_version())?;
+    let version = text_or_null(alloc, maker.version())?;
+    json!(in alloc; {
+        "handler": handler,
+        "handler_version": handler_version,
+        "lines": earlier.lines,
+        "recall": version,
+    })
 }
 
 /// A text, or null where there is none.

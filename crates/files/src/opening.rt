@@ -297,14 +297,7 @@ fn owned_by<R: Files<File = File>, L: Log>(
         return Ok(Ownership::New);
     }
     match About::read(rt, alloc, path) {
-        Ok(Some(about)) if about.is_of(owner) => Ok(Ownership::Own),
-        Ok(Some(about)) if takeover.accept_upgrade => Ok(Ownership::Upgraded(about)),
-        Ok(Some(about)) => {
-            let own = owner.handler;
-            let version = owner.handler_version;
-            error!(told; "the journal {path:?} is of {}, and this program has handler {own:?}, version {version:?}: its replies may differ; --accept-upgrade goes on with it", about.maker);
-            Err(1)
-        }
+        Ok(Some(about)) => owned_as_said(told, path, owner, about, takeover),
         Ok(None) | Err(_) if takeover.adopt => Ok(Ownership::New),
         Ok(None) => {
             error!(told; "{path:?} is not known to be a journal: it has {}, and no page {path:?}.about beside it; --adopt takes it over", Plural(length, "byte"));
@@ -315,6 +308,31 @@ fn owned_by<R: Files<File = File>, L: Log>(
             Err(1)
         }
     }
+}
+
+/// Whose it is where there is such a page.
+fn owned_as_said<L: Log>(
+    told: &L,
+    path: &str,
+    owner: &Owner<'_>,
+    about: About,
+    takeover: Takeover,
+) -> Result<Ownership, u8> {
+    if about.is_of(owner) {
+        return Ok(Ownership::Own);
+    }
+    if takeover.accept_upgrade {
+        return Ok(Ownership::Upgraded(about));
+    }
+    tell_other(told, path, owner, &about);
+    Err(1)
+}
+
+/// Tells that it is another one's.
+fn tell_other<L: Log>(told: &L, path: &str, owner: &Owner<'_>, about: &About) {
+    let own = owner.handler;
+    let version = owner.handler_version;
+    error!(told; "the journal {path:?} is of {}, and this program has handler {own:?}, version {version:?}: its replies may differ; --accept-upgrade goes on with it", about.maker);
 }
 
 /// Writes the page beside a journal of so many lines, but where it says whose the journal is.
