@@ -2,7 +2,7 @@
 
 ghost use Rattle.std.specs.Prelude.{◌≤◌, length};
 
-use memchr::memchr_iter;
+use memchr::{memchr, memchr_iter};
 use std::io;
 use std::io::{BufRead, Read};
 
@@ -20,9 +20,12 @@ pub(crate) struct FirstLines<R> {
     pub bytes: u64,
 }
 
-/// How many line feeds there are.
+/// How many line feeds there are. Most often it is one, at the end.
 fn line_feeds(bytes: &[u8]) -> u64 {
-    memchr_iter(b'\n', bytes).count() as u64
+    match memchr(b'\n', bytes) {
+        Some(at) if at + 1 == bytes.len() => 1,
+        _ => memchr_iter(b'\n', bytes).count() as u64,
+    }
 }
 
 /// How many of the bytes belong to so many lines at most. Each line has one byte at least, so that where there are no
