@@ -61,14 +61,12 @@ pub(crate) fn take(alloc: Global, unit: &mut RecoveryUnit<Sample>) -> Result<usi
         return Ok(0);
     }
     let record = logged(alloc, last + 1)?;
-    let text = record.text.copy()?;
-    match unit.ask(alloc, &Sample, record.source, text)? {
-        Some(ask) => {
-            let done = ask.work(alloc, &Sample)?;
-            Ok(unit.take(record, done)?.outputs.len())
-        }
-        None => Ok(0),
-    }
+    let ask = match unit.ask(record.source, &record.text) {
+        Some(ask) => ask.to_ask(alloc, &Sample)?,
+        None => return Ok(0),
+    };
+    let done = ask.work(alloc, &Sample)?;
+    Ok(unit.take(record, done)?.outputs.len())
 }
 
 /// How far the unit has counted, where it is up.

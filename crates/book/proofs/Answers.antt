@@ -19,7 +19,7 @@ use Rattle.model.specs.declared.steps.TenantStep.{TenantStep}
 use Rattle.model.specs.declared.steps.TenantStep.TheVariants.{Open}
 use Rattle.shared_log.specs.Logged.{Logged}
 use Rattle.tenant.specs.Outcomes.{done}
-use Rattle.tenant.specs.declared.answer.Answer.{Answer}
+use Rattle.tenant.specs.Answers.{Answer}
 use Rattle.tenant.specs.Stands.{TenantState, Stands, StandsAt, Did, IsOpened}
 use Rattle.book.specs.History.{DidAt, Holding, IsAnswered, KeepsOthers, LogsAt, StepsAt, named_if_opened, opened_by}
 

@@ -22,7 +22,7 @@ use Rattle.model.specs.declared.steps.TenantStep.TheVariants.{Restart, Notice, R
 use Rattle.theory.proofs.ListLaws.{get_append}
 use Rattle.shared_log.specs.Logged.{Logged, places_from}
 use Rattle.shared_log.proofs.LeftLaws.{same_grows}
-use Rattle.tenant.specs.declared.answer.Answer.{Answer}
+use Rattle.tenant.specs.Answers.{Answer}
 use Rattle.tenant.specs.Live.{AreLive, HasJust, KeepsJust, amount_live}
 use Rattle.tenant.specs.Outcomes.{IsPlain}
 use Rattle.tenant.specs.Stands.{Did, IsOpened, TenantState, Stands, StandsAt}
@@ -112,7 +112,7 @@ module _ {S : Type 0} (M : Meaning S) where
       → DidAt M name None (Open kinds quota optimism) a.said a.reply
       (record { at = old; names = names; log = log }) (record { at = new; names = later; log = log })
   opened_did name kinds quota optimism a old new names later log none plain opened keeps order =
-      let end : a.said.end ≡ Whole = ap (λ (s : Said). s.end) plain.1 in
+      let end : a.said.end ≡ Whole = ap (λ (s : Said). s.end) plain in
       record {
         steps = (opened.0, opened.1, opened.2 name log.records);
         keeps = subst (λ (t : Option (TenantState S)). KeepsOnAt M None t
@@ -122,7 +122,7 @@ module _ {S : Type 0} (M : Meaning S) where
           honest = (
             [],
             same_grows log.records log.records refl,
-            (ap (λ (s : Said). s.appended) plain.1, end, refl),
+            (ap (λ (s : Said). s.appended) plain, end, refl),
           );
           device = λ e. absurd (cc (end, e));
           up = omega arith;

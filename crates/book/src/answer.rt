@@ -21,9 +21,7 @@ ghost use Rattle.book.specs.History.{opened_by};
 
 use handler::{Ask, Done, Handler};
 use indexmap::IndexMap;
-use model::{
-    End, NoMemory, Quota, Refusal, Reply, Said, Step, TenantName, TenantStep, Texts, Unit,
-};
+use model::{NoMemory, Quota, Refusal, Reply, Step, TenantName, TenantStep, Texts, Unit};
 use shared_log::{SharedLog, Store};
 use std::alloc::Global;
 use tenant::{Answer, Tenant};
@@ -46,27 +44,12 @@ pub(crate) fn memory_reply(step: &Step) -> Reply
     }
 }
 
-fn no_tenant() -> Reply
-    ensures { result ≡ Reply.Refused Refusal.NoTenant }
-{
-    Reply::Refused {
-        refusal: Refusal::NoTenant,
-    }
-}
-
 /// The answer to a step of a tenant that is not open, other than `open`.
 fn no_tenant_answer() -> Answer
     ensures plain { IsPlain result }
     ensures reply { result.reply ≡ Reply.Refused Refusal.NoTenant }
 {
-    Answer {
-        said: Said {
-            appended: 0,
-            end: End::Whole,
-        },
-        reply: no_tenant(),
-        history_copy: no_tenant(),
-    }
+    Answer::refused(Refusal::NoTenant)
 }
 
 /// Puts a tenant in under a name that is not there. Where no memory was found the tenant is let go.
@@ -135,7 +118,6 @@ fn answer_open<H: Handler, S: Store>(
     step: TenantStep,
     log: &mut SharedLog<S>,
 ) -> Result<Answer, NoMemory>
-    ensures copied { IfOk result (λ a. a.history_copy ≡ a.reply) }
     ensures steps { IfOk result (λ a. (w : Option World)
         → StandsAt H.meaning name.now (Some tenant.old) w log.old.records
         → StepsAt H.meaning name.now w (Some tenant.new) step a.said a.reply log.new.records) }
@@ -173,7 +155,6 @@ fn answer_unopened<H: Handler>(
     step: TenantStep,
 ) -> Result<Answer, NoMemory>
     requires { get bytes_eq tenants.old name.now ≡ None }
-    ensures copied { IfOk result (λ a. a.history_copy ≡ a.reply) }
     ensures did { IfOk result (λ a. (log : Logged)
         → DidAt H.meaning name.now None step a.said a.reply (holding tenants.old log) (holding tenants.new log)) }
     ensures others { (t : List ℕ) → bytes_eq t name.now ≡ false
@@ -211,7 +192,6 @@ pub(crate) fn answer<H: Handler, S: Store>(
     log: &mut SharedLog<S>,
     step: &Step,
 ) -> Result<Answer, NoMemory>
-    ensures copied { IfOk result (λ a. a.history_copy ≡ a.reply) }
     ensures answered { IfOk result (λ a.
         IsAnswered H.meaning step.now a.said a.reply (holding tenants.old log.old) (holding tenants.new log.new)) }
     ensures kill { (tenant : List ℕ) (unit : ℕ) → step.now ≡ Step.Kill tenant unit → IsOk result }
@@ -271,7 +251,6 @@ fn answer_open_with<H: Handler, S: Store>(
     ensures fresh { IfOk result (λ o. (w : Option World)
         → StandsAt H.meaning name.now (Some tenant.old) w log.old.records
         → WasFresh (needs_at H.meaning w step) worked.input o) }
-    ensures copied { IfOk result (λ o. IfSome o (λ a. a.history_copy ≡ a.reply)) }
     ensures steps { IfOk result (λ o. IfSome o (λ a. (w : Option World)
         → StandsAt H.meaning name.now (Some tenant.old) w log.old.records
         → StepsAt H.meaning name.now w (Some tenant.new) step a.said a.reply log.new.records)) }
@@ -315,7 +294,6 @@ pub(crate) fn answer_with<H: Handler, S: Store>(
         → StandsAt H.meaning (addressed step.now).0
         (get bytes_eq tenants.old (addressed step.now).0) w log.old.records
         → WasFresh (needs_at H.meaning w (addressed step.now).1) worked.input o) }
-    ensures copied { IfOk result (λ o. IfSome o (λ a. a.history_copy ≡ a.reply)) }
     ensures answered { IfOk result (λ o.
         IfSome o (λ a.
         IsAnswered H.meaning step.now a.said a.reply (holding tenants.old log.old) (holding tenants.new log.new))) }

@@ -298,19 +298,16 @@ fn reserve_place(history: &mut Vec<Entry>) -> Result<(), NoMemory>
 fn enter(history: &mut Vec<Entry>, who: Who, step: Step, answer: Answer) -> Reply
     requires { vec_len history.old + 1 ≤ vec_capacity history.old }
     ensures entered { history.new.items ≡ history.old.items
-        ++ record { who = who; step = step; said = answer.said; reply = answer.history_copy } ∷ [] }
+        ++ record { who = who; step = step; said = answer.said; reply = answer.reply } ∷ [] }
     ensures reply { result ≡ answer.reply }
 {
-    let Answer {
-        said,
-        reply,
-        history_copy,
-    } = answer;
+    let said = answer.said();
+    let (reply, entered) = answer.into_both();
     history.push_reserved(Entry {
         who,
         step,
         said,
-        reply: history_copy,
+        reply: entered,
     });
     reply
 }

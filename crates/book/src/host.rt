@@ -108,7 +108,6 @@ impl<H: Handler, S: Store> Host<H, S> {
     /// Does a step of any tenant. Where no memory was found nothing is changed.
     #[inline(always)]
     pub(crate) fn answer(&mut self, step: &Step) -> Result<Answer, NoMemory>
-        ensures copied { IfOk result (λ a. a.history_copy ≡ a.reply) }
         ensures answered { IfOk result (λ a. IsAnswered H.meaning step.now a.said a.reply
             (held_by self.old) (held_by self.new)) }
         ensures kill { (tenant : List ℕ) (unit : ℕ) → step.now ≡ Step.Kill tenant unit → IsOk result }
@@ -135,7 +134,6 @@ impl<H: Handler, S: Store> Host<H, S> {
             → StandsAt H.meaning (addressed step.now).0
             ((held_by self.old).at (addressed step.now).0) w self.old.log.records
             → WasFresh (needs_at H.meaning w (addressed step.now).1) worked.input o) }
-        ensures copied { IfOk result (λ o. IfSome o (λ a. a.history_copy ≡ a.reply)) }
         ensures answered { IfOk result (λ o.
             IfSome o (λ a. IsAnswered H.meaning step.now a.said a.reply (held_by self.old) (held_by self.new))) }
         ensures stale { IfOk result (λ o. IfNone o (HoldsAsBefore (held_by self.old) (held_by self.new))) }
@@ -167,7 +165,7 @@ impl<H: Handler, S: Store> Host<H, S> {
             Err(_) => memory_reply(&step),
             Ok(answer) => {
                 self.give_up_after(&step);
-                reply_of(answer)
+                answer.into_reply()
             }
         }
     }
@@ -208,7 +206,7 @@ impl<H: Handler, S: Store> Host<H, S> {
             Ok(None) => Committed::Stale(step),
             Ok(Some(answer)) => {
                 self.give_up_after(&step);
-                Committed::Reply(reply_of(answer))
+                Committed::Reply(answer.into_reply())
             }
         }
     }
@@ -271,14 +269,6 @@ impl<H: Handler, S: Store> Host<H, S> {
             None => None,
         }
     }
-}
-
-/// The reply of an answer.
-fn reply_of(answer: Answer) -> Reply
-    ensures { result ≡ answer.reply }
-{
-    let Answer { reply, .. } = answer;
-    reply
 }
 
 /// Equal names.

@@ -1,4 +1,4 @@
-//! A turn that is asked for, and one that was worked.
+//! A turn that is asked for, where its unit keeps it or as a value, and one that was worked.
 
 ghost use Rattle.std.specs.Prelude.{◌≡◌, ◌↔◌, IfOk, IsTrue};
 ghost use Rattle.handler.specs.Inputs.{Worked, turn_upon_input};
@@ -8,6 +8,68 @@ use crate::turn::Turn;
 use model::{NoMemory, Seat, Source, Text};
 use std::alloc::Global;
 use std::marker::Model;
+
+/// The whole input of a turn, where its parts lie: who looks at it copies no state. Its turn can be worked in this
+/// place, and it can be had as a value.
+#[derive(Drop)]
+pub struct AskRef<'a, H: Handler> {
+    seat: Seat,
+    state: &'a H::State,
+    source: Source,
+    text: &'a Text,
+}
+
+impl<'a, H: Handler> Model for AskRef<'a, H> {
+    ghost use Rattle.handler.specs.Inputs.{Input};
+
+    ghost Value = { Input H.State };
+
+    ghost view = { λ a. record { seat = a.seat; state = a.state.now; source = a.source; text = a.text.now } };
+}
+
+impl<'a, H: Handler> AskRef<'a, H> {
+    /// Asks for the turn of this input.
+    pub fn new(seat: Seat, state: &'a H::State, source: Source, text: &'a Text) -> AskRef<'a, H>
+        ensures { result ≡ record { seat = seat; state = state.now; source = source; text = text.now } }
+    {
+        AskRef {
+            seat,
+            state,
+            source,
+            text,
+        }
+    }
+
+    /// Works the turn, whose texts share the place of this one's where they are equal. `NoMemory` comes where the
+    /// handler found none.
+    pub fn work(&self, alloc: Global, handler: &H) -> Result<Turn<H::State>, NoMemory>
+        ensures { IfOk result (λ turn. turn ≡ turn_upon_input H.meaning self.now) }
+    {
+        let text = self.text.as_str();
+        let mut turn = handler.handle(alloc, self.seat, self.state, self.source, text)?;
+        turn.share(self.text);
+        Ok(turn)
+    }
+
+    /// Whether it is the same whole input. It takes no memory.
+    pub fn is_same(&self, other: &Ask<H>) -> bool
+        ensures { IsTrue result ↔ (self.now ≡ other.now) }
+    {
+        self.seat == other.seat
+            && *self.state == other.state
+            && self.source == other.source
+            && *self.text == other.text
+    }
+
+    /// The same input as a value of its own. `NoMemory` comes where the copy of the state found none.
+    pub fn to_ask(&self, alloc: Global, handler: &H) -> Result<Ask<H>, NoMemory>
+        ensures { IfOk result (λ ask. ask ≡ self.now) }
+    {
+        let state = handler.copy(alloc, self.state)?;
+        let text = self.text.copy()?;
+        Ok(Ask::new(self.seat, state, self.source, text))
+    }
+}
 
 /// The whole input of a turn: seat, state, source and text. Who has it can work the turn wherever
 /// it likes, and needs nothing else for it.
@@ -67,28 +129,18 @@ impl<H: Handler> Ask<H> {
         *seat
     }
 
-    /// Whether the two are of the same whole input. It takes no memory.
-    pub fn is_same(&self, other: &Ask<H>) -> bool
-        ensures { IsTrue result ↔ (self.now ≡ other.now) }
+    /// The same input, where it lies.
+    pub fn as_ref(&self) -> AskRef<'_, H>
+        ensures { result ≡ self.now }
     {
-        self.seat == other.seat
-            && self.state == other.state
-            && self.source == other.source
-            && self.text == other.text
+        AskRef::new(self.seat, &self.state, self.source, &self.text)
     }
 
     /// Works the turn. `NoMemory` comes where the handler found none.
     pub fn work(self, alloc: Global, handler: &H) -> Result<Done<H>, NoMemory>
         ensures { IfOk result (λ d. d.input ≡ self) }
     {
-        let mut turn = handler.handle(
-            alloc,
-            self.seat,
-            &self.state,
-            self.source,
-            self.text.as_str(),
-        )?;
-        turn.share(&self.text);
+        let turn = self.as_ref().work(alloc, handler)?;
         Ok(Done { input: self, turn })
     }
 }

@@ -8,7 +8,7 @@ use Rattle.model.specs.declared.names.Source.{Source}
 use Rattle.model.specs.declared.records.Record.{Record}
 use Rattle.model.specs.Handler.{Meaning, Turn}
 use Rattle.model.specs.Nodes.{sends_within}
-use Rattle.handler.specs.Inputs.{Input}
+use Rattle.handler.specs.Inputs.{Input, turn_upon_input}
 use Rattle.checkpoint.specs.declared.snapshot.Snapshot.{Snapshot}
 use Rattle.checkpoint.specs.Shelves.{Shelved, IsShelved, IsTop, Rises, put_on, cut_at, based_at, nearest_of}
 use Rattle.depvector.specs.Vectors.{begun_vector}
@@ -90,6 +90,13 @@ effects_of turn = record { sends = turn.sends; outputs = turn.outputs }
 abbrev pub asking : {S : Type 0} → Recovering S → Source → List ℕ → Option (Input S)
 asking u source text =
     option_map (λ p. record { seat = u.seat; state = p.state; source = source; text = text }) u.progress
+
+-- The unit is up, and its turn upon a receipt is this one.
+pub record IsTurnUpon {S : Type 0} (M : Meaning S) (u : Recovering S) (source : Source) (text : List ℕ) (turn : Turn S)
+    : Type 0 where
+  pub input : Input S
+  pub asked : asking u source text ≡ Some input
+  pub own : turn ≡ turn_upon_input M input
 
 -- with one more interval, whose record is volatile
 abbrev pub took : {S : Type 0} → Meaning S → Recovering S → Record → Recovering S

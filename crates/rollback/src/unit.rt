@@ -16,7 +16,7 @@ ghost use Rattle.compact.specs.Steps.{from_outside};
 ghost use Rattle.rollback.specs.Units.{asking, begun_unit, checkpointed, cut_behind, effects_of, forgotten};
 ghost use Rattle.rollback.specs.Units.{killed_recovering, marked_stable, places, records_to, restored, stable_places};
 ghost use Rattle.rollback.specs.Units.{took, widened_to, BeginsBy, CountsOutside, CountsFit, IsTarget, KeepsShelved};
-ghost use Rattle.rollback.specs.Units.{IsKept, OrphansAreTail};
+ghost use Rattle.rollback.specs.Units.{IsKept, IsTurnUpon, OrphansAreTail};
 
 use crate::effects::Effects;
 use crate::interval::Interval;
@@ -24,7 +24,7 @@ use crate::parts::UnitParts;
 use crate::progress::{self, Progress};
 use crate::{path, replay, shelving};
 use checkpoint::Shelf;
-use handler::{Ask, Done, Handler};
+use handler::{AskRef, Done, Handler, Turn};
 use incarnation::StartTable;
 use model::{NoMemory, Record, Seat, Source, Text};
 use session::Sessions;
@@ -232,26 +232,14 @@ impl<H: Handler> RecoveryUnit<H> {
         self.shelf.len()
     }
 
-    /// The whole input of the unit's turn upon a receipt from this source, where the unit is up.
-    ///
-    /// # Errors
-    ///
-    /// `NoMemory` where a copy of the state finds no memory.
-    pub fn ask(
-        &self,
-        alloc: Global,
-        handler: &H,
-        source: Source,
-        text: Text,
-    ) -> Result<Option<Ask<H>>, NoMemory>
-        ensures { IfOk result (λ ask. ask ≡ asking self.now source text) }
+    /// The whole input of the unit's turn upon a receipt of this text from this source, where it lies, and where the
+    /// unit is up. Takes no memory.
+    pub fn ask<'a>(&'a self, source: Source, text: &'a Text) -> Option<AskRef<'a, H>>
+        ensures { result ≡ asking self.now source text.now }
     {
         match &self.progress {
-            Some(progress) => {
-                let state = handler.copy(alloc, &progress.state)?;
-                Ok(Some(Ask::new(self.seat, state, source, text)))
-            }
-            None => Ok(None),
+            Some(progress) => Some(AskRef::new(self.seat, &progress.state, source, text)),
+            None => None,
         }
     }
 
@@ -275,11 +263,30 @@ impl<H: Handler> RecoveryUnit<H> {
             → CountsOutside before self.new) }
         ensures err { OnErr result (self.new ≡ self.old) }
     {
+        let turn = done.into_turn();
+        self.take_turn(logged, turn)
+    }
+
+    /// Takes a receipt as `take` does, by the turn alone, which is that of the unit's own input.
+    ///
+    /// # Errors
+    ///
+    /// `NoMemory` as for `take`; the unit stays as it was.
+    pub fn take_turn(&mut self, logged: Record, turn: Turn<H::State>) -> Result<Effects, NoMemory>
+        requires few { length logged.vector ≤ 256 }
+        requires room { places self.old < 2 ^ 32 }
+        requires mark { logged.mark.index ≡ places self.old }
+        requires own { IsTurnUpon H.meaning self.old logged.source logged.text turn }
+        ensures ok { IfOk result (λ _. self.new ≡ took H.meaning self.old logged) }
+        ensures effects { IfOk result (λ e. e ≡ effects_of turn) }
+        ensures outside { IfOk result (λ _. (before : ℕ) → CountsOutside before self.old
+            → CountsOutside before self.new) }
+        ensures err { OnErr result (self.new ≡ self.old) }
+    {
         let source = logged.source;
         let letter = logged.letter;
         let more = path::one_from_outside(letter);
         let width = logged.vector.as_slice().len();
-        let turn = done.into_turn();
         if !self.has_room(&logged, turn.sends().len()) {
             return Err(NoMemory);
         }

@@ -10,16 +10,16 @@ use Rattle.model.specs.declared.refusals.Refusal.{Refusal}
 use Rattle.model.specs.declared.refusals.Refusal.TheVariants.{NoUnit}
 use Rattle.model.specs.declared.replies.Reply.{Reply}
 use Rattle.model.specs.declared.replies.Reply.TheVariants.{Refused}
-use Rattle.model.specs.Handler.{Meaning}
+use Rattle.model.specs.Handler.{Meaning, Turn}
 use Rattle.model.specs.World.{World, Member as WorldMember}
 use Rattle.model.specs.Steps.{Outcome, at_unit, first_refusal, if_unit, outcome_or}
 use Rattle.model.proofs.Places.{get_below}
-use Rattle.handler.specs.Inputs.{Input}
-use Rattle.compact.specs.Compact.{IsUnit, Progress, CompactUnit, progress_after}
+use Rattle.handler.specs.Inputs.{Input, turn_upon_input}
+use Rattle.compact.specs.Compact.{CompactLetter, CompactUnit, Content, IsUnit, Progress, progress_after}
 use Rattle.compact.specs.Steps.{or_next}
 use Rattle.compact.proofs.Receipts.{refusal_append}
 use Rattle.rollback.specs.Units.{Recovering, asking, places}
-use Rattle.tenant.specs.Kept.{IsAsking, TenantState, Member}
+use Rattle.tenant.specs.Kept.{IsAsking, IsAskingBy, IsTurnBy, TenantState, Member}
 use Rattle.tenant.specs.Needs.{input_upon}
 use Rattle.tenant.specs.Outcomes.{done}
 use Rattle.tenant.specs.Represents.{Leaves, StandsFor}
@@ -42,6 +42,13 @@ asked_up r source text input e =
 pub asked_is_up : {S : Type 0} (r : Recovering S) (source : Source) (text : List ℕ) (input : Input S)
     → asking r source text ≡ Some input → is_some r.progress ≡ true
 asked_is_up r source text input e = ap is_some (asked_up r source text input e).1
+
+-- A turn of the input that is asked for is the one that the letter's receiver has.
+pub turn_by : {S : Type 0} (M : Meaning S) (t : TenantState S) (m : Member S) (c : CompactLetter) (o : Option Content)
+    (input : Input S) (turn : Turn S) → IsAskingBy t m c o input → turn ≡ turn_upon_input M input
+    → IsTurnBy M t m c o turn
+turn_by M t m c None input turn asking own = asking
+turn_by M t m c (Some content) input turn asking own = record { input = input; asking = asking; own = own }
 
 -- what is asked for passed the tests before the turn
 pub asking_at : {S : Type 0} (t : TenantState S)

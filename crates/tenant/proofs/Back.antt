@@ -47,7 +47,7 @@ use Rattle.rollback_laws.proofs.Orphans.{first_orphans_are_seen}
 use Rattle.rollback_laws.proofs.Places.{places_are_seen}
 use Rattle.rollback_laws.proofs.Restores.{restores_are_seen}
 use Rattle.rollback_laws.proofs.Standing.{units_are_ready}
-use Rattle.tenant.specs.declared.answer.Answer.{Answer}
+use Rattle.tenant.specs.Answers.{Answer}
 use Rattle.tenant.specs.Kept.{TenantState, Member, returned_kept, kept_before, kept_length, live_count, outputs_to}
 use Rattle.tenant.specs.Kept.{restart_refusal, returned, returned_member, up_refusal}
 use Rattle.tenant.specs.Outcomes.{failing}

@@ -264,14 +264,14 @@ module _ {S : Type 0} (M : Meaning S) (name : List ℕ) (live : ℕ → List ℕ
           pub letter_planned : (turn : Turn S) → turn ≡ turn_upon_input M input → (plan : Plan)
               → IsPlanned name t c.receiver m q turn (Ok plan) → (reply : Reply) → reply ≡ plan.answer.reply
               → (v : TenantState S)
-              → v ≡ received_kept M t c.receiver m plan.logged (turn_upon_input M input).outputs plan.made.items
+              → v ≡ received_kept M t c.receiver m plan.logged turn.outputs plan.made.items
               → Leaves M name live (deliver M w l) reply v log
           letter_planned turn e plan planned reply told v new =
               let p = asked_up m.unit_state (FromUnit c.source) content.text input is.asked in
               let made = planned.1 p.0 p.1 in
               letter_done (ap (turn_refusal_of t m) (sym e)
               ∙ planned.0) p.0 p.1 reply (told ∙ made.reply ∙ ap (next_reply_of t c.receiver m) e) v
-              (new ∙ (λ i. received_kept M t c.receiver m (made.logged i) (turn_upon_input M input).outputs
+              (new ∙ (λ i. received_kept M t c.receiver m (made.logged i) (e i).outputs
               ((made.made ∙ (λ j. next_letters_of t c.receiver m q (e j) p.0.sessions)) i)))
 
 -- what is there, by what its parts are

@@ -8,7 +8,7 @@ use Rattle.model.specs.Handler.{Meaning}
 use Rattle.model.specs.World.{incarnation_of}
 use Rattle.shared_log.specs.Logged.{Grows, Logged, OthersKept, places_of}
 use Rattle.compact.specs.Compact.{Progress}
-use Rattle.tenant.specs.declared.answer.Answer.{Answer}
+use Rattle.tenant.specs.Answers.{Answer}
 use Rattle.tenant.specs.Kept.{IsReplayed, TenantState, Member, returned_kept, live_count}
 use Rattle.tenant.specs.Outcomes.{IsPlain}
 use Rattle.tenant.specs.Returns.{Went}
@@ -37,7 +37,7 @@ module _ (name : List ℕ) (u : ℕ) (before mid after : Logged) (same : mid.rec
         → places_of name u after ≡ take (skipped + keep) (places_of name u mid) → OthersKept name u mid after
         → Grows mid.records [] after.records → Went M name t u m target given a v before after
     went plain replayed back count skips own others grows = record {
-      said = plain.1.1;
+      said = plain.1;
       reply = plain.0;
       progress = progress;
       replayed = subst (λ (n : Member S). IsReplayed

@@ -35,7 +35,7 @@ use Rattle.rollback_laws.proofs.Places.{places_are_seen}
 use Rattle.rollback_laws.proofs.Standing.{units_are_ready}
 use Rattle.shared_log.specs.Logged.{IsHeld, IsLeftOf, Logged, places_from, places_of}
 use Rattle.shared_log.proofs.PlacesLaws.{all_held, places_are}
-use Rattle.tenant.specs.declared.answer.Answer.{Answer}
+use Rattle.tenant.specs.Answers.{Answer}
 use Rattle.tenant.specs.Bases.{LetsGo, given_up, moved_kept, moved_member, next_base}
 use Rattle.tenant.specs.Past.{KeepsOn, KeepsPast, amount_of, shelf_of}
 use Rattle.tenant.specs.Kept.{MakesStable, TenantState, Member as MemberOf, flushed_member, kept_length, live_count}

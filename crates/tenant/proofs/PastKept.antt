@@ -37,7 +37,7 @@ use Rattle.rollback.specs.Units.{IsKept, Recovering, places, shelf_with}
 use Rattle.rollback_laws.proofs.Places.{places_are_seen}
 use Rattle.shared_log.specs.Logged.{Logged}
 use Rattle.rollback_laws.specs.Seen.{IsSeen}
-use Rattle.tenant.specs.declared.answer.Answer.{Answer}
+use Rattle.tenant.specs.Answers.{Answer}
 use Rattle.tenant.specs.Past.{AddsLetters, Bases, KeepsOn, KeepsPast, OpensPast, SameShelves, Shelves, shelf_of}
 use Rattle.tenant.specs.Past.{shelves_of}
 use Rattle.tenant.specs.Kept.{MakesStable, TenantState, Member, checkpointed_member, fitted_member, flushed_member}

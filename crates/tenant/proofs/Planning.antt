@@ -5,8 +5,8 @@ use Rattle.std.proofs.lemmas.Option.{same_Some}
 use Rattle.model.specs.declared.names.Source.{Source}
 use Rattle.model.specs.declared.records.Record.{Record}
 use Rattle.model.specs.declared.refusals.Refusal.{Refusal}
-use Rattle.model.specs.Handler.{Turn}
-use Rattle.handler.specs.Inputs.{Input}
+use Rattle.model.specs.Handler.{Meaning, Turn}
+use Rattle.handler.specs.Inputs.{Input, turn_upon_input}
 use Rattle.model.specs.Nodes.{sends_within}
 use Rattle.session.specs.Counts.{advanced}
 use Rattle.compact.specs.Compact.{CompactLetter, Progress}
@@ -38,15 +38,20 @@ module _ {S : Type 0} (name : List ℕ) (t : TenantState S)
   planned_plain = plan_is.plain
 
   -- the record is of the unit's next interval
-  pub planned_next : q.source ≡ source → q.text ≡ text
-      → slice_get t.members u ≡ Some m → (n : Member S) → slice_get t.members u ≡ Some n → IsNext n plan.logged input
-  planned_next from said at n there =
+  pub planned_next : (M : Meaning S) → turn ≡ turn_upon_input M input → q.source ≡ source → q.text ≡ text
+      → slice_get t.members u ≡ Some m → (n : Member S) → slice_get t.members u ≡ Some n
+      → IsNext M n plan.logged turn
+  planned_next M own from said at n there =
       let same : m ≡ n = same_Some m n (sym at ∙ there) in
       rw (← same) (record {
         room = is.room;
         mark = ap (λ (r : Record). r.mark.index) plan_is.logged;
-        asked = (λ i. asking m.unit_state ((ap (λ (r : Record). r.source) plan_is.logged ∙ from) i)
-            ((ap (λ (r : Record). r.text) plan_is.logged ∙ said) i)) ∙ is.asked;
+        own = record {
+          input = input;
+          asked = (λ i. asking m.unit_state ((ap (λ (r : Record). r.source) plan_is.logged ∙ from) i)
+              ((ap (λ (r : Record). r.text) plan_is.logged ∙ said) i)) ∙ is.asked;
+          own = own;
+        };
       })
 
   -- each letter has its content

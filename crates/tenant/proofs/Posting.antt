@@ -136,12 +136,12 @@ module _ {S : Type 0} (M : Meaning S) (name : List ℕ) (live : ℕ → List ℕ
       pub post_planned : (turn : Turn S) → turn ≡ turn_upon_input M input → (q : Receipt) → q ≡ posted number text
           → (plan : Plan) → IsPlanned name t u m q turn (Ok plan) → (reply : Reply) → reply ≡ plan.answer.reply
           → (v : TenantState S)
-          → v ≡ received_kept M t u m plan.logged (turn_upon_input M input).outputs plan.made.items
+          → v ≡ received_kept M t u m plan.logged turn.outputs plan.made.items
           → Leaves M name live (post M w u number text) reply v log
       post_planned turn e q same plan planned reply told v new =
           let p = asked_up m.unit_state Outside text input is.asked in
           let made = planned.1 p.0 p.1 in
           post_done (ap (turn_refusal_of t m) (sym e)
           ∙ planned.0) p.0 p.1 reply (told ∙ made.reply ∙ ap (next_reply_of t u m) e) v
-          (new ∙ (λ i. received_kept M t u m ((made.logged ∙ ap (next_record_of name t u m) same) i) (turn_upon_input
-          M input).outputs ((made.made ∙ (λ j. next_letters_of t u m (same j) (e j) p.0.sessions)) i)))
+          (new ∙ (λ i. received_kept M t u m ((made.logged ∙ ap (next_record_of name t u m) same) i) (e i).outputs
+          ((made.made ∙ (λ j. next_letters_of t u m (same j) (e j) p.0.sessions)) i)))

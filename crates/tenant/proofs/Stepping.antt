@@ -11,7 +11,7 @@ use Rattle.model.specs.World.{World}
 use Rattle.handler.specs.Inputs.{Input}
 use Rattle.shared_log.specs.Logged.{Logged}
 use Rattle.shared_log.proofs.LeftLaws.{same_grows}
-use Rattle.tenant.specs.declared.answer.Answer.{Answer}
+use Rattle.tenant.specs.Answers.{Answer}
 use Rattle.tenant.specs.Kept.{TenantState}
 use Rattle.tenant.specs.Outcomes.{IsPlain}
 use Rattle.tenant.specs.Stands.{Did, Stands, live_in}
@@ -27,7 +27,7 @@ module _ {S : Type 0} (M : Meaning S) (name : List ℕ) (t v : TenantState S)
   plain_did a does plain w given =
       let s = opened given in
       let l = does (live_in name before.records) w s.whole s.stands in
-      subst (λ (z : Said). Did M name w v step z a.reply before before) (sym plain.1) (record {
+      subst (λ (z : Said). Did M name w v step z a.reply before before) (sym plain) (record {
         steps = (l.0, l.1, closed (record { whole = s.whole; left = s.left; stands = l.2 }));
         logs = record {
           honest = ([], same_grows before.records before.records refl, honest w);

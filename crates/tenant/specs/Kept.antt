@@ -5,7 +5,7 @@ use Rattle.std.specs.Prelude.{slice_set, ℕ, cond, nat_le, nat_lt, List, Option
 use Rattle.std.specs.List.{fold, position}
 use Rattle.std.specs.Option.{is_some}
 use Rattle.model.specs.declared.limits.TheConstants.{MAX_INCARNATION}
-use Rattle.handler.specs.Inputs.{Input}
+use Rattle.handler.specs.Inputs.{Input, turn_upon_input}
 use Rattle.model.specs.declared.names.Mark.{Mark}
 use Rattle.model.specs.declared.names.Quota.{Quota}
 use Rattle.model.specs.declared.names.Row.{Row}
@@ -30,7 +30,7 @@ use Rattle.checkpoint.specs.Shelves.{nearest_of}
 use Rattle.orphan.specs.Tests.{is_orphan_by}
 use Rattle.compact.specs.Compact.{CompactLetter, Progress, Content}
 use Rattle.rollback.specs.Units.{Recovering, begun_unit, checkpointed, cut_behind, killed_recovering, marked_stable}
-use Rattle.rollback.specs.Units.{places, restored, stable_places, widened_to, asking, took}
+use Rattle.rollback.specs.Units.{places, restored, stable_places, widened_to, asking, took, IsTurnUpon}
 use Rattle.unit_steps.specs.Receipts.{IsFrontier, frontier_of, TenantView, letter_refused, mark_upon, turn_refused}
 use Rattle.unit_steps.specs.Receipts.{vector_upon}
 use Rattle.compact.specs.Steps.{Receipt, letters_by}
@@ -284,6 +284,13 @@ pub record IsAsking {S : Type 0} (refusal : Option Refusal) (r : Recovering S) (
   pub room : places r < 2 ^ 32
   pub asked : asking r source text ≡ Some input
 
+-- The unit's turn upon this text is this one, and no test before the turn refuses the receipt.
+pub record IsTurn {S : Type 0} (M : Meaning S) (refusal : Option Refusal) (r : Recovering S) (source : Source)
+    (text : List ℕ) (turn : Turn S) : Type 0 where
+  pub input : Input S
+  pub asking : IsAsking refusal r source text input
+  pub own : turn ≡ turn_upon_input M input
+
 -- what the tenant tells a unit of its table and its other units
 abbrev pub known_of : {S : Type 0} → TenantState S → Member S → TenantView
 known_of t m = record { table = t.table; rows = m.known; stable_lengths = t.stable_lengths }
@@ -298,6 +305,13 @@ abbrev pub IsAskingBy : {S : Type 0} → TenantState S → Member S → CompactL
 IsAskingBy t m c None input = ⊥
 IsAskingBy t m c (Some content) input =
     IsAsking (letter_refusal_of t m c) m.unit_state (FromUnit c.source) content.text input
+
+-- The same of a turn.
+abbrev pub IsTurnBy : {S : Type 0} → Meaning S → TenantState S → Member S → CompactLetter → Option Content → Turn S
+    → Type 0
+IsTurnBy M t m c None turn = ⊥
+IsTurnBy M t m c (Some content) turn =
+    IsTurn M (letter_refusal_of t m c) m.unit_state (FromUnit c.source) content.text turn
 
 -- the mark, the vector and the record of the interval that a receipt makes
 abbrev pub next_mark_of : {S : Type 0} → TenantState S → ℕ → Member S → Mark
@@ -344,8 +358,8 @@ abbrev pub received_kept : {S : Type 0} → Meaning S → TenantState S → ℕ 
 received_kept M t u m r outputs made =
     record t { members = slice_set t.members u (received_member M m r outputs); letters = t.letters ++ made }
 
--- The record is of the unit's next interval, whose turn has this input.
-pub record IsNext {S : Type 0} (m : Member S) (r : Record) (input : Input S) : Type 0 where
+-- The record is of the unit's next interval, whose turn is this one.
+pub record IsNext {S : Type 0} (M : Meaning S) (m : Member S) (r : Record) (turn : Turn S) : Type 0 where
   pub room : places m.unit_state < 2 ^ 32
   pub mark : r.mark.index ≡ places m.unit_state
-  pub asked : asking m.unit_state r.source r.text ≡ Some input
+  pub own : IsTurnUpon M m.unit_state r.source r.text turn

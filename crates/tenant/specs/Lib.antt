@@ -1,3 +1,4 @@
+pub mod Answers
 pub mod Bases
 pub mod Kept
 pub mod Needs

@@ -6,7 +6,7 @@ use Rattle.model.specs.World.{World}
 use Rattle.model.specs.declared.replies.End.TheVariants.{Device}
 use Rattle.model.specs.declared.replies.Reply.{Reply}
 use Rattle.model.specs.declared.replies.Said.{Said}
-use Rattle.tenant.specs.declared.answer.Answer.{Answer}
+use Rattle.tenant.specs.Answers.{Answer}
 
 -- the reply, and the world after the step
 abbrev pub done : Reply → World → Outcome
@@ -18,4 +18,4 @@ failing = record { appended = 0; end = Device }
 
 -- the answer of a step that does not touch the store
 abbrev pub IsPlain : Answer → Type 0
-IsPlain a = (a.history_copy ≡ a.reply) × (a.said ≡ quiet)
+IsPlain a = a.said ≡ quiet

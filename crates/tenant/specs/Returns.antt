@@ -8,7 +8,7 @@ use Rattle.model.specs.declared.replies.Reply.{Reply}
 use Rattle.model.specs.declared.replies.Reply.TheVariants.{Refused}
 use Rattle.compact.specs.Compact.{Progress}
 use Rattle.shared_log.specs.Logged.{Grows, Logged, OthersKept, places_of}
-use Rattle.tenant.specs.declared.answer.Answer.{Answer}
+use Rattle.tenant.specs.Answers.{Answer}
 use Rattle.tenant.specs.Kept.{IsReplayed, TenantState, Member, returned_kept, live_count}
 use Rattle.model.specs.Records.{quiet}
 use Rattle.tenant.specs.Outcomes.{failing}

@@ -1,22 +1,113 @@
 //! What a step is answered.
 
-ghost use Rattle.std.specs.Prelude.{◌≡◌, IfOk, IsOk};
+ghost use Rattle.std.specs.Prelude.{◌≡◌, IfOk};
 ghost use Rattle.model.specs.Records.{quiet as quiet_said};
+ghost use Rattle.tenant.specs.Answers.{Answer as AnswerOf, IsSpareOf, spare_none};
 ghost use Rattle.tenant.specs.Outcomes.{IsPlain, failing};
 ghost use Rattle.model.specs.declared.refusals.Refusal.TheVariants.{Store};
 ghost use Rattle.model.specs.declared.replies.Reply.TheVariants.{Accepted, Refused};
 
-use model::{End, Letters, Mark, NoMemory, Refusal, Reply, Said};
+use model::{End, Letters, Mark, NoMemory, Refusal, Reply, Said, Texts};
 use std::alloc::Global;
 use std::marker::Model;
 
-/// What the store said during a step, and the reply twice: one is given, and a copy goes into the history. Both are
-/// made before the step changes anything.
+/// What an equal reply needs that a copy may not find: a second hold of a list that lies in memory. Every other part of
+/// a reply is copied without memory.
+#[derive(Debug, Drop)]
+enum Spare {
+    Nothing,
+    Letters(Letters),
+    Outputs(Texts),
+}
+
+impl Spare {
+    /// What a reply equal to this one needs.
+    ///
+    /// # Errors
+    ///
+    /// `NoMemory` where there are 2^63 - 1 holds of its list already.
+    fn of(alloc: Global, reply: &Reply) -> Result<Spare, NoMemory>
+        ensures { IfOk result (λ spare. IsSpareOf spare reply.now) }
+    {
+        match reply {
+            Reply::Accepted { letters, .. } => Ok(Spare::Letters(letters.copy(alloc)?)),
+            Reply::Released { outputs } => Ok(Spare::Outputs(outputs.copy()?)),
+            _ => Ok(Spare::Nothing),
+        }
+    }
+
+    /// The equal reply. Takes no memory.
+    fn into_equal(self, reply: &Reply) -> Reply
+        requires { IsSpareOf self reply.now }
+        ensures { result ≡ reply.now }
+    {
+        match reply {
+            Reply::Opened { units } => Reply::Opened { units: *units },
+            Reply::Joined { unit } => Reply::Joined { unit: *unit },
+            Reply::Accepted { at, held, .. } => match self {
+                Spare::Letters(letters) => Reply::Accepted {
+                    at: *at,
+                    held: *held,
+                    letters,
+                },
+                _ => unreachable!(),
+            },
+            Reply::Flushed { count } => Reply::Flushed { count: *count },
+            Reply::Checkpointed { at } => Reply::Checkpointed { at: *at },
+            Reply::Killed { lost } => Reply::Killed { lost: *lost },
+            Reply::Restarted { row } => Reply::Restarted { row: *row },
+            Reply::Noticed { row } => Reply::Noticed { row: *row },
+            Reply::Released { .. } => match self {
+                Spare::Outputs(outputs) => Reply::Released { outputs },
+                _ => unreachable!(),
+            },
+            Reply::Status {
+                at,
+                held,
+                known,
+                outside,
+                released,
+                rows,
+                stable,
+                up,
+                volatile,
+            } => Reply::Status {
+                at: *at,
+                held: *held,
+                known: *known,
+                outside: *outside,
+                released: *released,
+                rows: *rows,
+                stable: *stable,
+                up: *up,
+                volatile: *volatile,
+            },
+            Reply::Stopped { count, refusal } => Reply::Stopped {
+                count: *count,
+                refusal: *refusal,
+            },
+            Reply::Refused { refusal } => Reply::Refused { refusal: *refusal },
+        }
+    }
+}
+
+/// What the store said during a step, and the reply. It is made before the step changes anything, with what an equal
+/// reply needs, which whoever keeps a history asks for once the step is done.
 #[derive(Debug, Drop)]
 pub struct Answer {
-    pub said: Said,
-    pub reply: Reply,
-    pub history_copy: Reply,
+    said: Said,
+    reply: Reply,
+    spare: Spare,
+}
+
+impl Model for Answer {
+    ghost use Rattle.tenant.specs.Answers.{Answer as AnswerOf, IsSpareOf};
+
+    ghost Value = { AnswerOf };
+
+    ghost view = { λ a. record { said = a.said; reply = a.reply } };
+
+    ghost invariant = { λ a. IsSpareOf a.spare a.reply };
 }
 
 /// The store was not asked.
@@ -31,85 +122,113 @@ fn quiet() -> Said
 
 impl Answer {
     /// The answer of a step that does not touch the store.
+    ///
+    /// # Errors
+    ///
+    /// `NoMemory` where an equal reply could find none.
     pub(crate) fn plain(alloc: Global, reply: Reply) -> Result<Answer, NoMemory>
         ensures { IfOk result (λ a. (a.reply ≡ reply) × IsPlain a) }
     {
-        let history_copy = reply.copy(alloc)?;
+        let spare = Spare::of(alloc, &reply)?;
         Ok(Answer {
             said: quiet(),
             reply,
-            history_copy,
+            spare,
         })
     }
 
-    /// The same for a reply that takes no memory, made twice.
-    pub(crate) fn from_pair(reply: Reply, history_copy: Reply) -> Answer
-        requires { history_copy ≡ reply }
-        ensures reply { result.reply ≡ reply }
-        ensures plain { IsPlain result }
+    /// The answer of this reply, which holds no list, after what the store said.
+    pub(crate) fn small(said: Said, reply: Reply) -> Answer
+        requires { IsSpareOf spare_none reply }
+        ensures { result ≡ record { said = said; reply = reply } }
     {
         Answer {
-            said: quiet(),
+            said,
             reply,
-            history_copy,
+            spare: Spare::Nothing,
         }
     }
 
+    /// The same of a step that does not touch the store.
+    pub(crate) fn quiet(reply: Reply) -> Answer
+        requires { IsSpareOf spare_none reply }
+        ensures reply { result.reply ≡ reply }
+        ensures plain { IsPlain result }
+    {
+        Answer::small(quiet(), reply)
+    }
+
     /// The step is refused.
-    pub(crate) fn refused(refusal: Refusal) -> Answer
+    pub fn refused(refusal: Refusal) -> Answer
         ensures reply { result.reply ≡ Refused refusal }
         ensures plain { IsPlain result }
     {
-        Answer {
-            said: quiet(),
-            reply: Reply::Refused { refusal },
-            history_copy: Reply::Refused { refusal },
-        }
+        Answer::quiet(Reply::Refused { refusal })
     }
 
     /// The step is refused, since the store was asked for a record and its device failed.
     pub(crate) fn device_failed() -> Answer
         ensures reply { result.reply ≡ Refused Store }
-        ensures copied { result.history_copy ≡ result.reply }
         ensures said { result.said ≡ failing }
     {
-        Answer {
-            said: Said {
-                appended: 0,
-                end: End::Device,
-            },
-            reply: Reply::Refused {
+        let said = Said {
+            appended: 0,
+            end: End::Device,
+        };
+        Answer::small(
+            said,
+            Reply::Refused {
                 refusal: Refusal::Store,
             },
-            history_copy: Reply::Refused {
-                refusal: Refusal::Store,
-            },
-        }
+        )
+    }
+
+    /// What the store said.
+    pub fn said(&self) -> Said
+        ensures { result ≡ self.now.said }
+    {
+        self.said
+    }
+
+    /// The reply.
+    pub fn into_reply(self) -> Reply
+        ensures { result ≡ self.reply }
+    {
+        let Answer { reply, .. } = self;
+        reply
+    }
+
+    /// The reply, and one equal to it. Takes no memory.
+    pub fn into_both(self) -> (Reply, Reply)
+        ensures { (result.0 ≡ self.reply) × (result.1 ≡ self.reply) }
+    {
+        let Answer { reply, spare, .. } = self;
+        let equal = spare.into_equal(&reply);
+        (reply, equal)
     }
 }
 
 /// The answer to a receipt, in few bytes until it is given: the mark of the new interval, the outputs then held, and
-/// the letters that it made, twice.
+/// the letters that it made, with a second hold of them.
 #[derive(Drop)]
 pub(crate) struct PendingAccept {
     at: Mark,
     held: u64,
     letters: Letters,
-    history_copy: Letters,
+    spare: Letters,
 }
 
 impl Model for PendingAccept {
+    ghost use Rattle.std.specs.Prelude.{◌≡◌};
     ghost use Rattle.model.specs.Records.{quiet};
     ghost use Rattle.model.specs.declared.replies.Reply.TheVariants.{Accepted};
-    ghost use Rattle.tenant.specs.declared.answer.Answer.{Answer as AnswerOf};
+    ghost use Rattle.tenant.specs.Answers.{Answer as AnswerOf};
 
     ghost Value = { AnswerOf };
 
-    ghost view = { λ a. record {
-      said = quiet;
-      reply = Accepted a.at a.held a.letters;
-      history_copy = Accepted a.at a.held a.history_copy;
-    } };
+    ghost view = { λ a. record { said = quiet; reply = Accepted a.at a.held a.letters } };
+
+    ghost invariant = { λ a. a.spare ≡ a.letters };
 }
 
 impl PendingAccept {
@@ -117,7 +236,7 @@ impl PendingAccept {
     ///
     /// # Errors
     ///
-    /// `NoMemory` where the second list of letters finds no memory.
+    /// `NoMemory` where the second hold of the letters finds no memory.
     pub(crate) fn new(
         alloc: Global,
         at: Mark,
@@ -126,12 +245,12 @@ impl PendingAccept {
     ) -> Result<PendingAccept, NoMemory>
         ensures { IfOk result (λ a. (a.reply ≡ Accepted at held letters) × IsPlain a) }
     {
-        let history_copy = letters.copy(alloc)?;
+        let spare = letters.copy(alloc)?;
         Ok(PendingAccept {
             at,
             held,
             letters,
-            history_copy,
+            spare,
         })
     }
 
@@ -143,16 +262,12 @@ impl PendingAccept {
             at,
             held,
             letters,
-            history_copy,
+            spare,
         } = self;
         Answer {
             said: quiet(),
             reply: Reply::Accepted { at, held, letters },
-            history_copy: Reply::Accepted {
-                at,
-                held,
-                letters: history_copy,
-            },
+            spare: Spare::Letters(spare),
         }
     }
 }

@@ -9,7 +9,7 @@ ghost use Rattle.compact.specs.Compact.{CompactLetter};
 ghost use Rattle.rollback.specs.Units.{places};
 ghost use Rattle.unit_steps.specs.Receipts.{IsWithin};
 ghost use Rattle.tenant.specs.Past.{SameShelves};
-ghost use Rattle.tenant.specs.Kept.{IsAskingBy, Member as MemberOf, letter_refusal_of};
+ghost use Rattle.tenant.specs.Kept.{IsAskingBy, IsTurnBy, Member as MemberOf, letter_refusal_of};
 ghost use Rattle.tenant.specs.Needs.{IsAsked, deliver_needs};
 ghost use Rattle.tenant.specs.Outcomes.{IsPlain};
 ghost use Rattle.tenant.specs.Represents.{DoesAs, StandsFor};
@@ -18,7 +18,7 @@ use crate::answer::Answer;
 use crate::member::Member;
 use crate::receipts::{Incoming, ask_upon};
 use crate::tenant::Tenant;
-use handler::{Ask, Done, Handler};
+use handler::{AskRef, Handler, Turn};
 use model::{Letter, NoMemory, Refusal, Source, TenantName};
 use std::alloc::Global;
 use unit_steps::{LetterRef, TenantView, letter_refusal};
@@ -55,45 +55,38 @@ impl<H: Handler> Tenant<H> {
     }
 
     /// The turn that a delivery needs, or why it needs none.
-    pub(crate) fn ask_letter(
-        &self,
-        alloc: Global,
-        handler: &H,
-        letter: Letter,
-    ) -> Result<Result<Ask<H>, Refusal>, NoMemory>
-        ensures asked { IfOk result (λ r. (name : List ℕ) (live : ℕ → List ℕ) (w : World) (log : List RecordOf)
+    pub(crate) fn ask_letter(&self, letter: Letter) -> Result<AskRef<'_, H>, Refusal>
+        ensures asked { (name : List ℕ) (live : ℕ → List ℕ) (w : World) (log : List RecordOf)
             → StandsFor H.meaning name live self.now w log
-            → IsAsked (deliver_needs H.meaning w letter) (deliver_of H.meaning w letter) w r) }
-        ensures input { IfOk result (λ r. IfOk r (λ input. (c : CompactLetter) (m : MemberOf H.State)
+            → IsAsked (deliver_needs H.meaning w letter) (deliver_of H.meaning w letter) w result }
+        ensures input { IfOk result (λ input. (c : CompactLetter) (m : MemberOf H.State)
             → slice_get self.now.letters letter ≡ Some c → slice_get self.now.members c.receiver ≡ Some m
-            → IsAskingBy self.now m c c.content input)) }
+            → IsAskingBy self.now m c c.content input) }
     {
         let sent = match self.letter(letter) {
             Some(sent) => sent,
             None => {
-                return Ok(Err(Refusal::NoLetter));
+                return Err(Refusal::NoLetter);
             }
         };
         let member = match self.member(sent.receiver) {
             Some(member) => member,
             None => {
-                return Ok(Err(Refusal::NoUnit));
+                return Err(Refusal::NoUnit);
             }
         };
         match self.letter_refusal(member, &sent) {
-            Some(refusal) => return Ok(Err(refusal)),
+            Some(refusal) => return Err(refusal),
             None => {}
         }
         let content = match sent.content {
             Some(content) => content,
             // One that is forgotten is refused before.
             None => {
-                return Ok(Err(Refusal::Repeat));
+                return Err(Refusal::Repeat);
             }
         };
-        let source = Source::Unit(sent.source);
-        let asked = ask_upon(alloc, handler, member, source, content.text())?;
-        Ok(asked)
+        ask_upon(member, Source::Unit(sent.source), content.text())
     }
 
     /// A unit receives a letter, by the turn that this needs.
@@ -102,10 +95,10 @@ impl<H: Handler> Tenant<H> {
         alloc: Global,
         name: &TenantName,
         letter: Letter,
-        worked: Done<H>,
+        turn: Turn<H::State>,
     ) -> Result<Answer, NoMemory>
-        requires { (c : CompactLetter) (m : MemberOf H.State) → slice_get self.old.letters letter ≡ Some c
-            → slice_get self.old.members c.receiver ≡ Some m → IsAskingBy self.old m c c.content worked.input }
+        requires own { (c : CompactLetter) (m : MemberOf H.State) → slice_get self.old.letters letter ≡ Some c
+            → slice_get self.old.members c.receiver ≡ Some m → IsTurnBy H.meaning self.old m c c.content turn }
         ensures done { IfOk result (λ a.
             DoesAs H.meaning name.now (λ w. deliver_of H.meaning w letter) self.old a.reply self.new) }
         ensures plain { IfOk result IsPlain }
@@ -140,10 +133,10 @@ impl<H: Handler> Tenant<H> {
             text: content.text(),
             vector: content.vector(),
         };
-        match self.admit(alloc, name, unit, member, &arrival, worked.turn())? {
+        match self.admit(alloc, name, unit, member, &arrival, &turn)? {
             Err(refusal) => Ok(Answer::refused(refusal)),
             Ok(plan) => {
-                let answer = self.apply(unit, plan, worked)?;
+                let answer = self.apply(unit, plan, turn)?;
                 Ok(answer)
             }
         }
@@ -168,11 +161,11 @@ impl<H: Handler> Tenant<H> {
         ensures err { OnErr result (self.new ≡ self.old) }
         ensures gone { self.new.gone ≡ self.old.gone }
     {
-        match self.ask_letter(alloc, handler, letter)? {
+        match self.ask_letter(letter) {
             Err(refusal) => Ok(Answer::refused(refusal)),
             Ok(ask) => {
-                let worked = ask.work(alloc, handler)?;
-                self.take_letter(alloc, name, letter, worked)
+                let turn = ask.work(alloc, handler)?;
+                self.take_letter(alloc, name, letter, turn)
             }
         }
     }

@@ -11,6 +11,7 @@ ghost use Rattle.model.specs.declared.records.Record.{Record as RecordOf};
 ghost use Rattle.model.specs.declared.steps.TenantStep.TheVariants.{Flush};
 ghost use Rattle.rollback.specs.Units.{stable_places};
 ghost use Rattle.unit_steps.specs.Receipts.{IsFrontier, frontier_of};
+ghost use Rattle.tenant.specs.Answers.{IsSpareOf, spare_none};
 ghost use Rattle.tenant.specs.Past.{KeepsOn};
 ghost use Rattle.tenant.specs.Kept.{GoOn, MakesStable, Member as MemberOf, flushed_member};
 ghost use Rattle.tenant.specs.Live.{OthersLive, StaysJust};
@@ -27,7 +28,8 @@ use shared_log::{SharedLog, Store, StoreFault};
 use unit_steps::frontier_after;
 
 fn flush_reply(end: End, count: u64) -> Reply
-    ensures { result ≡ flush_reply_of end count }
+    ensures value { result ≡ flush_reply_of end count }
+    ensures small { IsSpareOf spare_none result }
 {
     match end {
         End::Whole => Reply::Flushed { count },
@@ -218,7 +220,6 @@ impl<H: Handler> Tenant<H> {
         unit: Unit,
         log: &mut SharedLog<S>,
     ) -> Result<Answer, NoMemory>
-        ensures copied { IfOk result (λ a. a.history_copy ≡ a.reply) }
         ensures did { IfOk result (λ a. (w : World) → Stands H.meaning tenant.now self.old w log.old.records
             → Did H.meaning tenant.now w self.new (Flush unit) a.said a.reply log.old log.new) }
         ensures keeps_on { IfOk result (λ a.
@@ -244,10 +245,6 @@ impl<H: Handler> Tenant<H> {
         }
         self.enter_stable(unit, said.appended as usize);
         self.forget_after(tenant, said.appended, log);
-        Ok(Answer {
-            said,
-            reply: flush_reply(said.end, said.appended),
-            history_copy: flush_reply(said.end, said.appended),
-        })
+        Ok(Answer::small(said, flush_reply(said.end, said.appended)))
     }
 }

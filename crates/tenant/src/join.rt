@@ -146,7 +146,7 @@ impl<H: Handler> Tenant<H> {
             return Ok(Answer::refused(Refusal::Limit));
         }
         let unit = Unit::new(count as u8);
-        let answer = Answer::from_pair(Reply::Joined { unit }, Reply::Joined { unit });
+        let answer = Answer::quiet(Reply::Joined { unit });
         self.enter_unit(alloc, handler, kind)?;
         Ok(answer)
     }

@@ -50,6 +50,6 @@ impl<H: Handler> Tenant<H> {
             Err(refusal) => return Answer::refused(refusal),
         }
         let lost = self.kill_at(unit);
-        Answer::from_pair(Reply::Killed { lost }, Reply::Killed { lost })
+        Answer::quiet(Reply::Killed { lost })
     }
 }

@@ -10,7 +10,6 @@ ghost use Rattle.checkpoint.specs.declared.snapshot.Snapshot.{Snapshot as Snapsh
 ghost use Rattle.checkpoint.specs.Shelves.{has_index, nearest_of};
 ghost use Rattle.compact.specs.Compact.{Progress as ProgressOf};
 ghost use Rattle.rollback.specs.Units.{IsKept, IsTarget, OrphansAreTail, places, restored, stable_places};
-ghost use Rattle.handler.specs.Inputs.{turn_upon_input};
 ghost use Rattle.session.specs.Counts.{widened_counts};
 ghost use Rattle.rollback_laws.specs.Seen.{IsSeen};
 ghost use Rattle.tenant.specs.Bases.{next_base, rebased_member};
@@ -20,7 +19,7 @@ ghost use Rattle.tenant.specs.Kept.{outputs_to, released_member, fitted_member, 
 ghost use Rattle.tenant.specs.Kept.{returned_member, IsNext, received_member};
 
 use crate::releasing;
-use handler::{Done, Handler};
+use handler::{Handler, Turn};
 use incarnation::StartTable;
 use model::{Mark, NoMemory, Record, Seat, Text, Unit};
 use output_commit::{Hold, Outlet};
@@ -213,21 +212,20 @@ impl<H: Handler> Member<H> {
         interval.vector.get(unit)
     }
 
-    /// Takes a receipt: its interval with its record, and what the turn that was worked for it puts out.
+    /// Takes a receipt: its interval with its record, and what its turn puts out.
     ///
     /// # Errors
     ///
     /// `NoMemory` where it finds no memory or can't be counted; the unit stays as it was.
-    pub(crate) fn receive(&mut self, logged: Record, worked: Done<H>) -> Result<(), NoMemory>
+    pub(crate) fn receive(&mut self, logged: Record, turn: Turn<H::State>) -> Result<(), NoMemory>
         requires few { length logged.vector ≤ 256 }
-        requires next { IsNext self.old logged worked.input }
-        ensures ok { IfOk result (λ _. self.new ≡ received_member H.meaning self.old logged
-            (turn_upon_input H.meaning worked.input).outputs) }
+        requires next { IsNext H.meaning self.old logged turn }
+        ensures ok { IfOk result (λ _. self.new ≡ received_member H.meaning self.old logged turn.outputs) }
         ensures err { OnErr result (self.new ≡ self.old) }
     {
         let mark = logged.mark;
-        self.hold.reserve(worked.turn().outputs().len())?;
-        let effects = self.unit_state.take(logged, worked)?;
+        self.hold.reserve(turn.outputs().len())?;
+        let effects = self.unit_state.take_turn(logged, turn)?;
         self.hold.add_reserved(mark, effects.outputs);
         Ok(())
     }

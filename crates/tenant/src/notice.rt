@@ -69,7 +69,6 @@ impl<H: Handler> Tenant<H> {
         unit: Unit,
         log: &mut SharedLog<S>,
     ) -> Result<Answer, NoMemory>
-        ensures copied { IfOk result (λ a. a.history_copy ≡ a.reply) }
         ensures did { IfOk result (λ a. (w : World) → Stands H.meaning tenant.now self.old w log.old.records
             → Did H.meaning tenant.now w self.new (Notice unit) a.said a.reply log.old log.new) }
         ensures shelves { IfOk result (λ a. Shelves (after_return unit a.reply) self.old self.new) }
@@ -91,10 +90,7 @@ impl<H: Handler> Tenant<H> {
         let target = self.rollback_target(unit);
         if self.is_last(unit, target) {
             self.learn_rows(unit);
-            return Ok(Answer::from_pair(
-                Reply::Noticed { row: None },
-                Reply::Noticed { row: None },
-            ));
+            return Ok(Answer::quiet(Reply::Noticed { row: None }));
         }
         if self.incarnations_exhausted(unit) {
             return Ok(Answer::refused(Refusal::Limit));

@@ -7,7 +7,7 @@ ghost use Rattle.model.specs.Steps.{post as post_of};
 ghost use Rattle.model.specs.World.{World};
 ghost use Rattle.unit_steps.specs.Receipts.{post_refused};
 ghost use Rattle.tenant.specs.Past.{SameShelves};
-ghost use Rattle.tenant.specs.Kept.{IsAsking, Member as MemberOf};
+ghost use Rattle.tenant.specs.Kept.{IsAsking, IsTurn, Member as MemberOf};
 ghost use Rattle.tenant.specs.Needs.{IsAsked, post_needs};
 ghost use Rattle.tenant.specs.Outcomes.{IsPlain};
 ghost use Rattle.tenant.specs.Represents.{DoesAs, StandsFor};
@@ -16,33 +16,31 @@ use crate::answer::Answer;
 use crate::receipts::{Incoming, ask_upon};
 use crate::tenant::Tenant;
 use depvector::SharedVector;
-use handler::{Ask, Done, Handler};
+use handler::{AskRef, Handler, Turn};
 use model::{NoMemory, Refusal, Source, TenantName, Text, Unit};
 use std::alloc::Global;
 use unit_steps::post_refusal;
 
 impl<H: Handler> Tenant<H> {
     /// The turn that a post needs, or why it needs none.
-    pub(crate) fn ask_post(
-        &self,
-        alloc: Global,
-        handler: &H,
+    pub(crate) fn ask_post<'a>(
+        &'a self,
         unit: Unit,
         number: u32,
-        text: &Text,
-    ) -> Result<Result<Ask<H>, Refusal>, NoMemory>
-        ensures asked { IfOk result (λ r. (name : List ℕ) (live : ℕ → List ℕ) (w : World) (log : List RecordOf)
+        text: &'a Text,
+    ) -> Result<AskRef<'a, H>, Refusal>
+        ensures asked { (name : List ℕ) (live : ℕ → List ℕ) (w : World) (log : List RecordOf)
             → StandsFor H.meaning name live self.now w log
-            → IsAsked (post_needs H.meaning w unit number text.now) (post_of H.meaning w unit number text.now) w r) }
-        ensures input { IfOk result (λ r. IfOk r (λ input. (m : MemberOf H.State)
-            → slice_get self.now.members unit ≡ Some m
+            → IsAsked (post_needs H.meaning w unit number text.now) (post_of H.meaning w unit number text.now) w
+            result }
+        ensures input { IfOk result (λ input. (m : MemberOf H.State) → slice_get self.now.members unit ≡ Some m
             → IsAsking (post_refused self.now.quota.volatile m.unit_state number text.now)
-            m.unit_state Outside text.now input)) }
+            m.unit_state Outside text.now input) }
     {
         let member = match self.member(unit) {
             Some(member) => member,
             None => {
-                return Ok(Err(Refusal::NoUnit));
+                return Err(Refusal::NoUnit);
             }
         };
         match post_refusal(
@@ -51,11 +49,10 @@ impl<H: Handler> Tenant<H> {
             u64::from(number),
             text,
         ) {
-            Some(refusal) => return Ok(Err(refusal)),
+            Some(refusal) => return Err(refusal),
             None => {}
         }
-        let asked = ask_upon(alloc, handler, member, Source::Outside, text)?;
-        Ok(asked)
+        ask_upon(member, Source::Outside, text)
     }
 
     /// A unit receives a text from outside, by the turn that this needs.
@@ -66,11 +63,11 @@ impl<H: Handler> Tenant<H> {
         unit: Unit,
         number: u32,
         text: Text,
-        worked: Done<H>,
+        turn: Turn<H::State>,
     ) -> Result<Answer, NoMemory>
-        requires { (m : MemberOf H.State) → slice_get self.old.members unit ≡ Some m
-            → IsAsking (post_refused self.old.quota.volatile m.unit_state number text)
-            m.unit_state Outside text worked.input }
+        requires own { (m : MemberOf H.State) → slice_get self.old.members unit ≡ Some m
+            → IsTurn H.meaning (post_refused self.old.quota.volatile m.unit_state number text)
+            m.unit_state Outside text turn }
         ensures done { IfOk result (λ a.
             DoesAs H.meaning name.now (λ w. post_of H.meaning w unit number text) self.old a.reply self.new) }
         ensures plain { IfOk result IsPlain }
@@ -92,10 +89,10 @@ impl<H: Handler> Tenant<H> {
             text: &text,
             vector: &vector,
         };
-        match self.admit(alloc, name, unit, member, &arrival, worked.turn())? {
+        match self.admit(alloc, name, unit, member, &arrival, &turn)? {
             Err(refusal) => Ok(Answer::refused(refusal)),
             Ok(plan) => {
-                let answer = self.apply(unit, plan, worked)?;
+                let answer = self.apply(unit, plan, turn)?;
                 Ok(answer)
             }
         }
@@ -122,11 +119,11 @@ impl<H: Handler> Tenant<H> {
         ensures err { OnErr result (self.new ≡ self.old) }
         ensures gone { self.new.gone ≡ self.old.gone }
     {
-        match self.ask_post(alloc, handler, unit, number, &text)? {
+        match self.ask_post(unit, number, &text) {
             Err(refusal) => Ok(Answer::refused(refusal)),
             Ok(ask) => {
-                let worked = ask.work(alloc, handler)?;
-                self.take_post(alloc, name, unit, number, text, worked)
+                let turn = ask.work(alloc, handler)?;
+                self.take_post(alloc, name, unit, number, text, turn)
             }
         }
     }

@@ -46,13 +46,13 @@ impl<H: Handler> Tenant<H> {
     {
         match step {
             TenantStep::Post { unit, number, text } => {
-                match self.ask_post(alloc, handler, *unit, *number, text)? {
-                    Ok(ask) => Ok(Some(ask)),
+                match self.ask_post(*unit, *number, text) {
+                    Ok(ask) => Ok(Some(ask.to_ask(alloc, handler)?)),
                     Err(_) => Ok(None),
                 }
             }
-            TenantStep::Deliver { letter } => match self.ask_letter(alloc, handler, *letter)? {
-                Ok(ask) => Ok(Some(ask)),
+            TenantStep::Deliver { letter } => match self.ask_letter(*letter) {
+                Ok(ask) => Ok(Some(ask.to_ask(alloc, handler)?)),
                 Err(_) => Ok(None),
             },
             _ => Ok(None),
@@ -64,7 +64,6 @@ impl<H: Handler> Tenant<H> {
     pub(crate) fn post_with(
         &mut self,
         alloc: Global,
-        handler: &H,
         name: &TenantName,
         unit: Unit,
         number: u32,
@@ -83,13 +82,14 @@ impl<H: Handler> Tenant<H> {
         ensures err { OnErr result (self.new ≡ self.old) }
         ensures gone { self.new.gone ≡ self.old.gone }
     {
-        match self.ask_post(alloc, handler, unit, number, &text)? {
+        match self.ask_post(unit, number, &text) {
             Err(refusal) => Ok(Some(Answer::refused(refusal))),
             Ok(ask) => {
                 if !ask.is_same(worked.input()) {
                     return Ok(None);
                 }
-                let answer = self.take_post(alloc, name, unit, number, text, worked)?;
+                let turn = worked.into_turn();
+                let answer = self.take_post(alloc, name, unit, number, text, turn)?;
                 Ok(Some(answer))
             }
         }
@@ -100,7 +100,6 @@ impl<H: Handler> Tenant<H> {
     pub(crate) fn deliver_with(
         &mut self,
         alloc: Global,
-        handler: &H,
         name: &TenantName,
         letter: Letter,
         worked: Done<H>,
@@ -117,13 +116,14 @@ impl<H: Handler> Tenant<H> {
         ensures err { OnErr result (self.new ≡ self.old) }
         ensures gone { self.new.gone ≡ self.old.gone }
     {
-        match self.ask_letter(alloc, handler, letter)? {
+        match self.ask_letter(letter) {
             Err(refusal) => Ok(Some(Answer::refused(refusal))),
             Ok(ask) => {
                 if !ask.is_same(worked.input()) {
                     return Ok(None);
                 }
-                let answer = self.take_letter(alloc, name, letter, worked)?;
+                let turn = worked.into_turn();
+                let answer = self.take_letter(alloc, name, letter, turn)?;
                 Ok(Some(answer))
             }
         }

@@ -6,7 +6,6 @@ ghost use Rattle.std.specs.Option.{is_some};
 ghost use Rattle.model.specs.Lists.{numbers_from};
 ghost use Rattle.model.specs.Nodes.{sends_within};
 ghost use Rattle.model.specs.declared.refusals.Refusal.TheVariants.{Down};
-ghost use Rattle.handler.specs.Inputs.{turn_upon_input};
 ghost use Rattle.session.specs.Counts.{advanced};
 ghost use Rattle.compact.specs.Steps.{letters_by as letters_of};
 ghost use Rattle.rollback.specs.Units.{asking, places};
@@ -19,7 +18,7 @@ use crate::answer::{Answer, PendingAccept};
 use crate::member::Member;
 use crate::tenant::Tenant;
 use depvector::SharedVector;
-use handler::{Ask, Done, Handler, Turn};
+use handler::{AskRef, Handler, Turn};
 use model::{Letter, Letters, NoMemory, Record, Refusal, Source, TenantName, Text, Unit};
 use session::Sessions;
 use std::alloc::Global;
@@ -46,20 +45,17 @@ pub(crate) struct Plan {
 }
 
 /// The turn that a unit has upon this text, or that it is down.
-pub(crate) fn ask_upon<H: Handler>(
-    alloc: Global,
-    handler: &H,
-    member: &Member<H>,
+pub(crate) fn ask_upon<'a, H: Handler>(
+    member: &'a Member<H>,
     source: Source,
-    text: &Text,
-) -> Result<Result<Ask<H>, Refusal>, NoMemory>
-    ensures asked { IfOk result (λ r. IfOk r (λ input. asking member.now.unit_state source text.now ≡ Some input)) }
-    ensures down { IfOk result (λ r. IfErr r (λ refusal. (refusal ≡ Down) × (member.now.unit_state.progress ≡ None))) }
+    text: &'a Text,
+) -> Result<AskRef<'a, H>, Refusal>
+    ensures asked { IfOk result (λ input. asking member.now.unit_state source text.now ≡ Some input) }
+    ensures down { IfErr result (λ refusal. (refusal ≡ Down) × (member.now.unit_state.progress ≡ None)) }
 {
-    let own_text = text.copy()?;
-    match member.unit_state().ask(alloc, handler, source, own_text)? {
-        Some(ask) => Ok(Ok(ask)),
-        None => Ok(Err(Refusal::Down)),
+    match member.unit_state().ask(source, text) {
+        Some(ask) => Ok(ask),
+        None => Err(Refusal::Down),
     }
 }
 
@@ -70,21 +66,22 @@ fn receive_at<H: Handler>(
     at: usize,
     logged: Record,
     made: NewLetters,
-    worked: Done<H>,
+    turn: Turn<H::State>,
 ) -> Result<(), NoMemory>
     requires within { at < length members.old.items }
     requires few { length logged.vector ≤ 256 }
-    requires next { (m : MemberOf H.State) → slice_get members.old.items at ≡ Some m → IsNext m logged worked.input }
+    requires next { (m : MemberOf H.State) → slice_get members.old.items at ≡ Some m
+        → IsNext H.meaning m logged turn }
     ensures members { IfOk result (λ _. (m : MemberOf H.State) → slice_get members.old.items at ≡ Some m
         → members.new.items ≡ slice_set members.old.items at
-        (received_member H.meaning m logged (turn_upon_input H.meaning worked.input).outputs)) }
+        (received_member H.meaning m logged turn.outputs)) }
     ensures letters { IfOk result (λ _. letters.new.items ≡ letters.old.items ++ made.items) }
     ensures err_members { OnErr result (members.new.items ≡ members.old.items) }
     ensures err_letters { OnErr result (letters.new.items ≡ letters.old.items) }
 {
     letters.reserve(made.len())?;
     let member = &mut members[at];
-    member.receive(logged, worked)?;
+    member.receive(logged, turn)?;
     letters.add(made);
     Ok(())
 }
@@ -255,22 +252,21 @@ impl<H: Handler> Tenant<H> {
         Ok(Ok(plan))
     }
 
-    /// Takes a receipt as it was planned.
+    /// Takes a receipt as it was planned, with the turn that it was planned for.
     #[inline(always)]
     pub(crate) fn apply(
         &mut self,
         unit: Unit,
         plan: Plan,
-        worked: Done<H>,
+        turn: Turn<H::State>,
     ) -> Result<Answer, NoMemory>
         requires within { unit < length self.old.members }
         requires few { length plan.logged.vector ≤ 256 }
         requires next { (m : MemberOf H.State) → slice_get self.old.members unit ≡ Some m
-            → IsNext m plan.logged worked.input }
+            → IsNext H.meaning m plan.logged turn }
         ensures answer { IfOk result (λ a. a ≡ plan.answer) }
         ensures ok { IfOk result (λ _. (m : MemberOf H.State) → slice_get self.old.members unit ≡ Some m
-            → self.new ≡ received_kept H.meaning self.old unit m plan.logged
-            (turn_upon_input H.meaning worked.input).outputs plan.made.items) }
+            → self.new ≡ received_kept H.meaning self.old unit m plan.logged turn.outputs plan.made.items) }
         ensures err { OnErr result (self.new ≡ self.old) }
         ensures gone { self.new.gone ≡ self.old.gone }
     {
@@ -285,7 +281,7 @@ impl<H: Handler> Tenant<H> {
             usize::from(unit.number()),
             logged,
             made,
-            worked,
+            turn,
         )?;
         Ok(answer.into_answer())
     }

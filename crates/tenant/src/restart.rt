@@ -52,7 +52,6 @@ impl<H: Handler> Tenant<H> {
         unit: Unit,
         log: &mut SharedLog<S>,
     ) -> Result<Answer, NoMemory>
-        ensures copied { IfOk result (λ a. a.history_copy ≡ a.reply) }
         ensures did { IfOk result (λ a. (w : World) → Stands H.meaning tenant.now self.old w log.old.records
             → Did H.meaning tenant.now w self.new (Restart unit) a.said a.reply log.old log.new) }
         ensures shelves { IfOk result (λ a. Shelves (after_return unit a.reply) self.old self.new) }

@@ -232,7 +232,6 @@ impl<H: Handler> Tenant<H> {
         requires target { (m : MemberOf H.State) → slice_get self.old.members unit ≡ Some m
             → IsTarget m.unit_state target }
         requires room { incarnation_of self.old.table unit < MAX_INCARNATION }
-        ensures copied { IfOk result (λ a. a.history_copy ≡ a.reply) }
         ensures returns { IfOk result (λ a. (m : MemberOf H.State) → slice_get self.old.members unit ≡ Some m
             → Returns H.meaning tenant.now self.old unit m target reply a self.new log.old log.new) }
         ensures beside { IfOk result (λ _. Grows log.old.records [] log.new.records

@@ -54,7 +54,7 @@ impl<H: Handler> Tenant<H> {
         ensures { (name : List ℕ) (w : World) (records : List (Option Record))
             → Stands H.meaning name self.now w records → result ≡ (status_of H.meaning w unit).reply }
     {
-        self.answer_status(unit).reply
+        self.answer_status(unit).into_reply()
     }
 
     /// The same, as an answer.
@@ -77,6 +77,6 @@ impl<H: Handler> Tenant<H> {
             up: member.is_up(),
             volatile: member.volatile_count() as u64,
         };
-        Answer::from_pair(standing.reply(), standing.reply())
+        Answer::quiet(standing.reply())
     }
 }

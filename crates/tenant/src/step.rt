@@ -28,7 +28,6 @@ impl<H: Handler> Tenant<H> {
         step: TenantStep,
         log: &mut SharedLog<S>,
     ) -> Result<Answer, NoMemory>
-        ensures copied { IfOk result (λ a. a.history_copy ≡ a.reply) }
         ensures did { IfOk result (λ a. (w : World) → Stands H.meaning name.now self.old w log.old.records
             → Did H.meaning name.now w self.new step a.said a.reply log.old log.new) }
         // It keeps of its past what the rules of keeping leave.
@@ -84,7 +83,6 @@ impl<H: Handler> Tenant<H> {
     ) -> Result<Option<Answer>, NoMemory>
         ensures fresh { IfOk result (λ o. (w : World) → Stands H.meaning name.now self.old w log.old.records
             → WasFresh (needs H.meaning w step) worked.input o) }
-        ensures copied { IfOk result (λ o. IfSome o (λ a. a.history_copy ≡ a.reply)) }
         ensures did { IfOk result (λ o. IfSome o (λ a. (w : World)
             → Stands H.meaning name.now self.old w log.old.records
             → Did H.meaning name.now w self.new step a.said a.reply log.old log.new)) }
@@ -114,11 +112,9 @@ impl<H: Handler> Tenant<H> {
     {
         match step {
             TenantStep::Post { unit, number, text } => {
-                self.post_with(alloc, handler, name, unit, number, text, worked)
+                self.post_with(alloc, name, unit, number, text, worked)
             }
-            TenantStep::Deliver { letter } => {
-                self.deliver_with(alloc, handler, name, letter, worked)
-            }
+            TenantStep::Deliver { letter } => self.deliver_with(alloc, name, letter, worked),
             _ => {
                 let answer = self.step(alloc, handler, name, step, log)?;
                 Ok(Some(answer))

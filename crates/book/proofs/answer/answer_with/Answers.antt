@@ -1,4 +1,4 @@
-use Rattle.std.proofs.Common.{bytes_eq, ◌∙◌, ap, ℕ, List}
+use Rattle.std.proofs.Common.{bytes_eq, ◌∙◌, ap}
 use Rattle.indexmap.specs.IndexMap.{get, keys}
 use Rattle.model.specs.Addresses.{addressed}
 use Rattle.model.specs.declared.steps.Step.{Step}

@@ -8,7 +8,7 @@ invariant_of-self-in-Ok g c =
     let now = c.self.inside in
     let next = c.answer-done.new in
     let a = c.in-Ok.answer in
-    rw (c.enter.ensures.entered, c.reserve_place.ensures.same, c.in-Ok.ensures.copied) (record {
+    rw (c.enter.ensures.entered, c.reserve_place.ensures.same) (record {
       replay = entered g.H.Handler.meaning (held_by now.host) (held_by next.self) now.history.items
           (record { who = c.args.who; step = c.args.step; said = a.said; reply = a.reply })
           c.self.invariant.replay c.in-Ok.ensures.answered;
@@ -20,7 +20,7 @@ returns-in-Ok-clause-honest g c =
     let now = c.self.inside in
     let next = c.answer-done.new in
     let a = c.in-Ok.answer in
-    rw (← c.self.view_is, c.enter.ensures.entered, c.reserve_place.ensures.same, c.in-Ok.ensures.copied) (
+    rw (← c.self.view_is, c.enter.ensures.entered, c.reserve_place.ensures.same) (
     said_honestly g.H.Handler.meaning (held_by now.host) (held_by next.self) now.history.items
     (record { who = c.args.who; step = c.args.step; said = a.said; reply = a.reply })
     c.self.invariant.replay c.in-Ok.ensures.answered)
@@ -35,7 +35,6 @@ returns-in-Ok-clause-entered g c =
       c.enter.ensures.entered,
       c.enter.ensures.reply,
       c.reserve_place.ensures.same,
-      c.in-Ok.ensures.copied,
     ) (inl (
     is_added g.H.Handler.meaning (held_by now.host) (held_by next.self) now.history.items
     (record { who = c.args.who; step = c.args.step; said = a.said; reply = a.reply })

@@ -11,7 +11,7 @@ invariant_of-self-in-Ok-Some g c =
     let next = c.answer_with-done.new in
     let a = c.in-Ok-Some.answer in
     let is = c.in-Ok-Some.field-0-is in
-    rw (c.enter.ensures.entered, c.reserve_place.ensures.same, (rw is at c.in-Ok-Some.ensures.copied)) (record {
+    rw (c.enter.ensures.entered, c.reserve_place.ensures.same) (record {
       replay = entered g.H.Handler.meaning (held_by now.host) (held_by next.self) now.history.items
           (record { who = c.args.who; step = c.args.step; said = a.said; reply = a.reply })
           c.self.invariant.replay (rw is at c.in-Ok-Some.ensures.answered);
@@ -28,7 +28,6 @@ returns-in-Ok-Some-clause-honest g c =
       ← c.self.view_is,
       c.enter.ensures.entered,
       c.reserve_place.ensures.same,
-      (rw is at c.in-Ok-Some.ensures.copied),
     ) (
     said_honestly g.H.Handler.meaning (held_by now.host) (held_by next.self) now.history.items
     (record { who = c.args.who; step = c.args.step; said = a.said; reply = a.reply })
@@ -46,7 +45,6 @@ returns-in-Ok-Some-clause-commits g c =
       c.enter.ensures.entered,
       c.enter.ensures.reply,
       c.reserve_place.ensures.same,
-      (rw is at c.in-Ok-Some.ensures.copied),
     ) (inl (
       is_added g.H.Handler.meaning (held_by now.host) (held_by next.self) now.history.items
           (record { who = c.args.who; step = c.args.step; said = a.said; reply = a.reply })

@@ -6,7 +6,7 @@ pub returns-clause-entered : goal.returns-clause-entered
 returns-clause-entered g c = λ who.
     let M = g.H.Handler.meaning in
     let a = c.in-Ok.answer in
-    rw c.reply_of.ensures
+    rw c.into_reply.ensures
     (carries_on M c.args.self.now
     c.answer.new.self c.give_up_after.new.self c.give_up_after.ensures.log c.give_up_after.ensures.replay
     (enters M c.args.self.now c.answer.new.self who c.args.step a.said a.reply c.in-Ok.ensures.answered))
@@ -20,7 +20,7 @@ pub returns-clause-kill : goal.returns-clause-kill
 returns-clause-kill g c = λ who tenant unit is.
     let M = g.H.Handler.meaning in
     let a = c.in-Ok.answer in
-    rw c.reply_of.ensures
+    rw c.into_reply.ensures
     (carries_on M {Becomes = λ before after. IsAdded before who c.args.step a.reply after} c.args.self.now
     c.answer.new.self c.give_up_after.new.self c.give_up_after.ensures.log c.give_up_after.ensures.replay
     (adds M c.args.self.now c.answer.new.self who c.args.step a.said a.reply c.in-Ok.ensures.answered))

@@ -8,7 +8,7 @@ pub returns-in-Ok-Some-clause-commits : goal.returns-in-Ok-Some-clause-commits
 returns-in-Ok-Some-clause-commits g c = λ who.
     let a = c.in-Ok-Some.answer in
     let is = c.in-Ok-Some.field-0-is in
-    rw c.reply_of.ensures
+    rw c.into_reply.ensures
     (carries_on g.H.Handler.meaning c.args.self.now
     c.answer_with.new.self c.give_up_after.new.self c.give_up_after.ensures.log c.give_up_after.ensures.replay
     (commits g.H.Handler.meaning
@@ -31,7 +31,7 @@ pub returns-in-Ok-Some-clause-kill : goal.returns-in-Ok-Some-clause-kill
 returns-in-Ok-Some-clause-kill g c = λ who tenant unit reply is told.
     let M = g.H.Handler.meaning in
     let a = c.in-Ok-Some.answer in
-    let same : a.reply ≡ reply = sym c.reply_of.ensures ∙ (let t = told in cc t) in
+    let same : a.reply ≡ reply = sym c.into_reply.ensures ∙ (let t = told in cc t) in
     carries_on M {Becomes = λ before after. IsAdded before who c.args.step reply after} c.args.self.now
     c.answer_with.new.self c.give_up_after.new.self c.give_up_after.ensures.log c.give_up_after.ensures.replay
     (subst (λ r. Carries (IsHostOf M) (λ before after. IsAdded before who c.args.step r after)

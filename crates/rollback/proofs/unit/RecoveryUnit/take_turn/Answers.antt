@@ -3,14 +3,14 @@ use Rattle.compact.specs.Steps.{from_outside}
 use Rattle.rollback.specs.Units.{Recovering, CountsOutside, places}
 use Rattle.rollback.proofs.StaysKept.{kept_took}
 use Rattle.rollback.proofs.Outside.{counts_taken, outside_few}
-use Rattle.rollback.proofs.unit.RecoveryUnit.take.Goals as goal
+use Rattle.rollback.proofs.unit.RecoveryUnit.take_turn.Goals as goal
 
 pub go_on-effects-requires : goal.go_on-effects-requires
 go_on-effects-requires g c = λ p e.
     let was : c.args.self.now.progress ≡ _ = ap (λ (u : Recovering _). u.progress) (sym c.self.view_is) ∙ e in
     let has : c.has_room.result ≡ true = search rules in
     let width : c.as_slice-width.result.now ≡ c.args.logged.vector = c.as_slice-width.ensures in
-    let sends : c.sends.result.now ≡ c.into_turn-turn.result.sends = c.sends.ensures in
+    let sends : c.sends.result.now ≡ c.args.turn.sends = c.sends.ensures in
     rw (width, ← sends) (c.has_room.ensures has p was)
 
 pub overflow_add-self : goal.overflow_add-self

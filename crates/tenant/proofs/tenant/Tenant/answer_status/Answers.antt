@@ -7,7 +7,7 @@ returns-in-None-clause-done g c = λ name live w log s. rw c.refused.ensures.rep
     (status_refused g.H.Handler.meaning name live c.args.self.now w log s c.args.unit c.in-None.ensures)
 
 pub returns-clause-done : goal.returns-clause-done
-returns-clause-done g c = λ name live w log s. rw (c.from_pair.ensures.reply, c.reply.ensures)
+returns-clause-done g c = λ name live w log s. rw (c.quiet.ensures.reply, c.reply.ensures)
     (status_done g.H.Handler.meaning
     name live c.args.self.now w log s c.args.unit c.in-Some.member.now c.in-Some.ensures _ _ _ _ _ _ _ _ _
     c.last_mark.ensures c.held_count.ensures c.known.ensures c.outside.ensures c.released_count.ensures c.rows.ensures

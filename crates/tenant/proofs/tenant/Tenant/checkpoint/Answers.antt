@@ -39,14 +39,14 @@ returns-clause-did g c = λ w s.
     let m : Member _ = c.in-Ok.member.now in
     let new = c.in_ok-checkpoint_at.ensures.ok m c.in-Ok.ensures.found in
     did_then g.H.Handler.meaning c.args.tenant.now w c.checkpoint_at.new.self c.forget_firm.new.self (Checkpoint
-    c.args.unit) c.from_pair.result.said c.from_pair.result.reply c.args.log.now c.args.log.now c.forget_firm.new.log
+    c.args.unit) c.quiet.result.said c.quiet.result.reply c.args.log.now c.args.log.now c.forget_firm.new.log
     (any_did g.H.Handler.meaning c.args.tenant.now c.args.self.now
-    c.checkpoint_at.new.self (Checkpoint c.args.unit) c.args.log.now (λ w. (refl, refl, refl)) c.from_pair.result
+    c.checkpoint_at.new.self (Checkpoint c.args.unit) c.args.log.now (λ w. (refl, refl, refl)) c.quiet.result
     (λ name live w log s.
-    rw (c.from_pair.ensures.reply, new)
+    rw (c.quiet.ensures.reply, new)
     (checkpoint_done g.H.Handler.meaning name live c.args.self.now w log s c.args.unit m c.in-Ok.ensures.found
     c.in-Ok.ensures.up (omega (arith, none, count)) c.last_mark-at.result c.last_mark-at.ensures))
-    c.from_pair.ensures.plain w s)
+    c.quiet.ensures.plain w s)
     c.forget_firm.ensures.stands c.forget_firm.ensures.beside
 
 pub returns-clause-others : goal.returns-clause-others
@@ -75,7 +75,7 @@ returns-clause-keeps_on g c =
     c.args.tenant.now c.args.self.now c.checkpoint_at.new.self c.forget_firm.new.self
     c.args.log.now.records c.args.unit m c.in-Ok.ensures.found c.in-Ok.ensures.up (omega (arith, none, count))
     c.last_mark-at.result c.last_mark-at.ensures
-    new c.forget_firm.ensures.bases c.from_pair.result.said c.from_pair.result.reply c.from_pair.ensures.reply
+    new c.forget_firm.ensures.bases c.quiet.result.said c.quiet.result.reply c.quiet.ensures.reply
 
 pub returns-clause-just : goal.returns-clause-just
 returns-clause-just g c = λ w s has.
@@ -84,12 +84,12 @@ returns-clause-just g c = λ w s has.
     let m : Member g.row.H-State.Denot = c.in-Ok.member.now in
     let new = c.in_ok-checkpoint_at.ensures.ok m c.in-Ok.ensures.found in
     let d = any_did g.H.Handler.meaning c.args.tenant.now c.args.self.now
-    c.checkpoint_at.new.self (Checkpoint c.args.unit) c.args.log.now (λ w. (refl, refl, refl)) c.from_pair.result
+    c.checkpoint_at.new.self (Checkpoint c.args.unit) c.args.log.now (λ w. (refl, refl, refl)) c.quiet.result
     (λ name live w log s.
-    rw (c.from_pair.ensures.reply, new)
+    rw (c.quiet.ensures.reply, new)
     (checkpoint_done g.H.Handler.meaning name live c.args.self.now w log s c.args.unit m c.in-Ok.ensures.found
     c.in-Ok.ensures.up (omega (arith, none, count)) c.last_mark-at.result c.last_mark-at.ensures))
-    c.from_pair.ensures.plain w s in
+    c.quiet.ensures.plain w s in
     c.forget_firm.ensures.just d.steps.0 d.steps.2
     (like_own c.args.tenant.now c.args.self.now c.checkpoint_at.new.self c.args.log.now.records c.args.unit m
     (checkpointed_member m) c.in-Ok.ensures.found refl

@@ -18,7 +18,7 @@ use Rattle.tenant.proofs.tenant.Tenant.flush.Goals as goal
 
 pub returns-in-Err-clause-did : goal.returns-in-Err-clause-did
 returns-in-Err-clause-did g c = λ w s.
-    rw (c.refused.ensures.reply, c.refused.ensures.plain.1) (flush_refused g.H.Handler.meaning c.args.tenant.now
+    rw (c.refused.ensures.reply, c.refused.ensures.plain) (flush_refused g.H.Handler.meaning c.args.tenant.now
     c.args.self.now w c.args.log.now (opened s) c.args.unit c.in-Err.refusal c.in-Err.ensures.refused)
 
 pub enter_stable-requires-clause-within : goal.enter_stable-requires-clause-within
@@ -32,7 +32,7 @@ returns-clause-did g c = λ w s.
     let same : c.unit_state.result.now ≡ m.unit_state = c.unit_state.ensures in
     let volatile : c.unit_state.result.now.volatile ≡ m.unit_state.volatile =
     ap (λ (r : Recovering g.row.H-State.Denot). r.volatile) same in
-    rw (c.flush_reply.ensures) (did_then
+    rw (c.small.ensures, c.flush_reply.ensures.value) (did_then
     g.H.Handler.meaning c.args.tenant.now w c.enter_stable.new.self c.forget_after.new.self (Flush c.args.unit)
     said (flush_reply said.end said.appended) c.args.log.now c.append_all-said.new.log c.forget_after.new.log
     (flush_done g.H.Handler.meaning c.args.tenant.now c.args.self.now w c.args.log.now (opened s)
@@ -65,7 +65,7 @@ returns-clause-keeps_on g c =
     let same : c.unit_state.result.now ≡ m.unit_state = c.unit_state.ensures in
     let volatile : c.unit_state.result.now.volatile ≡ m.unit_state.volatile =
     ap (λ (r : Recovering g.row.H-State.Denot). r.volatile) same in
-    flush_keeps g.H.Handler.meaning c.args.tenant.now
+    rw (c.small.ensures) (flush_keeps g.H.Handler.meaning c.args.tenant.now
     c.args.self.now c.enter_stable.new.self c.forget_after.new.self c.args.log.now c.append_all-said.new.log
     c.args.unit m said c.in-Ok.ensures.found (c.enter_stable.ensures.makes m c.in-Ok.ensures.found)
     (λ w s. flush_done g.H.Handler.meaning c.args.tenant.now c.args.self.now w c.args.log.now (opened s)
@@ -76,7 +76,7 @@ returns-clause-keeps_on g c =
     (c.nothing_logged_for_memory.ensures.some c.if-nothing_logged_for_memory.false)
     (c.enter_stable.ensures.makes m c.in-Ok.ensures.found)
     c.append_all-said.ensures.device)
-    c.forget_after.ensures.bases c.flush_reply.result c.flush_reply.ensures
+    c.forget_after.ensures.bases c.flush_reply.result c.flush_reply.ensures.value)
 
 pub returns-then-nothing_logged_for_memory-clause-steady : goal.returns-then-nothing_logged_for_memory-clause-steady
 returns-then-nothing_logged_for_memory-clause-steady g c =
@@ -85,8 +85,8 @@ returns-then-nothing_logged_for_memory-clause-steady g c =
 
 pub returns-clause-steady : goal.returns-clause-steady
 returns-clause-steady g c =
-    unless_device c.append_all-said.result.end (λ not. c.forget_after.ensures.beside.failures
-    ∙ c.append_all-said.ensures.steady not)
+    rw (c.small.ensures) (unless_device c.append_all-said.result.end (λ not. c.forget_after.ensures.beside.failures
+    ∙ c.append_all-said.ensures.steady not))
 
 pub returns-clause-just : goal.returns-clause-just
 returns-clause-just g c = λ w s has.

@@ -19,11 +19,11 @@ pub returns-clause-done : goal.returns-clause-done
 returns-clause-done g c = λ name live w log s.
     let few = c.if-count-ge-MAX_UNITS.false in
     let count = c.member_count-count.ensures in
-    rw (c.from_pair-answer.ensures.reply) (join_done g.H.Handler.meaning name live c.args.self.now
+    rw (c.quiet-answer.ensures.reply) (join_done g.H.Handler.meaning name live c.args.self.now
     w log s c.args.name.now c.in-Some.kind (sym c.kind.ensures ∙ c.in-Some.is) (omega (arith, few, count))
     c.new-unit.result (c.new-unit.ensures ∙ count) c.enter_unit.new.self c.in_ok-enter_unit.ensures.ok)
 
 pub returns-clause-shelves : goal.returns-clause-shelves
 returns-clause-shelves g c = λ wide.
-    rw (c.from_pair-answer.ensures.reply) (one_joined
+    rw (c.quiet-answer.ensures.reply) (one_joined
     g.H.Handler.meaning c.args.self.now c.enter_unit.new.self c.in-Some.kind (c.in_ok-enter_unit.ensures.ok wide))

@@ -21,7 +21,7 @@ returns-clause-done g c = λ name live w log s.
     let lost : c.kill_at-lost.result ≡ length m.unit_state.volatile =
     c.kill_at-lost.ensures.lost m c.in-Ok.ensures.found in
     let new = c.kill_at-lost.ensures.tenant m c.in-Ok.ensures.found in
-    rw (c.from_pair.ensures.reply, lost, new) (kill_done
+    rw (c.quiet.ensures.reply, lost, new) (kill_done
     g.H.Handler.meaning name live c.args.self.now w log s c.args.unit m c.in-Ok.ensures.found c.in-Ok.ensures.up)
 
 pub returns-clause-shelves : goal.returns-clause-shelves

@@ -16,7 +16,7 @@ use Rattle.theory.proofs.ListLaws.{le_true}
 
 pub returns-in-Err-clause-did : goal.returns-in-Err-clause-did
 returns-in-Err-clause-did g c = λ w s.
-    rw (c.refused.ensures.reply, c.refused.ensures.plain.1) (notice_not_up g.H.Handler.meaning c.args.tenant.now
+    rw (c.refused.ensures.reply, c.refused.ensures.plain) (notice_not_up g.H.Handler.meaning c.args.tenant.now
     c.args.self.now w c.args.log.now (opened s) c.args.unit c.in-Err.refusal c.in-Err.ensures.refused)
 
 pub rollback_target-target-requires-after_bounds : goal.rollback_target-target-requires-after_bounds
@@ -36,7 +36,7 @@ returns-then-is_last-clause-did g c = λ w s.
     let m : Member g.row.H-State.Denot = c.in-Ok.field-0.now in
     let found = c.in-Ok.ensures.found in
     let target = c.rollback_target-target.result in
-    rw (c.learn_rows.ensures.learned m found, c.from_pair.ensures.reply, c.from_pair.ensures.plain.1)
+    rw (c.learn_rows.ensures.learned m found, c.quiet.ensures.reply, c.quiet.ensures.plain)
     (notice_learns g.H.Handler.meaning c.args.tenant.now c.args.self.now w c.args.log.now (opened s) c.args.unit
     m found target (c.rollback_target-target.ensures.target m found)
     (c.rollback_target-target.ensures.kept m found) c.in-Ok.ensures.up
@@ -47,7 +47,7 @@ returns-then-incarnations_exhausted-clause-did g c = λ w s.
     let m : Member g.row.H-State.Denot = c.in-Ok.field-0.now in
     let found = c.in-Ok.ensures.found in
     let target = c.rollback_target-target.result in
-    rw (c.refused-then-incarnations_exhausted.ensures.reply, c.refused-then-incarnations_exhausted.ensures.plain.1)
+    rw (c.refused-then-incarnations_exhausted.ensures.reply, c.refused-then-incarnations_exhausted.ensures.plain)
     (notice_worn g.H.Handler.meaning c.args.tenant.now c.args.self.now w c.args.log.now (opened s) c.args.unit
     m found target (c.rollback_target-target.ensures.target m found)
     (c.rollback_target-target.ensures.kept m found) c.in-Ok.ensures.up
@@ -85,7 +85,7 @@ returns-then-is_last-clause-shelves g c =
     let t : TenantState g.row.H-State.Denot = c.args.self.now in
     let v : TenantState g.row.H-State.Denot = c.learn_rows.new.self in
     let new = c.learn_rows.ensures.learned m found in
-    rw (c.from_pair.ensures.reply) (one_same t c.args.unit m found (record m { known = length t.table }) v
+    rw (c.quiet.ensures.reply) (one_same t c.args.unit m found (record m { known = length t.table }) v
     (ap (λ (z : TenantState g.row.H-State.Denot). z.members) new) refl
     (no_letters t v (ap (λ (z : TenantState g.row.H-State.Denot). z.letters) new)))
 

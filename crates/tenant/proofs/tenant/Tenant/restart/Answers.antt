@@ -13,7 +13,7 @@ use Rattle.tenant.proofs.tenant.Tenant.restart.Goals as goal
 
 pub returns-in-Some-clause-did : goal.returns-in-Some-clause-did
 returns-in-Some-clause-did g c = λ w s.
-    rw (c.refused.ensures.reply, c.refused.ensures.plain.1)
+    rw (c.refused.ensures.reply, c.refused.ensures.plain)
     (restart_refused_by g.H.Handler.meaning c.args.tenant.now c.args.self.now w c.args.log.now
     (opened s) c.args.unit c.in-Some.refusal (sym c.restart_refusal.ensures.refusal ∙ c.in-Some.is))
 

@@ -5,9 +5,8 @@ use Rattle.compact.specs.Compact.{Content, CompactLetter}
 use Rattle.std.proofs.lemmas.Option.{slice_get_within}
 use Rattle.model.specs.declared.names.Source.TheVariants.{Unit as FromUnit}
 use Rattle.compact.specs.Steps.{delivered}
-use Rattle.handler.specs.Inputs.{turn_upon_input}
-use Rattle.tenant.specs.declared.answer.Answer.{Answer}
-use Rattle.tenant.specs.Kept.{IsAskingBy}
+use Rattle.tenant.specs.Answers.{Answer}
+use Rattle.tenant.specs.Kept.{IsTurnBy}
 use Rattle.tenant.proofs.Asking.{asked_is_up, refused_stays}
 use Rattle.tenant.proofs.Delivering.{content_parts, letter_none, letter_no_unit, letter_planned, letter_refused_then}
 use Rattle.tenant.proofs.Planning.{planned_few, planned_next, planned_plain, planned_whole}
@@ -43,9 +42,9 @@ returns-in-None-content-clause-done g c = λ live w log s.
     let there : slice_get c.args.self.now.letters c.args.letter ≡ Some sent =
     (c.in-Some.ensures ∙ ap (λ (l : CompactLetter). Some l) (sym c.sent.view_is)) in
     let none = subst
-    (λ (o : Option Content). IsAskingBy c.args.self.now c.in-Some-member.member.now sent o c.args.worked.input)
+    (λ (o : Option Content). IsTurnBy g.H.Handler.meaning c.args.self.now c.in-Some-member.member.now sent o c.args.turn)
     (ap option_copied c.in-None-content.is)
-    (c.requires sent c.in-Some-member.member.now there c.in-Some-member.ensures) in
+    (c.requires.own sent c.in-Some-member.member.now there c.in-Some-member.ensures) in
     absurd none
 
 pub admit-requires-clause-room : goal.admit-requires-clause-room
@@ -65,9 +64,9 @@ admit-requires-clause-room g c κs within =
     let whole : sent.content ≡ Some content =
     content_parts sent.content c.in-Some-content.content.now c.number.result c.text.result.now c.vector.result.now
     (ap option_copied c.in-Some-content.is) c.number.ensures c.text.ensures c.vector.ensures in
-    let is = subst (λ (o : Option Content). IsAskingBy c.args.self.now c.in-Some-member.member.now sent
-    o c.args.worked.input) whole (c.requires sent c.in-Some-member.member.now there c.in-Some-member.ensures) in
-    is.room
+    let is = subst (λ (o : Option Content). IsTurnBy g.H.Handler.meaning c.args.self.now
+    c.in-Some-member.member.now sent o c.args.turn) whole (c.requires.own sent c.in-Some-member.member.now there c.in-Some-member.ensures) in
+    is.asking.room
 
 pub admit-requires-clause-up : goal.admit-requires-clause-up
 admit-requires-clause-up g c κs within =
@@ -86,9 +85,9 @@ admit-requires-clause-up g c κs within =
     let whole : sent.content ≡ Some content =
     content_parts sent.content c.in-Some-content.content.now c.number.result c.text.result.now c.vector.result.now
     (ap option_copied c.in-Some-content.is) c.number.ensures c.text.ensures c.vector.ensures in
-    let is = subst (λ (o : Option Content). IsAskingBy c.args.self.now c.in-Some-member.member.now sent
-    o c.args.worked.input) whole (c.requires sent c.in-Some-member.member.now there c.in-Some-member.ensures) in
-    asked_is_up c.in-Some-member.member.now.unit_state (FromUnit sent.source) content.text c.args.worked.input is.asked
+    let is = subst (λ (o : Option Content). IsTurnBy g.H.Handler.meaning c.args.self.now
+    c.in-Some-member.member.now sent o c.args.turn) whole (c.requires.own sent c.in-Some-member.member.now there c.in-Some-member.ensures) in
+    asked_is_up c.in-Some-member.member.now.unit_state (FromUnit sent.source) content.text is.input is.asking.asked
 
 pub admit-requires-clause-there : goal.admit-requires-clause-there
 admit-requires-clause-there g c κs within =
@@ -115,12 +114,12 @@ apply-requires-clause-few g c κs within =
     let whole : sent.content ≡ Some content =
     content_parts sent.content c.in-Some-content.content.now c.number.result c.text.result.now c.vector.result.now
     (ap option_copied c.in-Some-content.is) c.number.ensures c.text.ensures c.vector.ensures in
-    let is = subst (λ (o : Option Content). IsAskingBy c.args.self.now c.in-Some-member.member.now sent
-    o c.args.worked.input) whole (c.requires sent c.in-Some-member.member.now there c.in-Some-member.ensures) in
+    let is = subst (λ (o : Option Content). IsTurnBy g.H.Handler.meaning c.args.self.now
+    c.in-Some-member.member.now sent o c.args.turn) whole (c.requires.own sent c.in-Some-member.member.now there c.in-Some-member.ensures) in
     let planned = rw (c.in-Ok.is) at c.in_ok-refusal.ensures in
     planned_few c.args.name.now
     c.args.self.now c.sent.inside.receiver c.in-Some-member.member.now (delivered c.args.letter sent content)
-    c.turn.result.now c.in-Ok.plan planned _ (FromUnit sent.source) content.text c.args.worked.input is
+    c.args.turn c.in-Ok.plan planned _ (FromUnit sent.source) content.text is.input is.asking
 
 pub apply-requires-clause-next : goal.apply-requires-clause-next
 apply-requires-clause-next g c κs within = λ m at.
@@ -139,12 +138,12 @@ apply-requires-clause-next g c κs within = λ m at.
     let whole : sent.content ≡ Some content =
     content_parts sent.content c.in-Some-content.content.now c.number.result c.text.result.now c.vector.result.now
     (ap option_copied c.in-Some-content.is) c.number.ensures c.text.ensures c.vector.ensures in
-    let is = subst (λ (o : Option Content). IsAskingBy c.args.self.now c.in-Some-member.member.now sent
-    o c.args.worked.input) whole (c.requires sent c.in-Some-member.member.now there c.in-Some-member.ensures) in
+    let is = subst (λ (o : Option Content). IsTurnBy g.H.Handler.meaning c.args.self.now
+    c.in-Some-member.member.now sent o c.args.turn) whole (c.requires.own sent c.in-Some-member.member.now there c.in-Some-member.ensures) in
     let planned = rw (c.in-Ok.is) at c.in_ok-refusal.ensures in
     planned_next c.args.name.now c.args.self.now c.sent.inside.receiver
-    c.in-Some-member.member.now (delivered c.args.letter sent content) c.turn.result.now c.in-Ok.plan
-    planned _ (FromUnit sent.source) content.text c.args.worked.input is refl refl c.in-Some-member.ensures m at
+    c.in-Some-member.member.now (delivered c.args.letter sent content) c.args.turn c.in-Ok.plan
+    planned _ (FromUnit sent.source) content.text is.input is.asking g.H.Handler.meaning is.own refl refl c.in-Some-member.ensures m at
 
 pub returns-in-Err-clause-done : goal.returns-in-Err-clause-done
 returns-in-Err-clause-done g c = λ live w log s.
@@ -163,12 +162,12 @@ returns-in-Err-clause-done g c = λ live w log s.
     let whole : sent.content ≡ Some content =
     content_parts sent.content c.in-Some-content.content.now c.number.result c.text.result.now c.vector.result.now
     (ap option_copied c.in-Some-content.is) c.number.ensures c.text.ensures c.vector.ensures in
-    let is = subst (λ (o : Option Content). IsAskingBy c.args.self.now c.in-Some-member.member.now sent
-    o c.args.worked.input) whole (c.requires sent c.in-Some-member.member.now there c.in-Some-member.ensures) in
-    let planned = rw (c.in-Err.is, c.turn.ensures) at c.in_ok-refusal.ensures in
+    let is = subst (λ (o : Option Content). IsTurnBy g.H.Handler.meaning c.args.self.now
+    c.in-Some-member.member.now sent o c.args.turn) whole (c.requires.own sent c.in-Some-member.member.now there c.in-Some-member.ensures) in
+    let planned = rw (c.in-Err.is, is.own) at c.in_ok-refusal.ensures in
     rw (c.refused-in-Err.ensures.reply) (letter_refused_then g.H.Handler.meaning
     c.args.name.now live c.args.self.now w log s c.args.letter sent there c.in-Some-member.member.now
-    c.in-Some-member.ensures content whole c.args.worked.input is c.in-Err.refusal planned)
+    c.in-Some-member.ensures content whole is.input is.asking c.in-Err.refusal planned)
 
 pub returns-in_ok-answer-in-Ok-clause-plain : goal.returns-in_ok-answer-in-Ok-clause-plain
 returns-in_ok-answer-in-Ok-clause-plain g c =
@@ -187,12 +186,12 @@ returns-in_ok-answer-in-Ok-clause-plain g c =
     let whole : sent.content ≡ Some content =
     content_parts sent.content c.in-Some-content.content.now c.number.result c.text.result.now c.vector.result.now
     (ap option_copied c.in-Some-content.is) c.number.ensures c.text.ensures c.vector.ensures in
-    let is = subst (λ (o : Option Content). IsAskingBy c.args.self.now c.in-Some-member.member.now sent
-    o c.args.worked.input) whole (c.requires sent c.in-Some-member.member.now there c.in-Some-member.ensures) in
+    let is = subst (λ (o : Option Content). IsTurnBy g.H.Handler.meaning c.args.self.now
+    c.in-Some-member.member.now sent o c.args.turn) whole (c.requires.own sent c.in-Some-member.member.now there c.in-Some-member.ensures) in
     let planned = rw (c.in-Ok.is) at c.in_ok-refusal.ensures in
     rw (c.in_ok-answer-in-Ok.ensures.answer) (planned_plain c.args.name.now
     c.args.self.now c.sent.inside.receiver c.in-Some-member.member.now (delivered c.args.letter sent content)
-    c.turn.result.now c.in-Ok.plan planned _ (FromUnit sent.source) content.text c.args.worked.input is)
+    c.args.turn c.in-Ok.plan planned _ (FromUnit sent.source) content.text is.input is.asking)
 
 pub returns-in_ok-answer-in-Ok-clause-done : goal.returns-in_ok-answer-in-Ok-clause-done
 returns-in_ok-answer-in-Ok-clause-done g c = λ live w log s.
@@ -211,12 +210,12 @@ returns-in_ok-answer-in-Ok-clause-done g c = λ live w log s.
     let whole : sent.content ≡ Some content =
     content_parts sent.content c.in-Some-content.content.now c.number.result c.text.result.now c.vector.result.now
     (ap option_copied c.in-Some-content.is) c.number.ensures c.text.ensures c.vector.ensures in
-    let is = subst (λ (o : Option Content). IsAskingBy c.args.self.now c.in-Some-member.member.now sent
-    o c.args.worked.input) whole (c.requires sent c.in-Some-member.member.now there c.in-Some-member.ensures) in
+    let is = subst (λ (o : Option Content). IsTurnBy g.H.Handler.meaning c.args.self.now
+    c.in-Some-member.member.now sent o c.args.turn) whole (c.requires.own sent c.in-Some-member.member.now there c.in-Some-member.ensures) in
     let planned = rw (c.in-Ok.is) at c.in_ok-refusal.ensures in
     letter_planned g.H.Handler.meaning c.args.name.now
     live c.args.self.now w log s c.args.letter sent there c.in-Some-member.member.now c.in-Some-member.ensures
-    content whole c.args.worked.input is c.turn.result.now c.turn.ensures c.in-Ok.plan planned
+    content whole is.input is.asking c.args.turn is.own c.in-Ok.plan planned
     c.in_ok-answer-in-Ok.answer.reply (ap (λ (a : Answer). a.reply) c.in_ok-answer-in-Ok.ensures.answer)
     c.apply.new.self (c.in_ok-answer-in-Ok.ensures.ok c.in-Some-member.member.now c.in-Some-member.ensures)
 
@@ -237,13 +236,13 @@ returns-in_ok-answer-in-Ok-clause-shelves g c =
     let whole : sent.content ≡ Some content =
     content_parts sent.content c.in-Some-content.content.now c.number.result c.text.result.now c.vector.result.now
     (ap option_copied c.in-Some-content.is) c.number.ensures c.text.ensures c.vector.ensures in
-    let is = subst (λ (o : Option Content). IsAskingBy c.args.self.now c.in-Some-member.member.now sent
-    o c.args.worked.input) whole (c.requires sent c.in-Some-member.member.now there c.in-Some-member.ensures) in
+    let is = subst (λ (o : Option Content). IsTurnBy g.H.Handler.meaning c.args.self.now
+    c.in-Some-member.member.now sent o c.args.turn) whole (c.requires.own sent c.in-Some-member.member.now there c.in-Some-member.ensures) in
     let planned = rw (c.in-Ok.is) at c.in_ok-refusal.ensures in
     received_same g.H.Handler.meaning
     c.args.self.now c.sent.inside.receiver c.in-Some-member.member.now c.in-Some-member.ensures
-    c.apply.new.self c.in-Ok.plan.logged (turn_upon_input g.H.Handler.meaning c.args.worked.input).outputs
+    c.apply.new.self c.in-Ok.plan.logged c.args.turn.outputs
     c.in-Ok.plan.made.items (c.in_ok-answer-in-Ok.ensures.ok c.in-Some-member.member.now c.in-Some-member.ensures)
     (planned_whole c.args.name.now
     c.args.self.now c.sent.inside.receiver c.in-Some-member.member.now (delivered c.args.letter sent content)
-    c.turn.result.now c.in-Ok.plan planned _ (FromUnit sent.source) content.text c.args.worked.input is)
+    c.args.turn c.in-Ok.plan planned _ (FromUnit sent.source) content.text is.input is.asking)

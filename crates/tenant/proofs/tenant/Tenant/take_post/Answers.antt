@@ -2,8 +2,7 @@ use Rattle.std.proofs.Common.{refl, ap}
 use Rattle.std.specs.Prelude.{None}
 use Rattle.std.proofs.lemmas.Option.{slice_get_within}
 use Rattle.model.specs.declared.names.Source.TheVariants.{Outside}
-use Rattle.handler.specs.Inputs.{turn_upon_input}
-use Rattle.tenant.specs.declared.answer.Answer.{Answer}
+use Rattle.tenant.specs.Answers.{Answer}
 use Rattle.tenant.proofs.Asking.{asked_is_up, refused_stays}
 use Rattle.tenant.proofs.Planning.{planned_few, planned_next, planned_plain, planned_whole}
 use Rattle.tenant.proofs.Posting.{post_none, post_planned, post_refused_then}
@@ -18,15 +17,19 @@ returns-in-None-clause-done g c = λ live w log s.
 
 pub returns-in-Err-clause-done : goal.returns-in-Err-clause-done
 returns-in-Err-clause-done g c = λ live w log s.
-    let planned = rw (c.in-Err.is, c.turn.ensures) at c.in_ok-refusal.ensures in
+    let r = c.requires.own c.in-Some.member.now c.in-Some.ensures in
+    let planned = rw (c.in-Err.is, r.own) at c.in_ok-refusal.ensures in
     rw (c.refused-in-Err.ensures.reply) (post_refused_then g.H.Handler.meaning c.args.name.now
     live c.args.self.now w log s c.args.unit c.args.number c.args.text c.in-Some.member.now c.in-Some.ensures
-    c.args.worked.input (c.requires c.in-Some.member.now c.in-Some.ensures) c.in-Err.refusal planned)
+    r.input r.asking c.in-Err.refusal planned)
+
+pub admit-requires-clause-room : goal.admit-requires-clause-room
+admit-requires-clause-room g c κs within = (c.requires.own c.in-Some.member.now c.in-Some.ensures).asking.room
 
 pub admit-requires-clause-up : goal.admit-requires-clause-up
 admit-requires-clause-up g c κs within =
-    let is = c.requires c.in-Some.member.now c.in-Some.ensures in
-    asked_is_up c.in-Some.member.now.unit_state Outside c.args.text c.args.worked.input is.asked
+    let r = c.requires.own c.in-Some.member.now c.in-Some.ensures in
+    asked_is_up c.in-Some.member.now.unit_state Outside c.args.text r.input r.asking.asked
 
 pub admit-requires-clause-there : goal.admit-requires-clause-there
 admit-requires-clause-there g c κs within = slice_get_within c.args.self.now.members c.args.unit _ c.in-Some.ensures
@@ -36,30 +39,34 @@ apply-requires-clause-within g c κs within = slice_get_within c.args.self.now.m
 
 pub apply-requires-clause-few : goal.apply-requires-clause-few
 apply-requires-clause-few g c κs within =
+    let r = c.requires.own c.in-Some.member.now c.in-Some.ensures in
     let planned = rw (c.in-Ok.is) at c.in_ok-refusal.ensures in
-    planned_few c.args.name.now c.args.self.now c.args.unit c.in-Some.member.now _ c.turn.result.now c.in-Ok.plan
-    planned _ Outside c.args.text c.args.worked.input (c.requires c.in-Some.member.now c.in-Some.ensures)
+    planned_few c.args.name.now c.args.self.now c.args.unit c.in-Some.member.now _ c.args.turn c.in-Ok.plan
+    planned _ Outside c.args.text r.input r.asking
 
 pub apply-requires-clause-next : goal.apply-requires-clause-next
 apply-requires-clause-next g c κs within = λ m there.
+    let r = c.requires.own c.in-Some.member.now c.in-Some.ensures in
     let planned = rw (c.in-Ok.is) at c.in_ok-refusal.ensures in
     planned_next c.args.name.now
-    c.args.self.now c.args.unit c.in-Some.member.now _ c.turn.result.now c.in-Ok.plan planned _ Outside c.args.text
-    c.args.worked.input (c.requires c.in-Some.member.now c.in-Some.ensures) refl refl c.in-Some.ensures m there
+    c.args.self.now c.args.unit c.in-Some.member.now _ c.args.turn c.in-Ok.plan planned _ Outside c.args.text
+    r.input r.asking g.H.Handler.meaning r.own refl refl c.in-Some.ensures m there
 
 pub returns-clause-plain : goal.returns-clause-plain
 returns-clause-plain g c =
+    let r = c.requires.own c.in-Some.member.now c.in-Some.ensures in
     let planned = rw (c.in-Ok.is) at c.in_ok-refusal.ensures in
     rw (c.in_ok-answer-in-Ok.ensures.answer)
-    (planned_plain c.args.name.now c.args.self.now c.args.unit c.in-Some.member.now _ c.turn.result.now c.in-Ok.plan
-    planned _ Outside c.args.text c.args.worked.input (c.requires c.in-Some.member.now c.in-Some.ensures))
+    (planned_plain c.args.name.now c.args.self.now c.args.unit c.in-Some.member.now _ c.args.turn c.in-Ok.plan
+    planned _ Outside c.args.text r.input r.asking)
 
 pub returns-clause-done : goal.returns-clause-done
 returns-clause-done g c = λ live w log s.
+    let r = c.requires.own c.in-Some.member.now c.in-Some.ensures in
     let planned = rw (c.in-Ok.is) at c.in_ok-refusal.ensures in
     post_planned g.H.Handler.meaning c.args.name.now live c.args.self.now w log s c.args.unit c.args.number c.args.text
-    c.in-Some.member.now c.in-Some.ensures c.args.worked.input (c.requires c.in-Some.member.now c.in-Some.ensures)
-    c.turn.result.now c.turn.ensures _ (λ i. record {
+    c.in-Some.member.now c.in-Some.ensures r.input r.asking
+    c.args.turn r.own _ (λ i. record {
       source = Outside;
       letter = None;
       number = c.from.ensures i;
@@ -71,9 +78,10 @@ returns-clause-done g c = λ live w log s.
 
 pub returns-clause-shelves : goal.returns-clause-shelves
 returns-clause-shelves g c =
+    let r = c.requires.own c.in-Some.member.now c.in-Some.ensures in
     let planned = rw (c.in-Ok.is) at c.in_ok-refusal.ensures in
     received_same g.H.Handler.meaning c.args.self.now c.args.unit c.in-Some.member.now c.in-Some.ensures
-    c.apply.new.self c.in-Ok.plan.logged (turn_upon_input g.H.Handler.meaning c.args.worked.input).outputs
+    c.apply.new.self c.in-Ok.plan.logged c.args.turn.outputs
     c.in-Ok.plan.made.items (c.in_ok-answer-in-Ok.ensures.ok c.in-Some.member.now c.in-Some.ensures)
-    (planned_whole c.args.name.now c.args.self.now c.args.unit c.in-Some.member.now _ c.turn.result.now c.in-Ok.plan
-    planned _ Outside c.args.text c.args.worked.input (c.requires c.in-Some.member.now c.in-Some.ensures))
+    (planned_whole c.args.name.now c.args.self.now c.args.unit c.in-Some.member.now _ c.args.turn c.in-Ok.plan
+    planned _ Outside c.args.text r.input r.asking)
