@@ -70,62 +70,96 @@ pub fn run_either<
         error!(&told; "a standard stream is closed, and nothing can stand in its place: {error}");
         return 1;
     }
-    let words = match words_of(rt) {
-        Ok(words) => words,
-        Err(error) => return bad_words(&told, program, &error),
-    };
+    match words_of(rt) {
+        Ok(words) => {
+            do_words(
+                rt,
+                &told,
+                handler,
+                programs,
+                program,
+                terminals,
+                words.as_slice(),
+            )
+        }
+        Err(error) => bad_words(&told, program, &error),
+    }
+}
+
+/// Does what these words ask for, with the handler that they choose.
+fn do_words<
+    R: Threads + Wait + Sync + Files<File = File> + Clock + Print + Eprint + Input + AllocGlobal,
+    L: Log,
+    H: Portable + Copy + Send + Sync,
+    P: Portable + Copy + Send + Sync,
+>(
+    rt: &R,
+    told: &L,
+    handler: H,
+    programs: P,
+    program: &Program<'_>,
+    terminals: Terminals,
+    words: &[String],
+) -> u8 {
     let Ok(pages) = Pages::new(rt.alloc(), program) else {
-        error!(&told; "there is no memory for the words: free some, and run again");
+        error!(told; "there is no memory for the words: free some, and run again");
         return 1;
     };
-    match read_words(rt, &pages, words.as_slice()) {
+    let asked = read_words(rt, &pages, words);
+    if is_of_programs(&asked) {
+        do_asked(rt, told, programs, program, terminals, &asked)
+    } else {
+        do_asked(rt, told, handler, program, terminals, &asked)
+    }
+}
+
+/// Whether the second handler is asked for.
+fn is_of_programs(asked: &Asked<'_>) -> bool {
+    match asked {
+        Asked::Run(run) => run.programs,
+        Asked::Feeds(feeds) => feeds.programs,
+        Asked::Draw(draw) => draw.programs,
+        Asked::Why(why) => why.view.programs,
+        Asked::Status(status) => status.view.programs,
+        Asked::Trim(trim) => trim.programs,
+        Asked::Load(_) | Asked::Journal(_) | Asked::Ended(_) => false,
+    }
+}
+
+/// Does what is asked for, with this handler.
+fn do_asked<
+    R: Threads + Wait + Sync + Files<File = File> + Clock + Print + Eprint + Input + AllocGlobal,
+    L: Log,
+    H: Portable + Copy + Send + Sync,
+>(
+    rt: &R,
+    told: &L,
+    handler: H,
+    program: &Program<'_>,
+    terminals: Terminals,
+    asked: &Asked<'_>,
+) -> u8 {
+    match asked {
         Asked::Run(run) => {
-            let hosting = program.hosting(run.programs);
-            if run.programs {
-                run_as_asked(rt, programs, &hosting, terminals, &run)
-            } else {
-                run_as_asked(rt, handler, &hosting, terminals, &run)
-            }
+            run_as_asked(rt, handler, &program.hosting(run.programs), terminals, run)
         }
-        Asked::Feeds(feeds) => {
-            if feeds.programs {
-                feeds_as_asked(rt, programs, program, terminals, &feeds)
-            } else {
-                feeds_as_asked(rt, handler, program, terminals, &feeds)
-            }
-        }
-        Asked::Draw(draw) => {
-            if draw.programs {
-                draw_on(rt, &told, programs, &draw, terminals.errors)
-            } else {
-                draw_on(rt, &told, handler, &draw, terminals.errors)
-            }
-        }
-        Asked::Why(why) => {
-            if why.view.programs {
-                why_on(rt, &told, programs, &why)
-            } else {
-                why_on(rt, &told, handler, &why)
-            }
-        }
-        Asked::Status(status) => {
-            if status.view.programs {
-                status_on(rt, &told, programs, &status)
-            } else {
-                status_on(rt, &told, handler, &status)
-            }
-        }
-        Asked::Load(load) => load_on(rt, &told, &load),
+        Asked::Feeds(feeds) => feeds_as_asked(rt, handler, program, terminals, feeds),
+        Asked::Draw(draw) => draw_on(rt, told, handler, draw, terminals.errors),
+        Asked::Why(why) => why_on(rt, told, handler, why),
+        Asked::Status(status) => status_on(rt, told, handler, status),
+        Asked::Load(load) => load_on(rt, told, load),
         Asked::Trim(trim) => {
-            let hosting = program.hosting(trim.programs);
-            if trim.programs {
-                trim_as_asked(rt, &told, rt.alloc(), programs, &hosting, &trim)
-            } else {
-                trim_as_asked(rt, &told, rt.alloc(), handler, &hosting, &trim)
-            }
+            trim_as_asked(
+                rt,
+                told,
+                rt.alloc(),
+                handler,
+                &program.hosting(trim.programs),
+                trim,
+            )
         }
-        Asked::Journal(journal) => journal_as_asked(rt, &told, rt.alloc(), &journal),
-        Asked::Ended(status) => status,
+        Asked::Journal(journal) => journal_as_asked(rt, told, rt.alloc(), journal),
+        Asked::Ended(status) => *status,
     }
 }
 
