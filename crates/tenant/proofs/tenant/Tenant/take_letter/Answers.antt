@@ -41,8 +41,8 @@ returns-in-None-content-clause-done g c = λ live w log s.
     } in
     let there : slice_get c.args.self.now.letters c.args.letter ≡ Some sent =
     (c.in-Some.ensures ∙ ap (λ (l : CompactLetter). Some l) (sym c.sent.view_is)) in
-    let none = subst
-    (λ (o : Option Content). IsTurnBy g.H.Handler.meaning c.args.self.now c.in-Some-member.member.now sent o c.args.turn)
+    let none = subst (λ (o : Option Content).
+    IsTurnBy g.H.Handler.meaning c.args.self.now c.in-Some-member.member.now sent o c.args.turn)
     (ap option_copied c.in-None-content.is)
     (c.requires.own sent c.in-Some-member.member.now there c.in-Some-member.ensures) in
     absurd none
@@ -64,8 +64,9 @@ admit-requires-clause-room g c κs within =
     let whole : sent.content ≡ Some content =
     content_parts sent.content c.in-Some-content.content.now c.number.result c.text.result.now c.vector.result.now
     (ap option_copied c.in-Some-content.is) c.number.ensures c.text.ensures c.vector.ensures in
-    let is = subst (λ (o : Option Content). IsTurnBy g.H.Handler.meaning c.args.self.now
-    c.in-Some-member.member.now sent o c.args.turn) whole (c.requires.own sent c.in-Some-member.member.now there c.in-Some-member.ensures) in
+    let is = subst (λ (o : Option Content).
+    IsTurnBy g.H.Handler.meaning c.args.self.now c.in-Some-member.member.now sent o c.args.turn) whole
+    (c.requires.own sent c.in-Some-member.member.now there c.in-Some-member.ensures) in
     is.asking.room
 
 pub admit-requires-clause-up : goal.admit-requires-clause-up
@@ -85,8 +86,9 @@ admit-requires-clause-up g c κs within =
     let whole : sent.content ≡ Some content =
     content_parts sent.content c.in-Some-content.content.now c.number.result c.text.result.now c.vector.result.now
     (ap option_copied c.in-Some-content.is) c.number.ensures c.text.ensures c.vector.ensures in
-    let is = subst (λ (o : Option Content). IsTurnBy g.H.Handler.meaning c.args.self.now
-    c.in-Some-member.member.now sent o c.args.turn) whole (c.requires.own sent c.in-Some-member.member.now there c.in-Some-member.ensures) in
+    let is = subst (λ (o : Option Content).
+    IsTurnBy g.H.Handler.meaning c.args.self.now c.in-Some-member.member.now sent o c.args.turn) whole
+    (c.requires.own sent c.in-Some-member.member.now there c.in-Some-member.ensures) in
     asked_is_up c.in-Some-member.member.now.unit_state (FromUnit sent.source) content.text is.input is.asking.asked
 
 pub admit-requires-clause-there : goal.admit-requires-clause-there
@@ -114,8 +116,9 @@ apply-requires-clause-few g c κs within =
     let whole : sent.content ≡ Some content =
     content_parts sent.content c.in-Some-content.content.now c.number.result c.text.result.now c.vector.result.now
     (ap option_copied c.in-Some-content.is) c.number.ensures c.text.ensures c.vector.ensures in
-    let is = subst (λ (o : Option Content). IsTurnBy g.H.Handler.meaning c.args.self.now
-    c.in-Some-member.member.now sent o c.args.turn) whole (c.requires.own sent c.in-Some-member.member.now there c.in-Some-member.ensures) in
+    let is = subst (λ (o : Option Content).
+    IsTurnBy g.H.Handler.meaning c.args.self.now c.in-Some-member.member.now sent o c.args.turn) whole
+    (c.requires.own sent c.in-Some-member.member.now there c.in-Some-member.ensures) in
     let planned = rw (c.in-Ok.is) at c.in_ok-refusal.ensures in
     planned_few c.args.name.now
     c.args.self.now c.sent.inside.receiver c.in-Some-member.member.now (delivered c.args.letter sent content)
@@ -138,12 +141,14 @@ apply-requires-clause-next g c κs within = λ m at.
     let whole : sent.content ≡ Some content =
     content_parts sent.content c.in-Some-content.content.now c.number.result c.text.result.now c.vector.result.now
     (ap option_copied c.in-Some-content.is) c.number.ensures c.text.ensures c.vector.ensures in
-    let is = subst (λ (o : Option Content). IsTurnBy g.H.Handler.meaning c.args.self.now
-    c.in-Some-member.member.now sent o c.args.turn) whole (c.requires.own sent c.in-Some-member.member.now there c.in-Some-member.ensures) in
+    let is = subst (λ (o : Option Content).
+    IsTurnBy g.H.Handler.meaning c.args.self.now c.in-Some-member.member.now sent o c.args.turn) whole
+    (c.requires.own sent c.in-Some-member.member.now there c.in-Some-member.ensures) in
     let planned = rw (c.in-Ok.is) at c.in_ok-refusal.ensures in
     planned_next c.args.name.now c.args.self.now c.sent.inside.receiver
     c.in-Some-member.member.now (delivered c.args.letter sent content) c.args.turn c.in-Ok.plan
-    planned _ (FromUnit sent.source) content.text is.input is.asking g.H.Handler.meaning is.own refl refl c.in-Some-member.ensures m at
+    planned _ (FromUnit sent.source) content.text is.input is.asking g.H.Handler.meaning is.own refl refl
+    c.in-Some-member.ensures m at
 
 pub returns-in-Err-clause-done : goal.returns-in-Err-clause-done
 returns-in-Err-clause-done g c = λ live w log s.
@@ -162,8 +167,9 @@ returns-in-Err-clause-done g c = λ live w log s.
     let whole : sent.content ≡ Some content =
     content_parts sent.content c.in-Some-content.content.now c.number.result c.text.result.now c.vector.result.now
     (ap option_copied c.in-Some-content.is) c.number.ensures c.text.ensures c.vector.ensures in
-    let is = subst (λ (o : Option Content). IsTurnBy g.H.Handler.meaning c.args.self.now
-    c.in-Some-member.member.now sent o c.args.turn) whole (c.requires.own sent c.in-Some-member.member.now there c.in-Some-member.ensures) in
+    let is = subst (λ (o : Option Content).
+    IsTurnBy g.H.Handler.meaning c.args.self.now c.in-Some-member.member.now sent o c.args.turn) whole
+    (c.requires.own sent c.in-Some-member.member.now there c.in-Some-member.ensures) in
     let planned = rw (c.in-Err.is, is.own) at c.in_ok-refusal.ensures in
     rw (c.refused-in-Err.ensures.reply) (letter_refused_then g.H.Handler.meaning
     c.args.name.now live c.args.self.now w log s c.args.letter sent there c.in-Some-member.member.now
@@ -186,8 +192,9 @@ returns-in_ok-answer-in-Ok-clause-plain g c =
     let whole : sent.content ≡ Some content =
     content_parts sent.content c.in-Some-content.content.now c.number.result c.text.result.now c.vector.result.now
     (ap option_copied c.in-Some-content.is) c.number.ensures c.text.ensures c.vector.ensures in
-    let is = subst (λ (o : Option Content). IsTurnBy g.H.Handler.meaning c.args.self.now
-    c.in-Some-member.member.now sent o c.args.turn) whole (c.requires.own sent c.in-Some-member.member.now there c.in-Some-member.ensures) in
+    let is = subst (λ (o : Option Content).
+    IsTurnBy g.H.Handler.meaning c.args.self.now c.in-Some-member.member.now sent o c.args.turn) whole
+    (c.requires.own sent c.in-Some-member.member.now there c.in-Some-member.ensures) in
     let planned = rw (c.in-Ok.is) at c.in_ok-refusal.ensures in
     rw (c.in_ok-answer-in-Ok.ensures.answer) (planned_plain c.args.name.now
     c.args.self.now c.sent.inside.receiver c.in-Some-member.member.now (delivered c.args.letter sent content)
@@ -210,8 +217,9 @@ returns-in_ok-answer-in-Ok-clause-done g c = λ live w log s.
     let whole : sent.content ≡ Some content =
     content_parts sent.content c.in-Some-content.content.now c.number.result c.text.result.now c.vector.result.now
     (ap option_copied c.in-Some-content.is) c.number.ensures c.text.ensures c.vector.ensures in
-    let is = subst (λ (o : Option Content). IsTurnBy g.H.Handler.meaning c.args.self.now
-    c.in-Some-member.member.now sent o c.args.turn) whole (c.requires.own sent c.in-Some-member.member.now there c.in-Some-member.ensures) in
+    let is = subst (λ (o : Option Content).
+    IsTurnBy g.H.Handler.meaning c.args.self.now c.in-Some-member.member.now sent o c.args.turn) whole
+    (c.requires.own sent c.in-Some-member.member.now there c.in-Some-member.ensures) in
     let planned = rw (c.in-Ok.is) at c.in_ok-refusal.ensures in
     letter_planned g.H.Handler.meaning c.args.name.now
     live c.args.self.now w log s c.args.letter sent there c.in-Some-member.member.now c.in-Some-member.ensures
@@ -236,8 +244,9 @@ returns-in_ok-answer-in-Ok-clause-shelves g c =
     let whole : sent.content ≡ Some content =
     content_parts sent.content c.in-Some-content.content.now c.number.result c.text.result.now c.vector.result.now
     (ap option_copied c.in-Some-content.is) c.number.ensures c.text.ensures c.vector.ensures in
-    let is = subst (λ (o : Option Content). IsTurnBy g.H.Handler.meaning c.args.self.now
-    c.in-Some-member.member.now sent o c.args.turn) whole (c.requires.own sent c.in-Some-member.member.now there c.in-Some-member.ensures) in
+    let is = subst (λ (o : Option Content).
+    IsTurnBy g.H.Handler.meaning c.args.self.now c.in-Some-member.member.now sent o c.args.turn) whole
+    (c.requires.own sent c.in-Some-member.member.now there c.in-Some-member.ensures) in
     let planned = rw (c.in-Ok.is) at c.in_ok-refusal.ensures in
     received_same g.H.Handler.meaning
     c.args.self.now c.sent.inside.receiver c.in-Some-member.member.now c.in-Some-member.ensures
