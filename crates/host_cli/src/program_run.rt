@@ -107,9 +107,9 @@ fn do_words<
     };
     let asked = read_words(rt, &pages, words);
     if is_of_programs(&asked) {
-        do_asked(rt, told, programs, program, terminals, &asked)
+        do_asked(rt, told, programs, program, terminals, asked)
     } else {
-        do_asked(rt, told, handler, program, terminals, &asked)
+        do_asked(rt, told, handler, program, terminals, asked)
     }
 }
 
@@ -137,29 +137,23 @@ fn do_asked<
     handler: H,
     program: &Program<'_>,
     terminals: Terminals,
-    asked: &Asked<'_>,
+    asked: Asked<'_>,
 ) -> u8 {
     match asked {
         Asked::Run(run) => {
-            run_as_asked(rt, handler, &program.hosting(run.programs), terminals, run)
+            run_as_asked(rt, handler, &program.hosting(run.programs), terminals, &run)
         }
-        Asked::Feeds(feeds) => feeds_as_asked(rt, handler, program, terminals, feeds),
-        Asked::Draw(draw) => draw_on(rt, told, handler, draw, terminals.errors),
-        Asked::Why(why) => why_on(rt, told, handler, why),
-        Asked::Status(status) => status_on(rt, told, handler, status),
-        Asked::Load(load) => load_on(rt, told, load),
+        Asked::Feeds(feeds) => feeds_as_asked(rt, handler, program, terminals, &feeds),
+        Asked::Draw(draw) => draw_on(rt, told, handler, &draw, terminals.errors),
+        Asked::Why(why) => why_on(rt, told, handler, &why),
+        Asked::Status(status) => status_on(rt, told, handler, &status),
+        Asked::Load(load) => load_on(rt, told, &load),
         Asked::Trim(trim) => {
-            trim_as_asked(
-                rt,
-                told,
-                rt.alloc(),
-                handler,
-                &program.hosting(trim.programs),
-                trim,
-            )
+            let hosting = program.hosting(trim.programs);
+            trim_as_asked(rt, told, rt.alloc(), handler, &hosting, &trim)
         }
-        Asked::Journal(journal) => journal_as_asked(rt, told, rt.alloc(), journal),
-        Asked::Ended(status) => *status,
+        Asked::Journal(journal) => journal_as_asked(rt, told, rt.alloc(), &journal),
+        Asked::Ended(status) => status,
     }
 }
 
