@@ -147,7 +147,8 @@ class Worker(working.Worker):
         while True:
             for _, entries in self.server.xread({self.streams[0]: last}, count=BATCH, block=1000):
                 # Places first: a snapshot behind these steps may be there as soon as they are given.
-                self.places.update((count + more, at) for more, (at, _) in enumerate(entries, 1))
+                if self.snapshots:
+                    self.places.update((count + more, at) for more, (at, _) in enumerate(entries, 1))
                 count, last = count + len(entries), entries[-1][0]
                 yield [step_of(at, words) for at, words in entries]
 
