@@ -124,10 +124,10 @@ pub fn drive_host_step<W: Write, H: Handler, S: Store>(
         alloc,
         writer,
         host,
-        &|host: &mut Host<H, S>, step: Step| -> Reply
+        &|host: &mut Host<H, S>, own: Step| -> Reply
             ensures { (who : WhoOf) → Carries (IsHostOf H.meaning)
-                (EntersHonestly H.meaning who step result) host.entry.now host.exit.now }
-        { host.step(step) },
+                (EntersHonestly H.meaning who own result) host.entry.now host.exit.now }
+        { host.step(own) },
         &|host: &Host<H, S>, tenant: &TenantName, letter: Letter| -> Option<Unit> {
             host.receiver(tenant, letter)
         },
