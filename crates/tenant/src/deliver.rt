@@ -105,6 +105,7 @@ impl<H: Handler> Tenant<H> {
         ensures shelves { IfOk result (λ _. SameShelves self.old self.new) }
         ensures err { OnErr result (self.new ≡ self.old) }
         ensures gone { self.new.gone ≡ self.old.gone }
+        ensures released { self.new.released ≡ self.old.released }
     {
         let sent = match self.letter(letter) {
             Some(sent) => sent,
@@ -160,6 +161,7 @@ impl<H: Handler> Tenant<H> {
         ensures shelves { IfOk result (λ _. SameShelves self.old self.new) }
         ensures err { OnErr result (self.new ≡ self.old) }
         ensures gone { self.new.gone ≡ self.old.gone }
+        ensures released { self.new.released ≡ self.old.released }
     {
         match self.ask_letter(letter) {
             Err(refusal) => Ok(Answer::refused(refusal)),

@@ -74,6 +74,7 @@ impl<H: Handler> Tenant<H> {
         ensures shelves { IfOk result (λ _. SameShelves self.old self.new) }
         ensures err { OnErr result (self.new ≡ self.old) }
         ensures gone { self.new.gone ≡ self.old.gone }
+        ensures released { self.new.released ≡ self.old.released }
     {
         let member = match self.member(unit) {
             Some(member) => member,
@@ -118,6 +119,7 @@ impl<H: Handler> Tenant<H> {
         ensures shelves { IfOk result (λ _. SameShelves self.old self.new) }
         ensures err { OnErr result (self.new ≡ self.old) }
         ensures gone { self.new.gone ≡ self.old.gone }
+        ensures released { self.new.released ≡ self.old.released }
     {
         match self.ask_post(unit, number, &text) {
             Err(refusal) => Ok(Answer::refused(refusal)),

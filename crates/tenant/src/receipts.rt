@@ -269,6 +269,7 @@ impl<H: Handler> Tenant<H> {
             → self.new ≡ received_kept H.meaning self.old unit m plan.logged turn.outputs plan.made.items) }
         ensures err { OnErr result (self.new ≡ self.old) }
         ensures gone { self.new.gone ≡ self.old.gone }
+        ensures released { self.new.released ≡ self.old.released }
     {
         let Plan {
             logged,
