@@ -1,14 +1,14 @@
 //! A receipt, once its turn is worked: what it adds and answers.
 
-ghost use Rattle.std.specs.Prelude.{◌≡◌, ◌+◌, ◌<◌, ◌≤◌, ◌^◌, ◌++◌, IfOk, IfErr, None, OnErr, Some, length, slice_get};
-ghost use Rattle.std.specs.Prelude.{slice_set, true};
+ghost use Rattle.std.specs.Prelude.{◌≡◌, ◌+◌, ◌<◌, ◌≤◌, ◌^◌, IfOk, IfErr, None, OnErr, Some, length, slice_get};
+ghost use Rattle.std.specs.Prelude.{true};
 ghost use Rattle.std.specs.Option.{is_some};
 ghost use Rattle.model.specs.Lists.{numbers_from};
 ghost use Rattle.model.specs.Nodes.{sends_within};
 ghost use Rattle.model.specs.declared.refusals.Refusal.TheVariants.{Down};
 ghost use Rattle.rollback.specs.Units.{asking, places};
 ghost use Rattle.tenant.specs.Kept.{IsNext, Member as MemberOf, next_mark_of, next_reply_of};
-ghost use Rattle.tenant.specs.Kept.{received_kept, received_member};
+ghost use Rattle.tenant.specs.Kept.{received_kept};
 ghost use Rattle.tenant.specs.Outcomes.{IsPlain};
 ghost use Rattle.tenant.specs.Plans.{IsPlan, IsPlanned, arrived};
 
@@ -19,9 +19,7 @@ use handler::{AskRef, Handler, Turn};
 use model::{Letter, Letters, Mark, NoMemory, Record, Refusal, Source, TenantName, Text, Unit};
 use session::Sessions;
 use std::alloc::Global;
-use unit_steps::{
-    NewLetters, SentLetters, letters_by, mark_upon, record_upon, turn_refusal, vector_upon,
-};
+use unit_steps::{NewLetters, letters_by, mark_upon, record_upon, turn_refusal, vector_upon};
 
 /// What a unit receives: from whom, which letter under which number, its text and its vector.
 #[derive(Drop)]
@@ -33,7 +31,8 @@ pub(crate) struct Incoming<'a> {
     pub(crate) vector: &'a [Mark],
 }
 
-/// The unit that receives, the mark of the interval that the receipt makes, and how many units there are.
+/// The unit that receives, what is kept of it, the mark of the interval that the receipt makes, and how many units
+/// there are.
 #[derive(Drop)]
 struct Receiver<'a, H: Handler> {
     unit: Unit,
@@ -63,33 +62,6 @@ pub(crate) fn ask_upon<'a, H: Handler>(
         Some(ask) => Ok(ask),
         None => Err(Refusal::Down),
     }
-}
-
-/// Takes a receipt at the unit at this place, with the letters that its turn makes: all or nothing.
-fn receive_at<H: Handler>(
-    members: &mut Vec<Member<H>>,
-    letters: &mut SentLetters,
-    at: usize,
-    logged: Record,
-    made: NewLetters,
-    turn: Turn<H::State>,
-) -> Result<(), NoMemory>
-    requires within { at < length members.old.items }
-    requires few { length logged.vector ≤ 256 }
-    requires next { (m : MemberOf H.State) → slice_get members.old.items at ≡ Some m
-        → IsNext H.meaning m logged turn }
-    ensures members { IfOk result (λ _. (m : MemberOf H.State) → slice_get members.old.items at ≡ Some m
-        → members.new.items ≡ slice_set members.old.items at
-        (received_member H.meaning m logged turn.outputs)) }
-    ensures letters { IfOk result (λ _. letters.new.items ≡ letters.old.items ++ made.items) }
-    ensures err_members { OnErr result (members.new.items ≡ members.old.items) }
-    ensures err_letters { OnErr result (letters.new.items ≡ letters.old.items) }
-{
-    letters.reserve(made.len())?;
-    let member = &mut members[at];
-    member.receive(logged, turn)?;
-    letters.add(made);
-    Ok(())
 }
 
 impl<H: Handler> Tenant<H> {
@@ -228,14 +200,10 @@ impl<H: Handler> Tenant<H> {
             made,
             answer,
         } = plan;
-        receive_at(
-            &mut self.members,
-            &mut self.letters,
-            usize::from(unit.number()),
-            logged,
-            made,
-            turn,
-        )?;
+        self.letters.reserve(made.len())?;
+        let member = &mut self.members[usize::from(unit.number())];
+        member.receive(logged, turn)?;
+        self.letters.add(made);
         Ok(answer.into_answer())
     }
 }

@@ -16,16 +16,17 @@ reply_upon-requires-clause-made g c κs within =
 
 pub returns : goal.returns
 returns g c =
-    let vector : c.in_ok-vector.vector ≡ next_vector_of c.args.self.now c.args.by.now.unit c.args.by.now.member.now
-    (arrived c.args.arrival) =
+    let by = c.args.by.now in
+    let vector : c.in_ok-vector.vector
+    ≡ next_vector_of c.args.self.now by.unit by.member.now (arrived c.args.arrival) =
     c.in_ok-vector.ensures
-    ∙ (λ i. vector_marked (c.requires.width i) c.args.by.now.unit (c.unit_state-unit_state.ensures i) (c.requires.mark i)
+    ∙ (λ i. vector_marked (c.requires.width i) by.unit (c.unit_state-unit_state.ensures i) (c.requires.mark i)
     c.args.arrival.vector.now) in
     let record_is = c.record_upon-logged.ensures.record in
     record {
       logged = record_is ∙ (λ i. record {
         tenant = c.args.name.now;
-        unit = c.args.by.now.unit;
+        unit = by.unit;
         mark = c.requires.mark i;
         source = c.args.arrival.source;
         letter = c.args.arrival.letter;
@@ -35,7 +36,7 @@ returns g c =
       });
       few = c.record_upon-logged.ensures.few;
       made = c.in_ok-made.ensures
-          ∙ (λ i. letters_by c.args.by.now.unit (vector i) (advanced c.args.sessions.now c.args.arrival.source)
+          ∙ (λ i. letters_by by.unit (vector i) (advanced c.args.sessions.now c.args.arrival.source)
           (filter (λ s. nat_lt s.0 (c.requires.width i)) (c.sends.ensures i)));
       reply = c.in_ok-answer.ensures.reply;
       plain = c.in_ok-answer.ensures.plain;
