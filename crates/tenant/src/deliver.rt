@@ -127,14 +127,15 @@ impl<H: Handler> Tenant<H> {
                 return Ok(Answer::refused(Refusal::Repeat));
             }
         };
+        let text = content.text().copy()?;
         let arrival = Incoming {
             source: Source::Unit(sent.source),
             letter: Some(letter),
             number: content.number(),
-            text: content.text(),
-            vector: content.vector(),
+            text,
+            vector: content.vector().as_slice(),
         };
-        match self.admit(alloc, name, unit, member, &arrival, &turn)? {
+        match self.admit(alloc, name, unit, member, arrival, &turn)? {
             Err(refusal) => Ok(Answer::refused(refusal)),
             Ok(plan) => {
                 let answer = self.apply(unit, plan, turn)?;

@@ -15,7 +15,6 @@ ghost use Rattle.tenant.specs.Represents.{DoesAs, StandsFor};
 use crate::answer::Answer;
 use crate::receipts::{Incoming, ask_upon};
 use crate::tenant::Tenant;
-use depvector::SharedVector;
 use handler::{AskRef, Handler, Turn};
 use model::{NoMemory, Refusal, Source, TenantName, Text, Unit};
 use std::alloc::Global;
@@ -82,15 +81,14 @@ impl<H: Handler> Tenant<H> {
                 return Ok(Answer::refused(Refusal::NoUnit));
             }
         };
-        let vector = SharedVector::new(alloc, 0)?;
         let arrival = Incoming {
             source: Source::Outside,
             letter: None,
             number: u64::from(number),
-            text: &text,
-            vector: &vector,
+            text,
+            vector: &[],
         };
-        match self.admit(alloc, name, unit, member, &arrival, &turn)? {
+        match self.admit(alloc, name, unit, member, arrival, &turn)? {
             Err(refusal) => Ok(Answer::refused(refusal)),
             Ok(plan) => {
                 let answer = self.apply(unit, plan, turn)?;
