@@ -208,28 +208,33 @@ module _ {S : Type 0} (M : Meaning S) (deal : List ℕ → ℕ) where
 
 -- ---- laws
 
--- new hosts stand for an empty book
-abbrev new_book : {S : Type 0} → List (HostState S) → Ledger
+-- the empty book for which new hosts stand
+abbrev pub new_book : {S : Type 0} → List (HostState S) → Ledger
 new_book hosts = record { history = []; log = record { records = []; failures = min (2 ^ 64 - 1) (failures_in hosts) } }
 
 module _ {S : Type 0} (M : Meaning S) where
-  -- the history of the book that they stand for is legal
-  legal_of : (deal : List ℕ → ℕ) (hosts : List (HostState S)) (book : Ledger)
+  -- The history of the book that hosts stand for is legal.
+  pub legal_of : (deal : List ℕ → ℕ) (hosts : List (HostState S)) (book : Ledger)
       → AreHostsOf M deal hosts book → IsLegal M book.history
   legal_of deal hosts book are =
       legal-parts deal M book.history (λ tenant. let one = get_within hosts (deal tenant) (are.below tenant) in
       (are.each (deal tenant) one.0 one.1).legal)
 
+  -- New hosts, one at least, stand for an empty book.
+  pub stand_new : (hosts : List (HostState S)) → 0 < length hosts
+      → ((i : ℕ) (host : HostState S) → slice_get hosts i ≡ Some host → HostReplays M host [])
+      → AreShardsOf M hosts (new_book hosts)
+  stand_new hosts some fresh = record {
+    below = λ tenant. dealt_below (length hosts) tenant some;
+    each = fresh;
+    recorded = ([], refl, tt);
+    failures = refl;
+  }
+
   -- New hosts that were served lines together run as some book.
   pub shards_run : ShardsRun M
   shards_run lines replies old new some fresh serves =
-      let are : AreShardsOf M old (new_book old) = record {
-        below = λ tenant. dealt_below (length old) tenant some;
-        each = fresh;
-        recorded = ([], refl, tt);
-        failures = refl;
-      } in
-      let ran = serves (new_book old) are in (
+      let ran = serves (new_book old) (stand_new old some fresh) in (
         ran.0,
         record {
           start = new_book old;

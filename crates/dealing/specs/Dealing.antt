@@ -54,15 +54,20 @@ pub record AreHostsOf {S : Type 0}
 abbrev pub AreShardsOf : {S : Type 0} → Meaning S → List (HostState S) → Ledger → Type 0
 AreShardsOf M hosts book = AreHostsOf M (dealt (length hosts)) hosts book
 
--- a step is done by the host that its tenant is dealt to, and the others stay
-pub record HostsDo {S : Type 0}
-    (M : Meaning S) (deal : List ℕ → ℕ) (old : List (HostState S)) (step : Step) (reply : Reply)
-    (new : List (HostState S)) : Type 0 where
-  pub before : HostState S
-  pub after : HostState S
+-- A step is done by the one that its tenant is dealt to, and the others stay.
+pub record OneDoes {A B : Type 0}
+    (Does : B → Step → A → B → Type 0) (deal : List ℕ → ℕ) (old : List B) (step : Step) (answer : A)
+    (new : List B) : Type 0 where
+  pub before : B
+  pub after : B
   pub at : slice_get old (deal (tenant_of step)) ≡ Some before
-  pub does : HostDoes M before step reply after
+  pub does : Does before step answer after
   pub others : new ≡ slice_set old (deal (tenant_of step)) after
+
+-- a step is done by the host that its tenant is dealt to, and the others stay
+abbrev pub HostsDo : {S : Type 0} → Meaning S → (List ℕ → ℕ) → List (HostState S) → Step → Reply → List (HostState S)
+    → Type 0
+HostsDo M deal old step reply new = OneDoes (HostDoes M) deal old step reply new
 
 -- By hosts together: whichever book they stood for, these lines were given these replies by that book, and they stand
 -- for it then.

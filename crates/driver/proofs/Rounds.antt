@@ -33,9 +33,9 @@ use Rattle.lines.specs.declared.fault.ServeFault.{ServeFault}
 use Rattle.lines.specs.declared.fault.ServeFault.TheVariants.{Read, Write, NoMemory}
 use Rattle.lines.proofs.Parts.{LinesRead-more, LinesRead-nil, TakesPart-none}
 use Rattle.lines.proofs.Runs.{line_step-held, long_answered}
-use Rattle.driver.specs.Driving.{AreRounds, Broken, CarriesOn, Drives, Drove, DroveAllBy, DroveOn, DroveSomeBy}
-use Rattle.driver.specs.Driving.{DroveUntil, HostDrives, IsDriven, IsFault, IsRound, IsStepRound, Round, Took, Wrote}
-use Rattle.driver.specs.Driving.{WroteUntil, lines_told, round_text}
+use Rattle.driver.specs.Driving.{AreRounds, BookDrives, Broken, CarriesOn, Drives, Drove, DroveAllBy, DroveOn}
+use Rattle.driver.specs.Driving.{DroveSomeBy, DroveUntil, HostDrives, IsDriven, IsFault, IsRound, IsStepRound, Round}
+use Rattle.driver.specs.Driving.{Took, Wrote, WroteUntil, lines_told, round_text}
 
 -- ---- bytes
 
@@ -396,6 +396,15 @@ module _ {B : Type 0} (One Other : B → Step → Reply → B → Type 0)
   carried_as None old steps new p = p
   carried_as (Some step) old steps new p = drives_as (addressed step).0 old steps new p
 
+  -- The round of a step is one by whatever its steps are too.
+  pub step_round_as : (step : Step) (old : B) (round : Round) (new : B)
+      → IsStepRound One step old round new → IsStepRound Other step old round new
+  step_round_as step old round new p = record {
+    mid = p.mid;
+    done = f old step round.reply p.mid p.done;
+    driven = drives_as (addressed step).0 p.mid round.steps new p.driven;
+  }
+
   pub rounds_as : (lines : List (List ℕ)) (old : B) (rounds : List Round) (new : B)
       → AreRounds One lines old rounds new → AreRounds Other lines old rounds new
   rounds_as [] old rounds new p = p
@@ -412,48 +421,54 @@ module _ {B : Type 0} (One Other : B → Step → Reply → B → Type 0)
     rounds_as ls p.2 p.1 new p.5,
   )
 
--- ---- by a host
+-- ---- of the books that are stood for
 
-module _ {S : Type 0} (M : Meaning S) where
-  abbrev Stands : HostState S → Ledger → Type 0
-  Stands host book = IsHostOf M host book
-
-  stays : (old new : HostState S) (book : Ledger) → new ≡ old → Stands old book → Stands new book
+module _ {B : Type 0} (Does : B → Step → Reply → B → Type 0) (Stands : B → Ledger → Type 0)
+    (carries : (old : B) (step : Step) (reply : Reply) (new : B) → Does old step reply new
+    → Carries Stands (λ before after. EntersStep before step reply after) old new) where
+  stays : (old new : B) (book : Ledger) → new ≡ old → Stands old book → Stands new book
   stays old new book same is = subst (λ h. Stands h book) (sym same) is
 
-  host_answered : (read : Option Step) (old : HostState S) (reply : Reply) (new : HostState S)
-      → AnsweredStepBy (HostDoes M) read old reply new
-      → Carries (IsHostOf M) (λ before after. AnsweredStepBy EntersStep read before reply after) old new
-  host_answered None old reply new (inl p) before is = (before, stays old new before p.1 is, inl (p.0, refl))
-  host_answered None old reply new (inr p) before is = (before, stays old new before p.1 is, inr (p.0, refl))
-  host_answered (Some step) old reply new (inl p) before is = (before, stays old new before p.1 is, inl (p.0, refl))
-  host_answered (Some step) old reply new (inr p) before is = let one = p Caller before is in
-      (one.0, one.1, inr one.2.0)
+  each_answered : (read : Option Step) (old : B) (reply : Reply) (new : B) → AnsweredStepBy Does read old reply new
+      → Carries Stands (λ before after. AnsweredStepBy EntersStep read before reply after) old new
+  each_answered None old reply new (inl p) before is = (before, stays old new before p.1 is, inl (p.0, refl))
+  each_answered None old reply new (inr p) before is = (before, stays old new before p.1 is, inr (p.0, refl))
+  each_answered (Some step) old reply new (inl p) before is = (before, stays old new before p.1 is, inl (p.0, refl))
+  each_answered (Some step) old reply new (inr p) before is = let one = carries old step reply new p before is in
+      (one.0, one.1, inr one.2)
 
-  host_steps : (tenant : List ℕ) (old : HostState S) (steps : List (Step × Reply)) (new : HostState S)
-      → Drives (HostDoes M) tenant old steps new
-      → Carries (IsHostOf M) (λ before after. Drives EntersStep tenant before steps after) old new
-  host_steps tenant old [] new p before is = (before, stays old new before p is, refl)
-  host_steps tenant old (s ∷ steps) new p before is =
-      let one = p.2 Caller before is in
-      let rest = host_steps tenant p.1 steps new p.3 one.0 one.1 in
-      (rest.0, rest.1, (p.0, one.0, one.2.0, rest.2))
+  each_steps : (tenant : List ℕ) (old : B) (steps : List (Step × Reply)) (new : B)
+      → Drives Does tenant old steps new
+      → Carries Stands (λ before after. Drives EntersStep tenant before steps after) old new
+  each_steps tenant old [] new p before is = (before, stays old new before p is, refl)
+  each_steps tenant old (s ∷ steps) new p before is =
+      let one = carries old s.0 s.1 p.1 p.2 before is in
+      let rest = each_steps tenant p.1 steps new p.3 one.0 one.1 in
+      (rest.0, rest.1, (p.0, one.0, one.2, rest.2))
 
-  host_carried : (read : Option Step) (old : HostState S) (steps : List (Step × Reply)) (new : HostState S)
-      → CarriesOn (HostDoes M) read old steps new
-      → Carries (IsHostOf M) (λ before after. CarriesOn EntersStep read before steps after) old new
-  host_carried None old steps new p before is = (before, stays old new before p.1 is, (p.0, refl))
-  host_carried (Some step) old steps new p before is = host_steps (addressed step).0 old steps new p before is
+  each_carried : (read : Option Step) (old : B) (steps : List (Step × Reply)) (new : B)
+      → CarriesOn Does read old steps new
+      → Carries Stands (λ before after. CarriesOn EntersStep read before steps after) old new
+  each_carried None old steps new p before is = (before, stays old new before p.1 is, (p.0, refl))
+  each_carried (Some step) old steps new p before is = each_steps (addressed step).0 old steps new p before is
 
-  -- A host that does each line's round drives the lines for each book that it stands for.
-  pub host_drives : (lines : List (List ℕ)) (old : HostState S) (rounds : List Round) (new : HostState S)
-      → AreRounds (HostDoes M) lines old rounds new → HostDrives M lines old rounds new
-  host_drives [] old rounds new p before is = (before, stays old new before p.1 is, (p.0, refl))
-  host_drives (l ∷ ls) old rounds new p before is =
-      let one = host_answered (line_step l) old p.0.reply p.4.0 p.4.1.0 before is in
-      let two = host_carried (line_step l) p.4.0 p.0.steps p.2 p.4.2 one.0 one.1 in
-      let rest = host_drives ls p.2 p.1 new p.5 two.0 two.1 in
+  -- Where each line's round was done, the lines were driven for each book that is stood for.
+  pub drives_each : (lines : List (List ℕ)) (old : B) (rounds : List Round) (new : B)
+      → AreRounds Does lines old rounds new
+      → Carries Stands (λ before after. BookDrives lines before rounds after) old new
+  drives_each [] old rounds new p before is = (before, stays old new before p.1 is, (p.0, refl))
+  drives_each (l ∷ ls) old rounds new p before is =
+      let one = each_answered (line_step l) old p.0.reply p.4.0 p.4.1.0 before is in
+      let two = each_carried (line_step l) p.4.0 p.0.steps p.2 p.4.2 one.0 one.1 in
+      let rest = drives_each ls p.2 p.1 new p.5 two.0 two.1 in
       (rest.0, rest.1, (p.0, p.1, two.0, p.3, (one.0, (one.2, p.4.1.1), two.2), rest.2))
+
+-- A host that does each line's round drives the lines for each book that it stands for.
+pub host_drives : {S : Type 0} (M : Meaning S) (lines : List (List ℕ)) (old : HostState S) (rounds : List Round)
+    (new : HostState S) → AreRounds (HostDoes M) lines old rounds new → HostDrives M lines old rounds new
+host_drives M lines old rounds new =
+    drives_each (HostDoes M) (IsHostOf M) (λ before step reply after does book is.
+    let one = does Caller book is in (one.0, one.1, one.2.0)) lines old rounds new
 
 -- ---- what was driven, seen otherwise
 
@@ -461,7 +476,8 @@ module _ {F B : Type 0} (g : Shared F (MutBor B × (Step × Unit {0})) (Reply ×
     (f : F) (Other : B → Step → Reply → B → Type 0)
     (fact : (p q : MutBor B) (step : Step) (reply : Reply)
     → g.post f (p, (step, tt)) (reply, (q, tt)) → Other p.now step reply q.now) where
-  calls_do : (old : B) (step : Step) (reply : Reply) (new : B)
+  -- What a call of the function left is what its calls do.
+  pub calls_do : (old : B) (step : Step) (reply : Reply) (new : B)
       → DoesBy g f old step reply new → Other old step reply new
   calls_do old step reply new d =
       subst (λ z. Other z step reply new) d.argument_is

@@ -111,7 +111,8 @@ pub(crate) fn hear<B, G: Fn(&B, &TenantName, Letter) -> Option<Unit>>(
 }
 
 impl Done {
-    fn none() -> Done {
+    /// Nothing yet.
+    pub fn none() -> Done {
         Done {
             deliveries: 0,
             flushes: 0,

@@ -7,6 +7,7 @@ ghost use Rattle.model.specs.declared.replies.Who.{Who as WhoOf};
 ghost use Rattle.book.specs.Entries.{IsEntered};
 ghost use Rattle.book.specs.Standing.{Carries, EntersHonestly, IsHostOf};
 ghost use Rattle.lines.specs.Doing.{DoesBy, TakesSteps};
+ghost use Rattle.lines.specs.Serving.{HostDoes};
 ghost use Rattle.driver.specs.Driving.{AreRounds, BookDrives, Broken, Drove, DroveAllBy, DroveSomeBy, HostDrives};
 ghost use Rattle.driver.specs.Driving.{IsRound, IsStepRound, Round, Took, Wrote, chore_step, lines_told, outputs_of};
 ghost use Rattle.driver.specs.Driving.{round_text};
@@ -98,6 +99,41 @@ pub fn drive_host<R: BufRead, W: Write, H: Handler, S: Store>(
             host.receiver(tenant, letter)
         },
         driver,
+    )
+}
+
+/// Does a step by a host, writes its reply, and carries on for its tenant: the round of a line that is this step. The
+/// text is a buffer that can be kept for the next; what it held is gone.
+///
+/// `Write` comes only where the writer failed, and `NoMemory` where there was none for a text that is written, for what
+/// the driver remembers, or for a step that it gave. The step is done then too, and what is written is a beginning of
+/// the round; the driver isn't to be used again.
+pub fn drive_host_step<W: Write, H: Handler, S: Store>(
+    alloc: Global,
+    writer: &mut Counted<W>,
+    host: &mut Host<H, S>,
+    driver: &mut Driver,
+    text: &mut Vec<u8>,
+    read: Step,
+) -> Result<(), ServeFault>
+    ensures { (round : Round) × IsStepRound (HostDoes H.meaning) read host.old round host.new
+        × Wrote result (round_text round) (W.contents writer.old.inner) (W.contents writer.new.inner)
+        writer.old.failed writer.new.failed }
+{
+    drive_step(
+        alloc,
+        writer,
+        host,
+        &|host: &mut Host<H, S>, step: Step| -> Reply
+            ensures { (who : WhoOf) → Carries (IsHostOf H.meaning)
+                (EntersHonestly H.meaning who step result) host.entry.now host.exit.now }
+        { host.step(step) },
+        &|host: &Host<H, S>, tenant: &TenantName, letter: Letter| -> Option<Unit> {
+            host.receiver(tenant, letter)
+        },
+        driver,
+        text,
+        read,
     )
 }
 

@@ -2,6 +2,7 @@
 //!
 //! - `drive`, `drive_host` (`driving`): answer each line of a reader as `serve` does, and then carry on for its tenant:
 //!   letters are delivered, what they made is logged, and what is firm is released, a line for each text.
+//!   `drive_host_step` does so of one step.
 //! - `Driver`: what it remembers between two lines, a `Flow` for each open tenant: which units are up and hold
 //!   something, and the letters that wait (`Waiting`).
 //!   `Driver::encode` and `decode` (`memory`) write it as bytes, and read it again.
@@ -38,6 +39,6 @@ mod outputs;
 
 pub use chore::Chore;
 pub use driver::{Done, Driver};
-pub use driving::{drive, drive_host};
+pub use driving::{drive, drive_host, drive_host_step};
 pub use flow::{Flow, MAX_DELIVERIES, Waiting};
 pub use laws::{book_released_is_told, released_is_told};

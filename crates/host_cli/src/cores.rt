@@ -27,9 +27,7 @@ pub(crate) fn cores_for<R: Threads, L: Log>(
 
 /// The word beside which one core is used, where there is one.
 fn word_for_one(run: &RunWords<'_>, has_snapshots: bool) -> Option<&'static str> {
-    if run.drives {
-        Some("drive")
-    } else if run.log.is_some() {
+    if run.log.is_some() {
         Some("--log")
     } else if run.audit {
         Some("--audit")

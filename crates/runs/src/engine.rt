@@ -5,15 +5,16 @@ ghost use Rattle.std.specs.Prelude.{◌≡◌, []};
 use crate::explained::serve_explained;
 use crate::hosted::Hosted;
 use crate::judged::Judged;
-use crate::waits::tell_driven;
+use crate::waits::{tell_done, tell_driven, tell_waiting, total};
 use book::{Book, Host};
-use driver::{Driver, drive, drive_host};
+use driven_shards::{Driven, drive_shards};
+use driver::{Done, Driver, drive, drive_host};
 use handler::Handler;
 use lines::{Counted, ServeFault, serve, serve_host};
 use log::{Log, error};
 use model::NoMemory;
 use reports::{Amount, NOTHING, audit_all, kept_by, sum, tell_amount};
-use shards::{Shards, serve_shards};
+use shards::{Shards, Stepper, serve_shards};
 use shared_log::{MemoryStore, Store};
 use std::alloc::Global;
 use std::io::{BufRead, Write};
@@ -30,7 +31,8 @@ const REFUSED: u8 = 3;
 enum Stepped<H: Handler, S: Store> {
     Host(Host<H, S>),
     Book(Book<H, S>),
-    Shards(Shards<H, MemoryStore>),
+    Shards(Shards<Host<H, MemoryStore>>),
+    Driven(Shards<Driven<H, MemoryStore>>),
 }
 
 /// What answers lines, and carries on behind each where that is asked for.
@@ -61,7 +63,7 @@ impl<H: Handler + Send, S: Store> Engine<H, S> {
         match &self.stepped {
             Stepped::Host(host) => Some(host),
             Stepped::Book(book) => Some(book.host()),
-            Stepped::Shards(_) => None,
+            Stepped::Shards(_) | Stepped::Driven(_) => None,
         }
     }
 
@@ -78,6 +80,7 @@ impl<H: Handler + Send, S: Store> Engine<H, S> {
             Stepped::Host(host) => mem::forget(host),
             Stepped::Book(book) => mem::forget(book),
             Stepped::Shards(shards) => mem::forget(shards),
+            Stepped::Driven(shards) => mem::forget(shards),
         }
     }
 
@@ -86,7 +89,12 @@ impl<H: Handler + Send, S: Store> Engine<H, S> {
         match &self.stepped {
             Stepped::Host(host) => kept_by(host),
             Stepped::Book(book) => kept_by(book.host()),
-            Stepped::Shards(shards) => kept_by_all(shards),
+            Stepped::Shards(shards) => kept_by_all(shards, &|host: &Host<H, MemoryStore>| {
+                kept_by(host)
+            }),
+            Stepped::Driven(shards) => kept_by_all(shards, &|driven: &Driven<H, MemoryStore>| {
+                kept_by(driven.host())
+            }),
         }
     }
 
@@ -122,6 +130,7 @@ impl<H: Handler + Send, S: Store> Engine<H, S> {
                 before,
             ),
             (Stepped::Shards(shards), _, _) => serve_shards(rt, alloc, reader, writer, shards),
+            (Stepped::Driven(shards), _, _) => drive_shards(rt, alloc, reader, writer, shards),
         }
     }
 
@@ -137,8 +146,10 @@ impl<H: Handler + Send, S: Store> Engine<H, S> {
         if asked.verbosity == Verbosity::Verbose {
             tell_amount(told, self.kept());
         }
-        if let Some(driver) = &self.driver {
-            tell_driven(told, driver);
+        match (&self.stepped, &self.driver) {
+            (Stepped::Driven(shards), _) => tell_driven_by_all(told, shards),
+            (_, Some(driver)) => tell_driven(told, driver),
+            (_, None) => {}
         }
         let audited = match &self.stepped {
             Stepped::Book(book) if asked.audit => audit_all(
@@ -170,36 +181,77 @@ impl<H: Handler + Copy + Send> Engine<H, MemoryStore> {
         }
     }
 
-    /// One of so many hosts, to which tenants are dealt: their steps are done side by side. `NoMemory` comes where
-    /// there is none for their list.
-    pub(crate) fn sharded(
+    /// One of so many hosts, to which tenants are dealt: their steps are done side by side, and each is driven where
+    /// that is asked for. `NoMemory` comes where there is none for their list.
+    pub(crate) fn on_cores(
         alloc: Global,
         handler: H,
         cores: usize,
+        drives: bool,
     ) -> Result<Engine<H, MemoryStore>, NoMemory> {
-        let mut shards = Shards::new(alloc, Host::new(alloc, handler, MemoryStore::new(alloc)))?;
-        for _ in 1..cores {
-            let host = Host::new(alloc, handler, MemoryStore::new(alloc));
-            if shards.add(host).is_err() {
-                mem::forget(shards);
-                return Err(NoMemory);
-            }
-        }
+        let make = || Host::new(alloc, handler, MemoryStore::new(alloc));
+        let stepped = if drives {
+            Stepped::Driven(shards_of(alloc, cores, &|| Driven::new(alloc, make()))?)
+        } else {
+            Stepped::Shards(shards_of(alloc, cores, &make)?)
+        };
         Ok(Engine {
-            stepped: Stepped::Shards(shards),
+            stepped,
             driver: None,
         })
     }
 }
 
-/// What is kept of all tenants of some hosts.
-fn kept_by_all<H: Handler, S: Store>(shards: &Shards<H, S>) -> Result<Amount, NoMemory> {
+/// So many shards, one at least. `NoMemory` comes where there is none for their list.
+fn shards_of<X: Stepper, F: Fn() -> X>(
+    alloc: Global,
+    count: usize,
+    make: &F,
+) -> Result<Shards<X>, NoMemory>
+    requires { F.IsAlwaysCallable make.now }
+{
+    let mut shards = Shards::new(alloc, make())?;
+    for _ in 1..count {
+        if shards.add(make()).is_err() {
+            mem::forget(shards);
+            return Err(NoMemory);
+        }
+    }
+    Ok(shards)
+}
+
+/// What is kept of all tenants of some shards.
+fn kept_by_all<X: Stepper, F: Fn(&X) -> Result<Amount, NoMemory>>(
+    shards: &Shards<X>,
+    kept: &F,
+) -> Result<Amount, NoMemory>
+    requires { F.IsAlwaysCallable kept.now }
+{
     let mut all = NOTHING;
     for at in 0..shards.len() {
-        match shards.host(at) {
-            Some(host) => all = sum(all, kept_by(host)?),
+        match shards.stepper(at) {
+            Some(stepper) => all = sum(all, kept(stepper)?),
             None => break,
         }
     }
     Ok(all)
+}
+
+/// Tells what the drivers of some shards did together, and which letters still wait.
+fn tell_driven_by_all<L: Log, H: Handler + Send>(
+    told: &L,
+    shards: &Shards<Driven<H, MemoryStore>>,
+) {
+    let mut done = Done::none();
+    for at in 0..shards.len() {
+        if let Some(driven) = shards.stepper(at) {
+            done = total(done, driven.driver().done());
+        }
+    }
+    tell_done(told, done);
+    for at in 0..shards.len() {
+        if let Some(driven) = shards.stepper(at) {
+            tell_waiting(told, driven.driver());
+        }
+    }
 }

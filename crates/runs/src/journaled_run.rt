@@ -65,8 +65,8 @@ type Output<W> = Counted<DurableReplies<Skipping<W>>>;
 /// snapshot is beside the journal that the run can go on from, only the lines behind it are stepped; and others are
 /// kept behind each so many lines, where that is asked for. Tells the status to end with, as `run_asked` does; 1 too
 /// where the journal fails, or where a step finds no memory: its line stands unanswered in the journal; 2 where a line
-/// is asked for that the journal doesn't have. Of several cores nothing that needs a book may be asked for, no driver,
-/// and no snapshot.
+/// is asked for that the journal doesn't have. Of several cores nothing that needs a book may be asked for, and no
+/// snapshot.
 pub fn run_journaled<
     'a,
     T: Threads + Sync,
@@ -156,7 +156,7 @@ fn engine_on<H: Portable + Copy + Send>(
         return Ok(Engine::going_on(host, driver));
     }
     if cores > 1 {
-        return Engine::sharded(alloc, handler, cores);
+        return Engine::on_cores(alloc, handler, cores, asked.drives);
     }
     Ok(Engine::new(alloc, handler, MemoryStore::new(alloc), asked))
 }

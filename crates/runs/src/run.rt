@@ -75,7 +75,7 @@ pub fn run_asked<
 }
 
 /// The same on so many cores, over stores in memory: tenants are dealt to as many hosts. Nothing that needs a book may
-/// be asked for: no audit, no reasons, and no driver.
+/// be asked for: no audit, and no reasons.
 pub fn run_on_cores<
     T: Threads + Sync,
     L: Log,
@@ -92,7 +92,7 @@ pub fn run_on_cores<
     cores: usize,
     asked: &RunWords<'_>,
 ) -> u8 {
-    let Ok(engine) = Engine::sharded(alloc, hosted.handler, cores) else {
+    let Ok(engine) = Engine::on_cores(alloc, hosted.handler, cores, asked.drives) else {
         return no_buffers(told);
     };
     run_by(

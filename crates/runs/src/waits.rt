@@ -61,22 +61,43 @@ pub(crate) fn tell_news<L: Log>(told: &L, alloc: Global, driver: &mut Driver, li
 
 /// Tells what the driver did, and which letters still wait.
 pub(crate) fn tell_driven<L: Log>(told: &L, driver: &Driver) {
+    tell_done(told, driver.done());
+    tell_waiting(told, driver);
+}
+
+/// What two drivers did together.
+pub(crate) fn total(one: Done, other: Done) -> Done {
+    Done {
+        deliveries: one.deliveries.saturating_add(other.deliveries),
+        flushes: one.flushes.saturating_add(other.flushes),
+        notices: one.notices.saturating_add(other.notices),
+        releases: one.releases.saturating_add(other.releases),
+        outputs: one.outputs.saturating_add(other.outputs),
+    }
+}
+
+/// Tells what was driven.
+pub(crate) fn tell_done<L: Log>(told: &L, done: Done) {
     let Done {
         deliveries,
         flushes,
         notices,
         releases,
         outputs,
-    } = driver.done();
+    } = done;
     let outputs = Plural(outputs, "output");
     info!(told; "the driver gave: deliver {deliveries}, flush {flushes}, notice {notices}, release {releases}; {outputs} left");
+}
+
+/// Tells which letters of a driver's tenants still wait.
+pub(crate) fn tell_waiting<L: Log>(told: &L, driver: &Driver) {
     for (tenant, flow) in driver.flows() {
-        tell_waiting(told, tenant, flow);
+        tell_waiting_of(told, tenant, flow);
     }
 }
 
 /// Tells how many letters of a tenant wait, and the first of them.
-fn tell_waiting<L: Log>(told: &L, tenant: &TenantName, flow: &Flow) {
+fn tell_waiting_of<L: Log>(told: &L, tenant: &TenantName, flow: &Flow) {
     let count = flow.waiting_count() as u64;
     if let Some(first) = flow.first_waiting() {
         warn!(told; "tenant {}: {} not delivered; {}", tenant.as_str(), Plural(count, "letter"), Why(first));

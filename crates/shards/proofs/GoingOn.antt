@@ -1,23 +1,17 @@
--- Serving goes on, a block after the other.
+-- Answering goes on, a block after the other.
 use Rattle.std.proofs.Common.{◌≡◌, ◌≢◌, ◌+◌, ℕ, List, [], ◌∷◌, ◌++◌, length, cond, eqb, Bool, true}
-use Rattle.std.proofs.Common.{false, refl, sym, ap, subst, ◌∙◌, inl, inr, arith, append_assoc, append-nil}
+use Rattle.std.proofs.Common.{false, refl, sym, ap, subst, ◌∙◌, arith, append_assoc, append-nil}
 use Rattle.std.proofs.Common.{length-append}
-use Rattle.std.specs.Prelude.{Option, Some, None, Result, Ok, Err, OnOk, OnErr, IfErr, IfOk, flat_map, IfSome}
+use Rattle.std.specs.Prelude.{Option, Some, None, Result, Ok, Err, OnOk, OnErr, IfErr, flat_map, IfSome}
 use Rattle.std.specs.Io.KnownBytes.{Appends, Consumes, IsAtEnd, Keeps}
 use Rattle.std.proofs.KnownBytes.{Appends-kept, Appends-nil, Appends-trans, Consumes-kept, Consumes-nil, Consumes-trans}
 use Rattle.std.proofs.lemmas.List.Concat.{flat_map-append}
 use Rattle.model.specs.Failures.{HasRisen}
-use Rattle.model.specs.Handler.{Meaning}
-use Rattle.model.specs.declared.replies.Reply.{Reply}
 use Rattle.model.specs.declared.steps.Step.{Step}
-use Rattle.book.specs.Standing.{HostState}
 use Rattle.forms.specs.declared.fault.LineFault.{LineFault}
-use Rattle.forms.specs.declared.fault.LineFault.TheVariants.{Bad, NoMemory}
-use Rattle.lines.specs.Feeds.{AreReadings, ReadingOf}
+use Rattle.lines.specs.Feeds.{AreReadings}
 use Rattle.lines.specs.Lines.{Holds, IsPart, LinesRead, lines_of}
 use Rattle.lines.specs.Parts.{IsLineRead, LineGoesOn, Takes}
-use Rattle.lines.specs.Serving.{AnsweredLineBy, AnsweredStepBy, IsUnread, ServedAllBy, ServedSomeBy, ServesBy}
-use Rattle.lines.specs.Serving.{line_step, reply_line}
 use Rattle.lines.specs.declared.fault.ServeFault.{ServeFault}
 use Rattle.lines.specs.declared.fault.ServeFault.TheVariants.{Write}
 use Rattle.lines.specs.declared.input.LineRead.{LineRead}
@@ -26,81 +20,28 @@ use Rattle.lines.specs.declared.part.Part.TheVariants.{Ended, AtEnd}
 use Rattle.lines.proofs.Parts.{IsAtEnd-unread, IsPart-append, IsPart-nil, LinesRead-all, LinesRead-ended}
 use Rattle.lines.proofs.Parts.{LinesRead-more, LinesRead-nil, heard_last, heard_line}
 use Rattle.written.specs.Beginnings.{AppendsBeginning}
-use Rattle.shards.specs.Blocks.{AnswersBy, AnswersEachBy, AnswersLines}
+use Rattle.shards.specs.Blocks.{AnswersEachBy, AnswersLines, whole}
 use Rattle.shards.specs.Kept.{AreKept, IsKept}
-use Rattle.dealing.specs.Dealing.{HostsDo, ShardsServe, dealt}
-use Rattle.shards.specs.Underway.{Ends, ReadSoFar, Stopped, Turns, Underway, Waiting}
+use Rattle.shards.specs.Underway.{AnsweredAll, AnsweredEach, Ends, ReadSoFar, Stopped, Turns, Underway, Waiting}
 use Rattle.shards.proofs.Readings.{AreKept-more, heard_kept, readings_are}
-use Rattle.dealing.proofs.Serving.{dealt_lines_serve}
 
--- ---- lines, by what was read of them
+-- ---- lines, one block of them behind another
 
-module _ {B : Type 0} (Does : B → Step → Reply → B → Type 0) where
-  unread : (s : Option Step) (old : B) (reply : Reply) (new : B)
-      → IsUnread old reply new → AnsweredStepBy Does s old reply new
-  unread None old reply new p = inl p
-  unread (Some step) old reply new p = inl p
+readings-append : (lines more : List (List ℕ)) (xs ys : List (Result Step LineFault))
+    → AreReadings lines xs → AreReadings more ys → AreReadings (lines ++ more) (xs ++ ys)
+readings-append [] more xs ys p q = subst (λ (l : List (Result Step LineFault)). AreReadings more (l ++ ys)) (sym p) q
+readings-append (l ∷ lines) more [] ys p q = absurd p
+readings-append (l ∷ lines) more (x ∷ xs) ys p q = (p.0, readings-append lines more xs ys p.1 q)
 
-  line_answered : (line : List ℕ) (read : Result Step LineFault) (old : B) (reply : Reply) (new : B)
-      → ReadingOf line read → AnswersBy Does read old reply new → AnsweredLineBy Does line old reply new
-  line_answered line (Ok step) old reply new is p =
-      (subst (λ s. AnsweredStepBy Does s old reply new) (sym is.0) (inr p), λ long. let no = is.1 long in absurd cc)
-  line_answered line (Err Bad) old reply new is p =
-      (subst (λ s. AnsweredStepBy Does s old reply new) (sym is.0) (inr p), λ long. p.0)
-  line_answered line (Err NoMemory) old reply new is p =
-      (unread (line_step line) old reply new p, λ long. let no = is.1 long in absurd cc)
-
-  lines_answered : (lines : List (List ℕ))
-      (readings : List (Result Step LineFault)) (old : B) (replies : List Reply) (new : B) → AreReadings lines readings
-      → AnswersEachBy Does readings old replies new → ServesBy Does lines old replies new
-  lines_answered [] [] old replies new are p = p
-  lines_answered [] (r ∷ readings) old replies new are p = absurd cc
-  lines_answered (l ∷ lines) [] old replies new are p = absurd are
-  lines_answered (l ∷ lines) (r ∷ readings) old replies new are p =
-      (p.0, p.1, p.2, p.3, line_answered l r old p.0 p.2 are.0 p.4, lines_answered lines readings p.2 p.1 new are.1 p.5)
-
-  serves-append : (lines more : List (List ℕ)) (old mid new : B) (replies others : List Reply)
-      → ServesBy Does lines old replies mid → ServesBy Does more mid others new
-      → ServesBy Does (lines ++ more) old (replies ++ others) new
-  serves-append [] more old mid new replies others p q =
-      subst (λ (rs : List Reply). ServesBy Does more old (rs ++ others) new)
-      (sym p.0) (subst (λ b. ServesBy Does more b others new) p.1 q)
-  serves-append (l ∷ lines) more old mid new replies others p q =
-      (p.0, p.1 ++ others, p.2, ap (λ rs. rs ++ others) p.3, p.4, serves-append lines more p.2 mid new p.1 others p.5 q)
-
--- ---- of the book that is stood for
-
-module _ {S : Type 0} (M : Meaning S)
-    (shards : ℕ) (old new : List (HostState S)) (few : length old ≡ shards) (same : length new ≡ shards) where
-  shards_serve : (lines : List (List ℕ)) (replies : List Reply)
-      → ServesBy (HostsDo M (dealt shards)) lines old replies new → ShardsServe M lines old replies new
-  shards_serve lines replies p =
-      dealt_lines_serve M lines replies old new (same
-      ∙ sym few) (subst (λ n. ServesBy (HostsDo M (dealt n)) lines old replies new) (sym few) p)
-
-  pub all_served : (input out out' : Option (List ℕ)) (count : ℕ)
-      → ServedAllBy (ServesBy (HostsDo M (dealt shards))) input out out' old new count
-      → ServedAllBy (ShardsServe M) input out out' old new count
-  all_served input out out' count p = (p.0, p.1, p.2, shards_serve p.0 p.1 p.3, p.4, p.5)
-
-  pub some_served : (input input' out out' : Option (List ℕ))
-      → ServedSomeBy (ServesBy (HostsDo M (dealt shards))) input input' out out' old new
-      → ServedSomeBy (ShardsServe M) input input' out out' old new
-  some_served input input' out out' p = (p.0, p.1, p.2, p.3, p.4, shards_serve p.0 p.1 p.5, p.6)
-
-  -- Where serving ended well, all lines were served for each book that the shards stood for.
-  pub all_of : (r : Result ℕ ServeFault) (input out out' : Option (List ℕ))
-      → IfOk r (λ count. ServedAllBy (ServesBy (HostsDo M (dealt shards))) input out out' old new count)
-      → IfOk r (λ count. ServedAllBy (ShardsServe M) input out out' old new count)
-  all_of (Ok count) input out out' p = all_served input out out' count p
-  all_of (Err fault) input out out' p = tt
-
-  -- Where serving failed, the lines so far were served for each book that the shards stood for.
-  pub some_of : (r : Result ℕ ServeFault) (input input' out out' : Option (List ℕ))
-      → OnErr r (ServedSomeBy (ServesBy (HostsDo M (dealt shards))) input input' out out' old new)
-      → OnErr r (ServedSomeBy (ShardsServe M) input input' out out' old new)
-  some_of (Ok count) input input' out out' p = tt
-  some_of (Err fault) input input' out out' p = some_served input input' out out' p
+module _ {B : Type 0} (Does : B → Step → List ℕ → B → Type 0) where
+  answers-append : (xs ys : List (Result Step LineFault)) (old mid new : B) (answers others : List (List ℕ))
+      → AnswersEachBy Does xs old answers mid → AnswersEachBy Does ys mid others new
+      → AnswersEachBy Does (xs ++ ys) old (answers ++ others) new
+  answers-append [] ys old mid new answers others p q =
+      subst (λ (l : List (List ℕ)). AnswersEachBy Does ys old (l ++ others) new)
+      (sym p.0) (subst (λ b. AnswersEachBy Does ys b others new) p.1 q)
+  answers-append (x ∷ xs) ys old mid new answers others p q =
+      (p.0, p.1 ++ others, p.2, ap (λ l. l ++ others) p.3, p.4, answers-append xs ys p.2 mid new p.1 others p.5 q)
 
 -- ---- the end of the input
 
@@ -258,48 +199,50 @@ line_so begin input answered held is_long lines n count empty short counted hear
 
 -- ---- a block
 
-module _ {S : Type 0} (M : Meaning S) (deal : List ℕ → ℕ) (start : Ends S) (input out : Option (List ℕ))
-    (hosts : List (HostState S)) (waiting : Waiting)
-    (under : Underway M deal start (record { input = input; out = out; hosts = hosts }) waiting) where
+module _ {B : Type 0} (Does : B → Step → List ℕ → B → Type 0) (start : Ends B) (input out : Option (List ℕ))
+    (steppers : B) (waiting : Waiting)
+    (under : Underway Does start (record { input = input; out = out; steppers = steppers }) waiting) where
   -- Where more is heard, serving goes on.
   pub hears : (input' : Option (List ℕ)) (waiting' : Waiting)
       → ((begin : Option (List ℕ)) (answered : List (List ℕ))
       → ReadSoFar begin input answered waiting → ReadSoFar begin input' answered waiting')
-      → Underway M deal start (record { input = input'; out = out; hosts = hosts }) waiting'
+      → Underway Does start (record { input = input'; out = out; steppers = steppers }) waiting'
   hears input' waiting' more = record {
     answered = under.answered;
-    replies = under.replies;
+    answers = under.answers;
     served = under.served;
     written = under.written;
     heard = more start.input under.answered under.heard;
   }
 
   -- its lines are answered
-  module _ (hosts' : List (HostState S)) (IsWritten : List ℕ → Type 0)
-      (answers : AnswersLines M deal waiting.lines hosts hosts' IsWritten) where
-    all_answered : ServesBy (HostsDo M deal)
-        (under.answered ++ under.heard.queued) start.hosts (under.replies ++ answers.1) hosts'
-    all_answered =
-        serves-append (HostsDo M deal)
-        under.answered under.heard.queued start.hosts hosts hosts' under.replies answers.1 under.served
-        (lines_answered (HostsDo M deal) under.heard.queued answers.0 hosts answers.1 hosts'
-        (readings_are under.heard.queued waiting.lines answers.0 under.heard.are_kept answers.2 answers.3) answers.4)
+  module _ (steppers' : B) (IsWritten : List ℕ → Type 0)
+      (done : AnswersLines Does waiting.lines steppers steppers' IsWritten) where
+    all_answered : AnsweredEach Does
+        (under.answered ++ under.heard.queued) start.steppers (under.answers ++ done.1) steppers'
+    all_answered = (
+      under.served.0 ++ done.0,
+      readings-append under.answered under.heard.queued under.served.0 done.0 under.served.1
+          (readings_are under.heard.queued waiting.lines done.0 under.heard.are_kept done.2 done.3),
+      answers-append Does under.served.0 done.0 start.steppers steppers steppers' under.answers done.1
+          under.served.2 done.4,
+    )
 
-    lines_are : flat_map reply_line (under.replies ++ answers.1) ≡ flat_map reply_line under.replies
-        ++ flat_map reply_line answers.1
-    lines_are = flat_map-append reply_line under.replies answers.1
+    lines_are : flat_map whole (under.answers ++ done.1) ≡ flat_map whole under.answers
+        ++ flat_map whole done.1
+    lines_are = flat_map-append whole under.answers done.1
 
-  -- Behind a block whose lines are answered and whose replies are all written serving goes on.
-  pub goes_on : (mid out' : Option (List ℕ)) (hosts' : List (HostState S)) (lines : List (Result (List ℕ) LineFault))
-      → AnswersLines M deal waiting.lines hosts hosts' (Appends out mid) → Keeps mid out' → lines ≡ []
-      → Underway M deal start (record { input = input; out = out'; hosts = hosts' })
+  -- Behind a block whose lines are answered and whose answers are all written serving goes on.
+  pub goes_on : (mid out' : Option (List ℕ)) (steppers' : B) (lines : List (Result (List ℕ) LineFault))
+      → AnswersLines Does waiting.lines steppers steppers' (Appends out mid) → Keeps mid out' → lines ≡ []
+      → Underway Does start (record { input = input; out = out'; steppers = steppers' })
       (record { held = waiting.held; is_long = waiting.is_long; lines = lines; count = waiting.count })
-  goes_on mid out' hosts' lines answers same none = record {
+  goes_on mid out' steppers' lines done same none = record {
     answered = under.answered ++ under.heard.queued;
-    replies = under.replies ++ answers.1;
-    served = all_answered hosts' (Appends out mid) answers;
-    written = subst (Appends start.out out') (sym (lines_are hosts' (Appends out mid) answers))
-        (Appends-kept _ _ _ _ (Appends-trans _ _ _ _ _ under.written answers.5) same);
+    answers = under.answers ++ done.1;
+    served = all_answered steppers' (Appends out mid) done;
+    written = subst (Appends start.out out') (sym (lines_are steppers' (Appends out mid) done))
+        (Appends-kept _ _ _ _ (Appends-trans _ _ _ _ _ under.written done.5) same);
     heard = record {
       queued = [];
       rest = under.heard.rest;
@@ -314,41 +257,41 @@ module _ {S : Type 0} (M : Meaning S) (deal : List ℕ → ℕ) (start : Ends S)
     };
   }
 
-  -- Serving stopped where a block is answered and a beginning of its replies is written.
-  pub stops : (out' : Option (List ℕ)) (hosts' : List (HostState S))
-      → AnswersLines M deal waiting.lines hosts hosts' (AppendsBeginning out out')
-      → Stopped M deal start (record { input = input; out = out'; hosts = hosts' })
-  stops out' hosts' answers = (
+  -- Serving stopped where a block is answered and a beginning of its answers is written.
+  pub stops : (out' : Option (List ℕ)) (steppers' : B)
+      → AnswersLines Does waiting.lines steppers steppers' (AppendsBeginning out out')
+      → Stopped Does start (record { input = input; out = out'; steppers = steppers' })
+  stops out' steppers' done = (
     under.answered ++ under.heard.queued,
-    under.replies ++ answers.1,
+    under.answers ++ done.1,
     under.heard.rest,
     under.heard.read,
     (under.heard.text, under.heard.part, under.heard.taken),
-    all_answered hosts' (AppendsBeginning out out') answers,
+    all_answered steppers' (AppendsBeginning out out') done,
     (
-      flat_map reply_line under.replies ++ answers.5.0,
-      Appends-trans _ _ _ _ _ under.written answers.5.1,
+      flat_map whole under.answers ++ done.5.0,
+      Appends-trans _ _ _ _ _ under.written done.5.1,
       (
-        answers.5.2.0,
-        lines_are hosts' (AppendsBeginning out out') answers
-            ∙ ap (λ l. flat_map reply_line under.replies ++ l) answers.5.2.1
-            ∙ sym (append_assoc (flat_map reply_line under.replies) answers.5.0 answers.5.2.0),
+        done.5.2.0,
+        lines_are steppers' (AppendsBeginning out out') done
+            ∙ ap (λ l. flat_map whole under.answers ++ l) done.5.2.1
+            ∙ sym (append_assoc (flat_map whole under.answers) done.5.0 done.5.2.0),
       ),
     ),
   )
 
-  -- Serving may stop behind a block whose lines are answered and whose replies are all written.
-  pub stops_after : (mid out' : Option (List ℕ)) (hosts' : List (HostState S))
-      → AnswersLines M deal waiting.lines hosts hosts' (Appends out mid) → Keeps mid out'
-      → Stopped M deal start (record { input = input; out = out'; hosts = hosts' })
-  stops_after mid out' hosts' answers same =
-      stops out' hosts' (
-        answers.0,
-        answers.1,
-        answers.2,
-        answers.3,
-        answers.4,
-        (flat_map reply_line answers.1, Appends-kept _ _ _ _ answers.5 same, ([], sym (append-nil _))),
+  -- Serving may stop behind a block whose lines are answered and whose answers are all written.
+  pub stops_after : (mid out' : Option (List ℕ)) (steppers' : B)
+      → AnswersLines Does waiting.lines steppers steppers' (Appends out mid) → Keeps mid out'
+      → Stopped Does start (record { input = input; out = out'; steppers = steppers' })
+  stops_after mid out' steppers' done same =
+      stops out' steppers' (
+        done.0,
+        done.1,
+        done.2,
+        done.3,
+        done.4,
+        (flat_map whole done.1, Appends-kept _ _ _ _ done.5 same, ([], sym (append-nil _))),
       )
 
   -- ---- where none waits
@@ -360,12 +303,12 @@ module _ {S : Type 0} (M : Meaning S) (deal : List ℕ → ℕ) (start : Ends S)
   -- At the end of the input, where no line waits, all lines are served.
   pub ends_well : waiting.lines ≡ []
       → IfSome start.input (λ _. IsAtEnd input) → waiting.held ≡ [] → waiting.is_long ≡ false
-      → ServedAllBy (ServesBy (HostsDo M deal)) start.input start.out out start.hosts hosts waiting.count
+      → AnsweredAll Does start.input start.out out start.steppers steppers waiting.count
   ends_well none at_end empty short =
       let holds = subst (λ b. Holds waiting.held b under.heard.text) short under.heard.holds in
       let no_text : under.heard.text ≡ [] = sym holds.0 ∙ empty in (
         under.answered,
-        under.replies,
+        under.answers,
         read_all start.input under.heard.rest
             input under.answered (subst (LinesRead start.input under.heard.rest) (lines_alone none) under.heard.read)
             (subst (Consumes under.heard.rest input) no_text under.heard.taken) at_end,
@@ -376,30 +319,31 @@ module _ {S : Type 0} (M : Meaning S) (deal : List ℕ → ℕ) (start : Ends S)
 
 -- ---- a turn
 
-module _ {S : Type 0} (M : Meaning S) (deal : List ℕ → ℕ) (start now : Ends S) (waiting : Waiting) where
+module _ {B : Type 0} (Does : B → Step → List ℕ → B → Type 0) (start now : Ends B) (waiting : Waiting) where
   -- Behind a turn that isn't the end serving is under way.
   pub turned_on : (is_end : Bool)
-      → is_end ≡ false → Turns M deal (Ok is_end) start now waiting → Underway M deal start now waiting
+      → is_end ≡ false → Turns Does (Ok is_end) start now waiting → Underway Does start now waiting
   turned_on false e turned = turned
   turned_on true e turned = absurd cc
 
   -- Behind a turn that is the end all lines are served.
-  pub turned_end : (is_end : Bool) → is_end ≡ true → Turns M deal (Ok is_end) start now waiting
-      → ServedAllBy (ServesBy (HostsDo M deal)) start.input start.out now.out start.hosts now.hosts waiting.count
+  pub turned_end : (is_end : Bool) → is_end ≡ true → Turns Does (Ok is_end) start now waiting
+      → AnsweredAll Does start.input start.out now.out start.steppers now.steppers waiting.count
   turned_end false e turned = absurd cc
   turned_end true e turned = turned
 
 -- ---- the same number of shards
 
-module _ {S : Type 0} (M : Meaning S) (n m : ℕ) (same : m ≡ n) (start now : Ends S) (waiting : Waiting) where
+module _ {B : Type 0} (Does : ℕ → B → Step → List ℕ → B → Type 0) (n m : ℕ) (same : m ≡ n) (start now : Ends B)
+    (waiting : Waiting) where
   -- Serving that is under way among some shards is so among as many.
-  pub under_same : Underway M (dealt n) start now waiting → Underway M (dealt m) start now waiting
-  under_same under = subst (λ k. Underway M (dealt k) start now waiting) (sym same) under
+  pub under_same : Underway (Does n) start now waiting → Underway (Does m) start now waiting
+  under_same under = subst (λ k. Underway (Does k) start now waiting) (sym same) under
 
   -- What a turn comes to among some shards it comes to among as many.
   pub turns_same : (result : Result Bool ServeFault)
-      → Turns M (dealt m) result start now waiting → Turns M (dealt n) result start now waiting
-  turns_same result turned = subst (λ k. Turns M (dealt k) result start now waiting) same turned
+      → Turns (Does m) result start now waiting → Turns (Does n) result start now waiting
+  turns_same result turned = subst (λ k. Turns (Does k) result start now waiting) same turned
 
 -- ---- faults
 
@@ -426,14 +370,14 @@ any_err (Ok x) P p = tt
 any_err (Err e) P p = p
 
 -- Serving begins with no line heard.
-pub begins : {S : Type 0} (M : Meaning S) (deal : List ℕ → ℕ)
-    (start : Ends S) (held : List ℕ) (is_long : Bool) (lines : List (Result (List ℕ) LineFault)) (count : ℕ)
+pub begins : {B : Type 0} (Does : B → Step → List ℕ → B → Type 0)
+    (start : Ends B) (held : List ℕ) (is_long : Bool) (lines : List (Result (List ℕ) LineFault)) (count : ℕ)
     → lines ≡ [] → held ≡ [] → is_long ≡ false → count ≡ 0
-    → Underway M deal start start (record { held = held; is_long = is_long; lines = lines; count = count })
-begins M deal start held is_long lines count none empty short zero = record {
+    → Underway Does start start (record { held = held; is_long = is_long; lines = lines; count = count })
+begins Does start held is_long lines count none empty short zero = record {
   answered = [];
-  replies = [];
-  served = (refl, refl);
+  answers = [];
+  served = ([], refl, (refl, refl));
   written = Appends-nil start.out;
   heard = record {
     queued = [];

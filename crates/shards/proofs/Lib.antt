@@ -2,13 +2,14 @@
 -- Readings: what is kept of lines, and what is read of that (`readings_are`).
 -- Dealt: what was read of lines is dealt, one line after the other (`dealt_more`).
 -- Merging: what each shard does of a block's lines, taken together (`merges`).
--- Telling: the lines of a shard's replies, behind one another, and all of them in the order of the lines
---   (`written_all`).
+-- Telling: a shard's answers, behind one another, and all of them in the order of the lines (`written_all`).
 -- Answered: a block is answered where each shard did its steps (`lent_back`).
--- GoingOn: serving goes on, a block after the other (`begins`).
+-- GoingOn: answering goes on, a block after the other (`begins`).
+-- Hosts: answering by hosts is serving (`all_of`).
 pub mod Readings
 pub mod Dealt
 pub mod Merging
 pub mod Telling
 pub mod Answered
 pub mod GoingOn
+pub mod Hosts

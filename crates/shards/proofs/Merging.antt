@@ -7,33 +7,29 @@ use Rattle.std.proofs.lemmas.Bool.{cases_eq, eq-eqb, ne_eqb}
 use Rattle.std.proofs.lemmas.List.{get_or-map, get_or-set_other, get_or-set_same, length-map, map-append, map-set}
 use Rattle.std.proofs.lemmas.List.Elements.{All-cons, All-nil}
 use Rattle.std.proofs.lemmas.Option.{same_Some}
-use Rattle.model.specs.Handler.{Meaning}
-use Rattle.model.specs.declared.replies.Reply.{Reply}
 use Rattle.model.specs.declared.steps.Step.{Step}
-use Rattle.book.specs.Standing.{HostState}
 use Rattle.forms.specs.declared.fault.LineFault.{LineFault}
-use Rattle.lines.specs.Serving.{HostDoes, reply_upon}
-use Rattle.dealing.specs.Dealing.{HostsDo, tenant_of}
+use Rattle.dealing.specs.Dealing.{OneDoes, tenant_of}
 use Rattle.shards.specs.declared.place.Place.{Place}
 use Rattle.shards.specs.declared.place.Place.TheVariants.{Here, Dealt}
-use Rattle.shards.specs.Blocks.{AnswersEachBy, AreDealt, DealsMore, DoesEach, IsBelow, after_first, first_of, merged}
-use Rattle.shards.specs.Blocks.{place_of, rest_of, steps_for}
+use Rattle.shards.specs.Blocks.{AnswersEachBy, AreDealt, DealsMore, DoesEach, IsBelow, after_first, fault_answer}
+use Rattle.shards.specs.Blocks.{first_of, merged, place_of, rest_of, steps_for}
 use Rattle.dealing.proofs.Lists.{get-set_other, get-set_same, get_within, map-set_kept, same_at_each}
 
 -- one step more
-pub DoesEach-more : {B : Type 0} (Does : B → Step → Reply → B → Type 0)
-    (steps : List Step) (old mid new : B) (replies : List Reply) (step : Step) (reply : Reply)
-    → DoesEach Does steps old replies mid
-    → Does mid step reply new → DoesEach Does (steps ++ step ∷ []) old (replies ++ reply ∷ []) new
-DoesEach-more Does [] old mid new replies step reply p q =
-    (reply, [], new, ap (λ rs. rs ++ reply ∷ []) p.0, subst (λ s. Does s step reply new) p.1 q, (refl, refl))
-DoesEach-more Does (s ∷ ss) old mid new replies step reply p q = (
+pub DoesEach-more : {B : Type 0} (Does : B → Step → List ℕ → B → Type 0)
+    (steps : List Step) (old mid new : B) (answers : List (List ℕ)) (step : Step) (answer : List ℕ)
+    → DoesEach Does steps old answers mid
+    → Does mid step answer new → DoesEach Does (steps ++ step ∷ []) old (answers ++ answer ∷ []) new
+DoesEach-more Does [] old mid new answers step answer p q =
+    (answer, [], new, ap (λ rs. rs ++ answer ∷ []) p.0, subst (λ s. Does s step answer new) p.1 q, (refl, refl))
+DoesEach-more Does (s ∷ ss) old mid new answers step answer p q = (
   p.0,
-  p.1 ++ reply ∷ [],
+  p.1 ++ answer ∷ [],
   p.2,
-  ap (λ rs. rs ++ reply ∷ []) p.3,
+  ap (λ rs. rs ++ answer ∷ []) p.3,
   p.4,
-  DoesEach-more Does ss p.2 mid new p.1 step reply p.5 q,
+  DoesEach-more Does ss p.2 mid new p.1 step answer p.5 q,
 )
 
 -- what was read of more lines
@@ -124,86 +120,86 @@ places_below deal shards below (Ok step ∷ readings) = All-cons (IsBelow shards
 places_below deal shards below (Err fault ∷ readings) =
     All-cons (IsBelow shards) (Here fault) (map (place_of deal) readings) tt (places_below deal shards below readings)
 
-module _ {S : Type 0} (M : Meaning S) (deal : List ℕ → ℕ) where
+module _ {B : Type 0} (Does : B → Step → List ℕ → B → Type 0) (deal : List ℕ → ℕ) where
   -- the shard of one step, and any other, after it
   module _ (step : Step) (rest : List (Result Step LineFault))
-      (old new : List (HostState S)) (replies : ℕ → List Reply) where
+      (old new : List (B)) (answers : ℕ → List (List ℕ)) where
     abbrev i : ℕ
     i = deal (tenant_of step)
 
     abbrev Each : Type 0
-    Each = (j : ℕ) (h v : HostState S) → slice_get old j ≡ Some h
-        → slice_get new j ≡ Some v → DoesEach (HostDoes M) (steps_for deal j (Ok step ∷ rest)) h (replies j) v
+    Each = (j : ℕ) (h v : B) → slice_get old j ≡ Some h
+        → slice_get new j ≡ Some v → DoesEach Does (steps_for deal j (Ok step ∷ rest)) h (answers j) v
 
-    module _ (h v mid : HostState S)
-        (is : slice_get new i ≡ Some v) (others : List Reply) (reply : Reply) (first : replies i ≡ reply ∷ others)
-        (does : DoesEach (HostDoes M) (steps_for deal i rest) mid others v) (within : i < length old) where
-      here : (j : ℕ) (h' v' : HostState S) → i ≡ j → slice_get (set old i mid) j ≡ Some h' → slice_get new j ≡ Some v'
-          → DoesEach (HostDoes M) (steps_for deal j rest) h' (after_first i replies j) v'
+    module _ (h v mid : B)
+        (is : slice_get new i ≡ Some v) (others : List (List ℕ)) (answer : List ℕ) (first : answers i ≡ answer ∷ others)
+        (does : DoesEach Does (steps_for deal i rest) mid others v) (within : i < length old) where
+      here : (j : ℕ) (h' v' : B) → i ≡ j → slice_get (set old i mid) j ≡ Some h' → slice_get new j ≡ Some v'
+          → DoesEach Does (steps_for deal j rest) h' (after_first i answers j) v'
       here j h' v' e had has =
-          let left : after_first i replies i ≡ others =
-          ap (λ b. cond b (rest_of (replies i)) (replies i)) (eq-eqb i i refl) ∙ ap rest_of first in
+          let left : after_first i answers i ≡ others =
+          ap (λ b. cond b (rest_of (answers i)) (answers i)) (eq-eqb i i refl) ∙ ap rest_of first in
           let mid_is : mid ≡ h' =
           same_Some _ _ (sym (get-set_same old i mid within) ∙ ap (slice_get (set old i mid)) e ∙ had) in
           let v_is : v ≡ v' = same_Some _ _ (sym is ∙ ap (slice_get new) e ∙ has) in
-          subst (λ n. DoesEach (HostDoes M) (steps_for deal n rest) h' (after_first i replies n) v') e
-          (subst (λ (rs : List Reply). DoesEach (HostDoes M) (steps_for deal i rest) h' rs v') (sym left)
-          (subst (λ (x : HostState S). DoesEach (HostDoes M) (steps_for deal i rest) x others v') mid_is
-          (subst (λ (x : HostState S). DoesEach (HostDoes M) (steps_for deal i rest) mid others x) v_is does)))
+          subst (λ n. DoesEach Does (steps_for deal n rest) h' (after_first i answers n) v') e
+          (subst (λ (rs : List (List ℕ)). DoesEach Does (steps_for deal i rest) h' rs v') (sym left)
+          (subst (λ (x : B). DoesEach Does (steps_for deal i rest) x others v') mid_is
+          (subst (λ (x : B). DoesEach Does (steps_for deal i rest) mid others x) v_is does)))
 
-      apart : Each → (j : ℕ) (h' v' : HostState S)
+      apart : Each → (j : ℕ) (h' v' : B)
           → (i ≡ j → ⊥) → slice_get (set old i mid) j ≡ Some h' → slice_get new j ≡ Some v'
-          → DoesEach (HostDoes M) (steps_for deal j rest) h' (after_first i replies j) v'
+          → DoesEach Does (steps_for deal j rest) h' (after_first i answers j) v'
       apart each j h' v' ne had has =
           let no = ne_eqb i j ne in
           let as_was = each j h' v' (sym (get-set_other old i j mid ne) ∙ had) has in
-          subst (λ (rs : List Reply). DoesEach (HostDoes M) (steps_for deal j rest) h' rs v')
-          (sym (ap (λ b. cond b (rest_of (replies j)) (replies j)) no))
-          (subst (λ (ss : List Step). DoesEach (HostDoes M) ss h' (replies j) v')
+          subst (λ (rs : List (List ℕ)). DoesEach Does (steps_for deal j rest) h' rs v')
+          (sym (ap (λ b. cond b (rest_of (answers j)) (answers j)) no))
+          (subst (λ (ss : List Step). DoesEach Does ss h' (answers j) v')
           (ap (λ b. cond b (step ∷ steps_for deal j rest) (steps_for deal j rest)) no) as_was)
 
-      each_after : Each → (j : ℕ) (h' v' : HostState S)
+      each_after : Each → (j : ℕ) (h' v' : B)
           → slice_get (set old i mid) j ≡ Some h' → slice_get new j ≡ Some v'
-          → DoesEach (HostDoes M) (steps_for deal j rest) h' (after_first i replies j) v'
+          → DoesEach Does (steps_for deal j rest) h' (after_first i answers j) v'
       each_after each j h' v' had has =
           elim (cases_eq i j) [ inl e ↦ here j h' v' e had has | inr ne ↦ apart each j h' v' ne had has ]
 
   -- where each shard did its own steps, all were done in the order of the lines
-  pub merges : (readings : List (Result Step LineFault)) (old new : List (HostState S)) (replies : ℕ → List Reply)
+  pub merges : (readings : List (Result Step LineFault)) (old new : List (B)) (answers : ℕ → List (List ℕ))
       → length new ≡ length old → ((tenant : List ℕ) → deal tenant < length old)
-      → ((j : ℕ) (h v : HostState S) → slice_get old j ≡ Some h
-      → slice_get new j ≡ Some v → DoesEach (HostDoes M) (steps_for deal j readings) h (replies j) v)
-      → AnswersEachBy (HostsDo M deal) readings old (merged (map (place_of deal) readings) replies) new
-  merges [] old new replies long below each = (refl, same_at_each old new long (λ j h v is is'. (each j h v is is').1))
-  merges (Err fault ∷ rest) old new replies long below each = (
-    reply_upon fault,
-    merged (map (place_of deal) rest) replies,
+      → ((j : ℕ) (h v : B) → slice_get old j ≡ Some h
+      → slice_get new j ≡ Some v → DoesEach Does (steps_for deal j readings) h (answers j) v)
+      → AnswersEachBy (OneDoes Does deal) readings old (merged (map (place_of deal) readings) answers) new
+  merges [] old new answers long below each = (refl, same_at_each old new long (λ j h v is is'. (each j h v is is').1))
+  merges (Err fault ∷ rest) old new answers long below each = (
+    fault_answer fault,
+    merged (map (place_of deal) rest) answers,
     old,
     refl,
     (refl, refl),
-    merges rest old new replies long below each,
+    merges rest old new answers long below each,
   )
-  merges (Ok step ∷ rest) old new replies long below each =
+  merges (Ok step ∷ rest) old new answers long below each =
       let i = deal (tenant_of step) in
       let h = get_within old i (below (tenant_of step)) in
       let v = get_within new i (subst (λ n. i < n) (sym long) (below (tenant_of step))) in
-      let own : DoesEach (HostDoes M) (step ∷ steps_for deal i rest) h.0 (replies i) v.0 =
-      subst (λ b. DoesEach (HostDoes M) (cond b (step ∷ steps_for deal i rest) (steps_for deal i rest))
-      h.0 (replies i) v.0) (eq-eqb i i refl) (each i h.0 v.0 h.1 v.1) in
+      let own : DoesEach Does (step ∷ steps_for deal i rest) h.0 (answers i) v.0 =
+      subst (λ b. DoesEach Does (cond b (step ∷ steps_for deal i rest) (steps_for deal i rest))
+      h.0 (answers i) v.0) (eq-eqb i i refl) (each i h.0 v.0 h.1 v.1) in
       let still = sym (length-set old i own.2) in (
-        first_of (replies i),
-        merged (map (place_of deal) rest) (after_first i replies),
+        first_of (answers i),
+        merged (map (place_of deal) rest) (after_first i answers),
         set old i own.2,
         refl,
         record {
           before = h.0;
           after = own.2;
           at = h.1;
-          does = subst (λ (r : Reply). HostDoes M h.0 step r own.2) (sym (ap first_of own.3)) own.4;
+          does = subst (λ (r : List ℕ). Does h.0 step r own.2) (sym (ap first_of own.3)) own.4;
           others = refl;
         },
-        merges rest (set old i own.2) new (after_first i replies) (long
+        merges rest (set old i own.2) new (after_first i answers) (long
             ∙ still) (λ tenant. subst (λ n. deal tenant < n) still (below tenant))
             (each_after step rest
-            old new replies h.0 v.0 own.2 v.1 own.1 own.0 own.3 own.5 (below (tenant_of step)) each),
+            old new answers h.0 v.0 own.2 v.1 own.1 own.0 own.3 own.5 (below (tenant_of step)) each),
       )

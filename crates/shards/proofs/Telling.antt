@@ -1,4 +1,4 @@
--- The lines of a shard's replies, behind one another, and all of them in the order of the lines.
+-- A shard's answers, behind one another, and all of them in the order of the lines.
 use Rattle.std.proofs.Common.{◌≡◌, ◌<◌, ◌≤◌, ◌+◌, ℕ, List, [], ◌∷◌, ◌++◌, length, map, drop, take, get_or}
 use Rattle.std.proofs.Common.{set, replicate, cond, Bool, true, false, refl, sym, ap, subst, ◌∙◌, inl, inr}
 use Rattle.std.proofs.Common.{arith, append_assoc, append-nil, length-append, length-drop}
@@ -8,90 +8,87 @@ use Rattle.std.proofs.KnownBytes.{Appends-nil, Appends-trans}
 use Rattle.std.proofs.Math.Seq.{drop-append_seam, take-append_seam}
 use Rattle.std.proofs.lemmas.List.{drop-drop, drop_more, map-append}
 use Rattle.std.proofs.lemmas.List.Concat.{flat_map-append, flat_map-cons}
-use Rattle.model.specs.declared.replies.Reply.{Reply}
-use Rattle.lines.specs.Serving.{reply_line}
 use Rattle.written.specs.Beginnings.{AppendsBeginning}
 use Rattle.std.specs.Prelude.{Result, Ok, Err, OnOk, OnErr, is_err}
 use Rattle.forms.specs.declared.fault.LineFault.{LineFault}
-use Rattle.lines.specs.Serving.{reply_upon}
 use Rattle.std.proofs.lemmas.Bool.{cases_eq, eq-eqb, ne_eqb}
 use Rattle.std.proofs.lemmas.List.{get_or-replicate, get_or-set_other, get_or-set_same, get_or_default}
-use Rattle.shards.specs.Blocks.{TellsMore, Told, ToldSo, WroteFirst, WroteOne, after_first, first_of, line_len, merged}
-use Rattle.shards.specs.Blocks.{rest_of}
+use Rattle.shards.specs.Blocks.{TellsMore, Told, ToldSo, WroteFirst, WroteOne, after_first, fault_answer, first_of}
+use Rattle.shards.specs.Blocks.{merged, rest_of, whole}
 use Rattle.shards.specs.declared.place.Place.{Place}
 use Rattle.shards.specs.declared.place.Place.TheVariants.{Here, Dealt}
 
--- one reply's line more
-told_more : (is_full : Bool) (replies : List Reply) (bytes lens bytes' lens' : List ℕ) (reply : Reply)
-    → is_full ≡ false → ToldSo is_full replies bytes lens
-    → bytes' ≡ bytes ++ reply_line reply
-    → lens' ≡ lens ++ line_len reply ∷ [] → ToldSo false (replies ++ reply ∷ []) bytes' lens'
-told_more is_full replies bytes lens bytes' lens' reply room so grown longer = record {
-  told = so.told ++ reply ∷ [];
+-- one answer's line more
+told_more : (is_full : Bool) (answers : List (List ℕ)) (bytes lens bytes' lens' : List ℕ) (answer : List ℕ)
+    → is_full ≡ false → ToldSo is_full answers bytes lens
+    → bytes' ≡ bytes ++ answer
+    → lens' ≡ lens ++ length answer ∷ [] → ToldSo false (answers ++ answer ∷ []) bytes' lens'
+told_more is_full answers bytes lens bytes' lens' answer room so grown longer = record {
+  told = so.told ++ answer ∷ [];
   lost = [];
   all =
-      ap (λ l. l ++ reply ∷ []) (so.all ∙ ap (λ l. so.told ++ l) (so.none_lost room) ∙ append-nil so.told)
-      ∙ sym (append-nil (so.told ++ reply ∷ []));
+      ap (λ l. l ++ answer ∷ []) (so.all ∙ ap (λ l. so.told ++ l) (so.none_lost room) ∙ append-nil so.told)
+      ∙ sym (append-nil (so.told ++ answer ∷ []));
   text =
       grown
-      ∙ ap (λ l. l ++ reply_line reply) so.text
-      ∙ sym (flat_map-append reply_line so.told (reply ∷ []) ∙ ap (λ l. flat_map reply_line so.told ++ l)
-      (flat_map-cons reply_line reply [] ∙ append-nil (reply_line reply)));
-  lengths = longer ∙ ap (λ l. l ++ line_len reply ∷ []) so.lengths ∙ sym (map-append line_len so.told (reply ∷ []));
+      ∙ ap (λ l. l ++ answer) so.text
+      ∙ sym (flat_map-append whole so.told (answer ∷ []) ∙ ap (λ l. flat_map whole so.told ++ l)
+      (flat_map-cons whole answer [] ∙ append-nil answer));
+  lengths = longer ∙ ap (λ l. l ++ length answer ∷ []) so.lengths ∙ sym (map-append length so.told (answer ∷ []));
   none_lost = λ e. refl;
 }
 
--- one reply more whose line is lost
-told_lost : (is_full : Bool) (replies : List Reply) (bytes lens bytes' lens' : List ℕ) (reply : Reply)
-    → ToldSo is_full replies bytes lens
-    → bytes' ≡ bytes → lens' ≡ lens → ToldSo true (replies ++ reply ∷ []) bytes' lens'
-told_lost is_full replies bytes lens bytes' lens' reply so same same' = record {
+-- one answer more whose line is lost
+told_lost : (is_full : Bool) (answers : List (List ℕ)) (bytes lens bytes' lens' : List ℕ) (answer : List ℕ)
+    → ToldSo is_full answers bytes lens
+    → bytes' ≡ bytes → lens' ≡ lens → ToldSo true (answers ++ answer ∷ []) bytes' lens'
+told_lost is_full answers bytes lens bytes' lens' answer so same same' = record {
   told = so.told;
-  lost = so.lost ++ reply ∷ [];
-  all = ap (λ l. l ++ reply ∷ []) so.all ∙ append_assoc so.told so.lost (reply ∷ []);
+  lost = so.lost ++ answer ∷ [];
+  all = ap (λ l. l ++ answer ∷ []) so.all ∙ append_assoc so.told so.lost (answer ∷ []);
   text = same ∙ so.text;
   lengths = same' ∙ so.lengths;
   none_lost = λ e. absurd cc;
 }
 
-pub tells_line : (is_full : Bool) (reply : Reply) (bytes lens bytes' lens' : List ℕ) → is_full ≡ false
-    → bytes' ≡ bytes ++ reply_line reply
-    → lens' ≡ lens ++ line_len reply ∷ [] → TellsMore is_full false reply bytes lens bytes' lens'
-tells_line is_full reply bytes lens bytes' lens' room grown longer replies so =
-    told_more is_full replies bytes lens bytes' lens' reply room so grown longer
+pub tells_line : (is_full : Bool) (answer : List ℕ) (bytes lens bytes' lens' : List ℕ) → is_full ≡ false
+    → bytes' ≡ bytes ++ answer
+    → lens' ≡ lens ++ length answer ∷ [] → TellsMore is_full false answer bytes lens bytes' lens'
+tells_line is_full answer bytes lens bytes' lens' room grown longer answers so =
+    told_more is_full answers bytes lens bytes' lens' answer room so grown longer
 
-pub loses_line : (is_full : Bool) (reply : Reply) (bytes lens bytes' lens' : List ℕ)
-    → bytes' ≡ bytes → lens' ≡ lens → TellsMore is_full true reply bytes lens bytes' lens'
-loses_line is_full reply bytes lens bytes' lens' same same' replies so =
-    told_lost is_full replies bytes lens bytes' lens' reply so same same'
+pub loses_line : (is_full : Bool) (answer : List ℕ) (bytes lens bytes' lens' : List ℕ)
+    → bytes' ≡ bytes → lens' ≡ lens → TellsMore is_full true answer bytes lens bytes' lens'
+loses_line is_full answer bytes lens bytes' lens' same same' answers so =
+    told_lost is_full answers bytes lens bytes' lens' answer so same same'
 
--- One more reply has its line behind the others where appending went well, and is lost where it failed.
+-- One more answer has its line behind the others where appending went well, and is lost where it failed.
 pub tells_result : {A E : Type 0} (r : Result A E)
-    (is_full full' : Bool) (reply : Reply) (bytes lens bytes' lens' : List ℕ) → is_full ≡ false → full' ≡ is_err r
-    → OnOk r ((bytes' ≡ bytes ++ reply_line reply) × (lens' ≡ lens ++ line_len reply ∷ []))
-    → OnErr r ((bytes' ≡ bytes) × (lens' ≡ lens)) → TellsMore is_full full' reply bytes lens bytes' lens'
-tells_result (Ok x) is_full full' reply bytes lens bytes' lens' room e p q =
-    subst (λ f. TellsMore is_full f reply bytes lens bytes' lens')
-    (sym e) (tells_line is_full reply bytes lens bytes' lens' room p.0 p.1)
-tells_result (Err x) is_full full' reply bytes lens bytes' lens' room e p q =
-    subst (λ f. TellsMore is_full f reply bytes lens bytes' lens')
-    (sym e) (loses_line is_full reply bytes lens bytes' lens' q.0 q.1)
+    (is_full full' : Bool) (answer : List ℕ) (bytes lens bytes' lens' : List ℕ) → is_full ≡ false → full' ≡ is_err r
+    → OnOk r ((bytes' ≡ bytes ++ answer) × (lens' ≡ lens ++ length answer ∷ []))
+    → OnErr r ((bytes' ≡ bytes) × (lens' ≡ lens)) → TellsMore is_full full' answer bytes lens bytes' lens'
+tells_result (Ok x) is_full full' answer bytes lens bytes' lens' room e p q =
+    subst (λ f. TellsMore is_full f answer bytes lens bytes' lens')
+    (sym e) (tells_line is_full answer bytes lens bytes' lens' room p.0 p.1)
+tells_result (Err x) is_full full' answer bytes lens bytes' lens' room e p q =
+    subst (λ f. TellsMore is_full f answer bytes lens bytes' lens')
+    (sym e) (loses_line is_full answer bytes lens bytes' lens' q.0 q.1)
 
--- Where memory ran out before, one more reply is lost and the lines are as they were.
-pub still_lost : (is_full : Bool) (reply : Reply) (bytes lens : List ℕ)
-    → is_full ≡ true → TellsMore is_full is_full reply bytes lens bytes lens
-still_lost is_full reply bytes lens full replies so =
-    subst (λ f. ToldSo f (replies ++ reply ∷ []) bytes lens)
-    (sym full) (told_lost is_full replies bytes lens bytes lens reply so refl refl)
+-- Where memory ran out before, one more answer is lost and the lines are as they were.
+pub still_lost : (is_full : Bool) (answer : List ℕ) (bytes lens : List ℕ)
+    → is_full ≡ true → TellsMore is_full is_full answer bytes lens bytes lens
+still_lost is_full answer bytes lens full answers so =
+    subst (λ f. ToldSo f (answers ++ answer ∷ []) bytes lens)
+    (sym full) (told_lost is_full answers bytes lens bytes lens answer so refl refl)
 
--- no reply yet
+-- no answer yet
 pub told_none : ToldSo false [] [] []
 told_none = record { told = []; lost = []; all = refl; text = refl; lengths = refl; none_lost = λ e. refl }
 
 -- all that was told stands behind the beginning
-pub told_from : (is_full : Bool) (replies : List Reply) (bytes lens : List ℕ)
-    → ToldSo is_full replies bytes lens → Told replies bytes lens 0 0
-told_from is_full replies bytes lens so = record {
+pub told_from : (is_full : Bool) (answers : List (List ℕ)) (bytes lens : List ℕ)
+    → ToldSo is_full answers bytes lens → Told answers bytes lens 0 0
+told_from is_full answers bytes lens so = record {
   told = so.told;
   lost = so.lost;
   all = so.all;
@@ -103,38 +100,38 @@ told_from is_full replies bytes lens so = record {
 -- ---- the next line
 
 -- the next line of a shard, and what stands behind it
-pub record Next (replies : List Reply) (bytes lens : List ℕ) (at next len : ℕ) : Type 0 where
-  pub first : Reply
-  pub others : List Reply
-  pub all : replies ≡ first ∷ others
-  pub line : take len (drop at bytes) ≡ reply_line first
+pub record Next (answers : List (List ℕ)) (bytes lens : List ℕ) (at next len : ℕ) : Type 0 where
+  pub first : List ℕ
+  pub others : List (List ℕ)
+  pub all : answers ≡ first ∷ others
+  pub line : take len (drop at bytes) ≡ first
   pub within : at + len ≤ length bytes
   pub left : Told others bytes lens (at + len) (next + 1)
 
-module _ (replies : List Reply)
-    (bytes lens : List ℕ) (at next : ℕ) (is : Told replies bytes lens at next) (more : next < length lens) where
+module _ (answers : List (List ℕ))
+    (bytes lens : List ℕ) (at next : ℕ) (is : Told answers bytes lens at next) (more : next < length lens) where
   abbrev len : ℕ
   len = get_or lens next 0
 
-  lengths_are : len ∷ drop (next + 1) lens ≡ map line_len is.told
+  lengths_are : len ∷ drop (next + 1) lens ≡ map length is.told
   lengths_are = sym (drop_more lens next 0 more) ∙ is.lengths
 
-  next_of : (told : List Reply) → replies ≡ told ++ is.lost → drop at bytes ≡ flat_map reply_line told
-      → len ∷ drop (next + 1) lens ≡ map line_len told → Next replies bytes lens at next len
+  next_of : (told : List (List ℕ)) → answers ≡ told ++ is.lost → drop at bytes ≡ flat_map whole told
+      → len ∷ drop (next + 1) lens ≡ map length told → Next answers bytes lens at next len
   next_of [] all text lengths = absurd cc
   next_of (first ∷ told) all text lengths =
-      let long : len ≡ line_len first = cc in
-      let rest : drop (next + 1) lens ≡ map line_len told = cc in
-      let split : drop at bytes ≡ reply_line first ++ flat_map reply_line told =
-      text ∙ flat_map-cons reply_line first told in
-      let size = ap length split ∙ length-append (reply_line first) (flat_map reply_line told) in
+      let long : len ≡ length first = cc in
+      let rest : drop (next + 1) lens ≡ map length told = cc in
+      let split : drop at bytes ≡ first ++ flat_map whole told =
+      text ∙ flat_map-cons whole first told in
+      let size = ap length split ∙ length-append first (flat_map whole told) in
       let within : at + len ≤ length bytes = omega (arith, size, long, is.within, length-drop at bytes) in
       record {
         first = first;
         others = told ++ is.lost;
         all = all;
-        line = ap (λ l. take len l) split ∙ ap (λ n. take n (reply_line first ++ flat_map reply_line told)) long
-            ∙ take-append_seam (reply_line first) (flat_map reply_line told);
+        line = ap (λ l. take len l) split ∙ ap (λ n. take n (first ++ flat_map whole told)) long
+            ∙ take-append_seam first (flat_map whole told);
         within = within;
         left = record {
           told = told;
@@ -143,30 +140,30 @@ module _ (replies : List Reply)
           text =
               sym (drop-drop len at bytes)
               ∙ ap (drop len) split
-              ∙ ap (λ n. drop n (reply_line first ++ flat_map reply_line told)) long
-              ∙ drop-append_seam (reply_line first) (flat_map reply_line told);
+              ∙ ap (λ n. drop n (first ++ flat_map whole told)) long
+              ∙ drop-append_seam first (flat_map whole told);
           lengths = rest;
           within = within;
         };
       }
 
-  -- The next line that a shard has is that of the first reply that is left of it.
-  pub next_line : Next replies bytes lens at next len
+  -- The next line that a shard has is that of the first answer that is left of it.
+  pub next_line : Next answers bytes lens at next len
   next_line = next_of is.told is.all is.text lengths_are
 
 -- a beginning of the first line is one of all
-pub first_begins : (out out' : Option (List ℕ)) (replies : List Reply) (first : Reply) (others : List Reply)
-    → replies ≡ first ∷ others
-    → AppendsBeginning out out' (reply_line first) → AppendsBeginning out out' (flat_map reply_line replies)
-first_begins out out' replies first others all begun = (
+pub first_begins : (out out' : Option (List ℕ)) (answers : List (List ℕ)) (first : List ℕ) (others : List (List ℕ))
+    → answers ≡ first ∷ others
+    → AppendsBeginning out out' first → AppendsBeginning out out' (flat_map whole answers)
+first_begins out out' answers first others all begun = (
   begun.0,
   begun.1,
   (
-    begun.2.0 ++ flat_map reply_line others,
-    ap (flat_map reply_line) all
-        ∙ flat_map-cons reply_line first others
-        ∙ ap (λ l. l ++ flat_map reply_line others) begun.2.1
-        ∙ append_assoc begun.0 begun.2.0 (flat_map reply_line others),
+    begun.2.0 ++ flat_map whole others,
+    ap (flat_map whole) all
+        ∙ flat_map-cons whole first others
+        ∙ ap (λ l. l ++ flat_map whole others) begun.2.1
+        ∙ append_assoc begun.0 begun.2.0 (flat_map whole others),
   ),
 )
 
@@ -177,27 +174,27 @@ none_begins out all = ([], Appends-nil out, (all, refl))
 -- ---- in the order of the lines
 
 -- one line more is written
-pub writes_more : (out mid out' : Option (List ℕ)) (done : List Reply) (reply : Reply)
-    → Appends out mid (flat_map reply_line done) → Appends mid out' (reply_line reply)
-    → Appends out out' (flat_map reply_line (done ++ reply ∷ []))
-writes_more out mid out' done reply p q =
-    subst (Appends out out') (sym (flat_map-append reply_line done (reply ∷ []) ∙ ap
-    (λ l. flat_map reply_line done ++ l) (flat_map-cons reply_line reply [] ∙ append-nil (reply_line reply))))
+pub writes_more : (out mid out' : Option (List ℕ)) (done : List (List ℕ)) (answer : List ℕ)
+    → Appends out mid (flat_map whole done) → Appends mid out' answer
+    → Appends out out' (flat_map whole (done ++ answer ∷ []))
+writes_more out mid out' done answer p q =
+    subst (Appends out out') (sym (flat_map-append whole done (answer ∷ []) ∙ ap
+    (λ l. flat_map whole done ++ l) (flat_map-cons whole answer [] ∙ append-nil answer)))
     (Appends-trans _ _ _ _ _ p q)
 
 -- a beginning of what is left is written
-pub writes_some : (out mid out' : Option (List ℕ)) (done left all : List Reply)
-    → done ++ left ≡ all → Appends out mid (flat_map reply_line done)
-    → AppendsBeginning mid out' (flat_map reply_line left) → AppendsBeginning out out' (flat_map reply_line all)
+pub writes_some : (out mid out' : Option (List ℕ)) (done left all : List (List ℕ))
+    → done ++ left ≡ all → Appends out mid (flat_map whole done)
+    → AppendsBeginning mid out' (flat_map whole left) → AppendsBeginning out out' (flat_map whole all)
 writes_some out mid out' done left all is p q = (
-  flat_map reply_line done ++ q.0,
+  flat_map whole done ++ q.0,
   Appends-trans _ _ _ _ _ p q.1,
   (
     q.2.0,
-    ap (flat_map reply_line) (sym is)
-        ∙ flat_map-append reply_line done left
-        ∙ ap (λ l. flat_map reply_line done ++ l) q.2.1
-        ∙ sym (append_assoc (flat_map reply_line done) q.0 q.2.0),
+    ap (flat_map whole) (sym is)
+        ∙ flat_map-append whole done left
+        ∙ ap (λ l. flat_map whole done ++ l) q.2.1
+        ∙ sym (append_assoc (flat_map whole done) q.0 q.2.0),
   ),
 )
 
@@ -216,11 +213,11 @@ on_err (Err e) P Q p f = f p
 -- the next line of a shard is written
 pub wrote_next : (out out' : Option (List ℕ)) (bytes lens : List ℕ) (at next len : ℕ) (line : List ℕ)
     → next < length lens → len ≡ get_or lens next 0 → line ≡ take len (drop at bytes) → Appends out out' line
-    → (replies : List Reply) → Told replies bytes lens at next
-    → WroteFirst out out' replies bytes lens (at + len) (next + 1)
-wrote_next out out' bytes lens at next len line more is part grown replies told =
-    let one = next_line replies bytes lens at next told more in
-    let same : line ≡ reply_line one.first = part ∙ ap (λ n. take n (drop at bytes)) is ∙ one.line in
+    → (answers : List (List ℕ)) → Told answers bytes lens at next
+    → WroteFirst out out' answers bytes lens (at + len) (next + 1)
+wrote_next out out' bytes lens at next len line more is part grown answers told =
+    let one = next_line answers bytes lens at next told more in
+    let same : line ≡ one.first = part ∙ ap (λ n. take n (drop at bytes)) is ∙ one.line in
     record {
       first = one.first;
       others = one.others;
@@ -229,51 +226,52 @@ wrote_next out out' bytes lens at next len line more is part grown replies told 
       left = subst (λ n. Told one.others bytes lens (at + n) (next + 1)) (sym is) one.left;
     }
 
--- A beginning of a shard's next line is one of its first reply's line.
+-- A beginning of a shard's next line is one of its first answer's line.
 pub wrote_some : (out out' : Option (List ℕ)) (bytes lens : List ℕ) (at next len : ℕ) (line : List ℕ)
     → next < length lens → len ≡ get_or lens next 0 → line ≡ take len (drop at bytes) → AppendsBeginning out out' line
-    → (replies : List Reply) → Told replies bytes lens at next
-    → AppendsBeginning out out' (reply_line (first_of replies))
-wrote_some out out' bytes lens at next len line more is part begun replies told =
-    let one = next_line replies bytes lens at next told more in
-    let same : line ≡ reply_line one.first = part ∙ ap (λ n. take n (drop at bytes)) is ∙ one.line in
-    subst (λ (rs : List Reply). AppendsBeginning out out' (reply_line (first_of rs)))
+    → (answers : List (List ℕ)) → Told answers bytes lens at next
+    → AppendsBeginning out out' (first_of answers)
+wrote_some out out' bytes lens at next len line more is part begun answers told =
+    let one = next_line answers bytes lens at next told more in
+    let same : line ≡ one.first = part ∙ ap (λ n. take n (drop at bytes)) is ∙ one.line in
+    subst (λ (rs : List (List ℕ)). AppendsBeginning out out' (first_of rs))
     (sym one.all) (subst (AppendsBeginning out out') same begun)
 
 -- ---- one place
 
--- Writing the reply to a line that gave no step leaves the replies of the shards as they are.
+-- Writing the answer to a line that gave no step leaves the answers of the shards as they are.
 pub wrote_here : (out out' : Option (List ℕ))
-    (place : Place) (fault : LineFault) (reply : Reply) (left : ℕ → List Reply) (Holds : (ℕ → List Reply) → Type 0)
-    → place ≡ Here fault → reply ≡ reply_upon fault
-    → Appends out out' (reply_line reply) → Holds left → WroteOne out out' place left Holds
-wrote_here out out' place fault reply left Holds is told grown holds =
+    (place : Place) (fault : LineFault) (answer : List ℕ) (left : ℕ → List (List ℕ))
+    (Holds : (ℕ → List (List ℕ)) → Type 0)
+    → place ≡ Here fault → answer ≡ fault_answer fault
+    → Appends out out' answer → Holds left → WroteOne out out' place left Holds
+wrote_here out out' place fault answer left Holds is told grown holds =
     subst (λ p. WroteOne out out' p left Holds) (sym is)
     (record {
-      reply = reply_upon fault;
+      answer = fault_answer fault;
       others = left;
       goes_on = λ places. refl;
-      written = subst (λ r. Appends out out' (reply_line r)) told grown;
+      written = subst (λ r. Appends out out' r) told grown;
       holds = holds;
     })
 
--- A beginning of the first line's reply, where that gave no step, begins what is to be written.
+-- A beginning of the first line's answer, where that gave no step, begins what is to be written.
 pub begins_here : (out out' : Option (List ℕ))
-    (place : Place) (fault : LineFault) (reply : Reply) (left : ℕ → List Reply) (places : List Place)
-    → place ≡ Here fault → reply ≡ reply_upon fault → AppendsBeginning out out' (reply_line reply)
-    → AppendsBeginning out out' (flat_map reply_line (merged (place ∷ places) left))
-begins_here out out' place fault reply left places is told begun =
-    subst (λ p. AppendsBeginning out out' (flat_map reply_line (merged (p ∷ places) left))) (sym is)
-    (first_begins out out' (merged (Here fault ∷ places) left) (reply_upon fault)
-    (merged places left) refl (subst (λ r. AppendsBeginning out out' (reply_line r)) told begun))
+    (place : Place) (fault : LineFault) (answer : List ℕ) (left : ℕ → List (List ℕ)) (places : List Place)
+    → place ≡ Here fault → answer ≡ fault_answer fault → AppendsBeginning out out' answer
+    → AppendsBeginning out out' (flat_map whole (merged (place ∷ places) left))
+begins_here out out' place fault answer left places is told begun =
+    subst (λ p. AppendsBeginning out out' (flat_map whole (merged (p ∷ places) left))) (sym is)
+    (first_begins out out' (merged (Here fault ∷ places) left) (fault_answer fault)
+    (merged places left) refl (subst (λ r. AppendsBeginning out out' r) told begun))
 
 module _ {X C : Type 0} (bytes lens : X → List ℕ) (at next : C → ℕ) (shards : List X) where
-  abbrev pub AllTold : (ℕ → List Reply) → List C → Type 0
+  abbrev pub AllTold : (ℕ → List (List ℕ)) → List C → Type 0
   AllTold left cursors = (i : ℕ) (d : X) (e : C) → i < length shards → Told (left i)
       (bytes (get_or shards i d)) (lens (get_or shards i d)) (at (get_or cursors i e)) (next (get_or cursors i e))
 
-  module _ (cursors : List C) (left : ℕ → List Reply)
-      (all : AllTold left cursors) (i : ℕ) (x : X) (v : C) (first : Reply) (others : List Reply)
+  module _ (cursors : List C) (left : ℕ → List (List ℕ))
+      (all : AllTold left cursors) (i : ℕ) (x : X) (v : C) (first : List ℕ) (others : List (List ℕ))
       (within : i < length shards) (long : length cursors ≡ length shards) (is : x ≡ get_or shards i x)
       (split : left i ≡ first ∷ others) (told : Told others (bytes x) (lens x) (at v) (next v)) where
     told_here : (d : X) (e : C) → Told (after_first i left i) (bytes (get_or shards i d))
@@ -284,7 +282,7 @@ module _ {X C : Type 0} (bytes lens : X → List ℕ) (at next : C → ℕ) (sha
         let shard : get_or shards i d ≡ x = get_or_default shards i d x within ∙ sym is in
         let cursor : get_or (set cursors i v) i e ≡ v =
         get_or-set_same cursors i v e (subst (λ n. i < n) (sym long) within) in
-        subst (λ (rs : List Reply). Told rs (bytes (get_or shards i d)) (lens (get_or shards i d))
+        subst (λ (rs : List (List ℕ)). Told rs (bytes (get_or shards i d)) (lens (get_or shards i d))
         (at (get_or (set cursors i v) i e)) (next (get_or (set cursors i v) i e))) (sym rest)
         (subst (λ (y : X). Told others (bytes y)
         (lens y) (at (get_or (set cursors i v) i e)) (next (get_or (set cursors i v) i e))) (sym shard)
@@ -297,7 +295,7 @@ module _ {X C : Type 0} (bytes lens : X → List ℕ) (at next : C → ℕ) (sha
         let rest : after_first i left j ≡ left j = ap (λ b. cond b (rest_of (left j)) (left j)) (ne_eqb i j ne) in
         let cursor : get_or (set cursors i v) j e ≡ get_or cursors j e =
         get_or-set_other cursors i j v e (λ q. ne (sym q)) in
-        subst (λ (rs : List Reply). Told rs (bytes (get_or shards j d)) (lens (get_or shards j d))
+        subst (λ (rs : List (List ℕ)). Told rs (bytes (get_or shards j d)) (lens (get_or shards j d))
         (at (get_or (set cursors i v) j e)) (next (get_or (set cursors i v) j e))) (sym rest)
         (subst (λ (w : C). Told (left j) (bytes (get_or shards j d)) (lens (get_or shards j d)) (at w) (next w))
         (sym cursor) (all j d e h))
@@ -310,12 +308,12 @@ module _ {X C : Type 0} (bytes lens : X → List ℕ) (at next : C → ℕ) (sha
           | inr ne ↦ told_apart j d e h ne
         ]
 
-    pub wrote_dealt : (out out' : Option (List ℕ)) → Appends out out' (reply_line first)
+    pub wrote_dealt : (out out' : Option (List ℕ)) → Appends out out' first
         → WroteOne out out' (Dealt i) left (λ rest. AllTold rest (set cursors i v))
     wrote_dealt out out' grown = record {
-      reply = first;
+      answer = first;
       others = after_first i left;
-      goes_on = λ places. ap (λ (rs : List Reply). first_of rs ∷ merged places (after_first i left)) split;
+      goes_on = λ places. ap (λ (rs : List (List ℕ)). first_of rs ∷ merged places (after_first i left)) split;
       written = grown;
       holds = told_others;
     }
@@ -326,8 +324,8 @@ module _ {X C : Type 0} (bytes lens : X → List ℕ) (at next : C → ℕ) (sha
       (bs ls : List ℕ) (within : i < length shards) (long : length cursors ≡ length shards) (is : x ≡ get_or shards i x)
       (from : w ≡ get_or cursors i e) (bs_are : bs ≡ bytes x)
       (ls_are : ls ≡ lens x) (place : Place) (at_i : place ≡ Dealt i) (out out' : Option (List ℕ)) where
-    -- At a shard's cursor stand the lines of the replies that are left of it.
-    pub told_first : (left : ℕ → List Reply) → AllTold left cursors → Told (left i) bs ls (at w) (next w)
+    -- At a shard's cursor stand the lines of the answers that are left of it.
+    pub told_first : (left : ℕ → List (List ℕ)) → AllTold left cursors → Told (left i) bs ls (at w) (next w)
     told_first left all =
         subst (λ (b : List ℕ). Told (left i) b ls (at w) (next w)) (sym bs_are)
         (subst (λ (l : List ℕ). Told (left i) (bytes x) l (at w) (next w)) (sym ls_are)
@@ -336,9 +334,9 @@ module _ {X C : Type 0} (bytes lens : X → List ℕ) (at next : C → ℕ) (sha
         (sym from) (all i x e within))))
 
     -- Where a shard's next line is written, its place is, and the cursor behind it fits what is left.
-    pub dealt_ok : ((replies : List Reply)
-        → Told replies bs ls (at w) (next w) → WroteFirst out out' replies bs ls (at v) (next v))
-        → (left : ℕ → List Reply)
+    pub dealt_ok : ((answers : List (List ℕ))
+        → Told answers bs ls (at w) (next w) → WroteFirst out out' answers bs ls (at v) (next v))
+        → (left : ℕ → List (List ℕ))
         → AllTold left cursors → WroteOne out out' place left (λ rest. AllTold rest (set cursors i v))
     dealt_ok wrote left all =
         let one = wrote (left i) (told_first left all) in
@@ -349,38 +347,38 @@ module _ {X C : Type 0} (bytes lens : X → List ℕ) (at next : C → ℕ) (sha
         (wrote_dealt cursors left all i x v one.first one.others within long is one.all others out out' one.written)
 
     -- A beginning of a shard's next line, where its place is first, begins what is to be written.
-    pub dealt_err : ((replies : List Reply)
-        → Told replies bs ls (at w) (next w) → AppendsBeginning out out' (reply_line (first_of replies)))
-        → (left : ℕ → List Reply) (places : List Place)
-        → AllTold left cursors → AppendsBeginning out out' (flat_map reply_line (merged (place ∷ places) left))
+    pub dealt_err : ((answers : List (List ℕ))
+        → Told answers bs ls (at w) (next w) → AppendsBeginning out out' (first_of answers))
+        → (left : ℕ → List (List ℕ)) (places : List Place)
+        → AllTold left cursors → AppendsBeginning out out' (flat_map whole (merged (place ∷ places) left))
     dealt_err begun left places all =
-        subst (λ p. AppendsBeginning out out' (flat_map reply_line (merged (p ∷ places) left))) (sym at_i)
+        subst (λ p. AppendsBeginning out out' (flat_map whole (merged (p ∷ places) left))) (sym at_i)
         (first_begins out out' (merged (Dealt i ∷ places) left)
         (first_of (left i)) (merged places (after_first i left)) refl (begun (left i) (told_first left all)))
 
   -- ---- all places
 
-  -- whatever the replies are whose lines stand in the shards, those of the places before these are written
+  -- whatever the answers are whose lines stand in the shards, those of the places before these are written
   abbrev pub Written : List Place → List Place → List C → Option (List ℕ) → Option (List ℕ) → Type 0
   Written places rest cursors out out' =
-      (replies : ℕ → List Reply) → ((i : ℕ) (d : X)
-      → i < length shards → Told (replies i) (bytes (get_or shards i d)) (lens (get_or shards i d)) 0 0)
-      → (left : ℕ → List Reply) × (done : List Reply) × AllTold left cursors
-      × (done ++ merged rest left ≡ merged places replies) × Appends out out' (flat_map reply_line done)
+      (answers : ℕ → List (List ℕ)) → ((i : ℕ) (d : X)
+      → i < length shards → Told (answers i) (bytes (get_or shards i d)) (lens (get_or shards i d)) 0 0)
+      → (left : ℕ → List (List ℕ)) × (done : List (List ℕ)) × AllTold left cursors
+      × (done ++ merged rest left ≡ merged places answers) × Appends out out' (flat_map whole done)
 
-  -- With each cursor at the beginning, no place's reply is written yet.
+  -- With each cursor at the beginning, no place's answer is written yet.
   pub written_none : (places : List Place) (cursors : List C) (out : Option (List ℕ)) (n : ℕ) (z : C)
       → cursors ≡ replicate n z → n ≡ length shards → at z ≡ 0 → next z ≡ 0
       → Written places places cursors out out
-  written_none places cursors out n z are few first begin replies all = (
-    replies,
+  written_none places cursors out n z are few first begin answers all = (
+    answers,
     [],
     λ i d e h.
         let here : get_or cursors i e ≡ z =
         ap (λ l. get_or l i e) are ∙ get_or-replicate n i z e (subst (λ m. i < m) (sym few) h) in
-        subst (λ m. Told (replies i) (bytes (get_or shards i d))
+        subst (λ m. Told (answers i) (bytes (get_or shards i d))
         (lens (get_or shards i d)) m (next (get_or cursors i e))) (sym (ap at here ∙ first))
-        (subst (λ m. Told (replies i) (bytes (get_or shards i d)) (lens (get_or shards i d)) 0 m)
+        (subst (λ m. Told (answers i) (bytes (get_or shards i d)) (lens (get_or shards i d)) 0 m)
         (sym (ap next here ∙ begin)) (all i d h)),
     refl,
     Appends-nil out,
@@ -391,39 +389,39 @@ module _ {X C : Type 0} (bytes lens : X → List ℕ) (at next : C → ℕ) (sha
     so_far : Written places (place ∷ rest) cursors out mid
     so_far = subst (λ (l : List Place). Written places l cursors out mid) next_is so_far'
 
-    -- Where the next place's reply is written too, so are those of all places up to it.
-    pub written_more : (cursors' : List C) (out' : Option (List ℕ)) → ((left : ℕ → List Reply)
+    -- Where the next place's answer is written too, so are those of all places up to it.
+    pub written_more : (cursors' : List C) (out' : Option (List ℕ)) → ((left : ℕ → List (List ℕ))
         → AllTold left cursors → WroteOne mid out' place left (λ others. AllTold others cursors'))
         → Written places rest cursors' out out'
-    written_more cursors' out' wrote replies all =
-        let so = so_far replies all in
+    written_more cursors' out' wrote answers all =
+        let so = so_far answers all in
         let one = wrote so.0 so.2 in (
           one.others,
-          so.1 ++ one.reply ∷ [],
+          so.1 ++ one.answer ∷ [],
           one.holds,
-          append_assoc so.1 (one.reply ∷ []) (merged rest one.others)
+          append_assoc so.1 (one.answer ∷ []) (merged rest one.others)
               ∙ ap (λ l. so.1 ++ l) (sym (one.goes_on rest)) ∙ so.3,
-          writes_more out mid out' so.1 one.reply so.4 one.written,
+          writes_more out mid out' so.1 one.answer so.4 one.written,
         )
 
-    -- Where writing broke off at a place, a beginning of all the replies is written.
+    -- Where writing broke off at a place, a beginning of all the answers is written.
     pub written_some : (out' : Option (List ℕ))
-        → ((left : ℕ → List Reply) (places : List Place)
-        → AllTold left cursors → AppendsBeginning mid out' (flat_map reply_line (merged (place ∷ places) left)))
-        → (replies : ℕ → List Reply) → ((i : ℕ) (d : X)
-        → i < length shards → Told (replies i) (bytes (get_or shards i d)) (lens (get_or shards i d)) 0 0)
-        → AppendsBeginning out out' (flat_map reply_line (merged places replies))
-    written_some out' begun replies all =
-        let so = so_far replies all in
+        → ((left : ℕ → List (List ℕ)) (places : List Place)
+        → AllTold left cursors → AppendsBeginning mid out' (flat_map whole (merged (place ∷ places) left)))
+        → (answers : ℕ → List (List ℕ)) → ((i : ℕ) (d : X)
+        → i < length shards → Told (answers i) (bytes (get_or shards i d)) (lens (get_or shards i d)) 0 0)
+        → AppendsBeginning out out' (flat_map whole (merged places answers))
+    written_some out' begun answers all =
+        let so = so_far answers all in
         writes_some out mid out'
-        so.1 (merged (place ∷ rest) so.0) (merged places replies) so.3 so.4 (begun so.0 rest so.2)
+        so.1 (merged (place ∷ rest) so.0) (merged places answers) so.3 so.4 (begun so.0 rest so.2)
 
-  -- Where no place is left, the replies of all places are written in their order.
+  -- Where no place is left, the answers of all places are written in their order.
   pub written_all : (places : List Place) (cursors : List C) (out out' : Option (List ℕ))
       → Written places [] cursors out out'
-      → (replies : ℕ → List Reply) → ((i : ℕ) (d : X)
-      → i < length shards → Told (replies i) (bytes (get_or shards i d)) (lens (get_or shards i d)) 0 0)
-      → Appends out out' (flat_map reply_line (merged places replies))
-  written_all places cursors out out' so_far replies all =
-      let so = so_far replies all in
-      subst (λ (l : List Reply). Appends out out' (flat_map reply_line l)) (sym (append-nil so.1) ∙ so.3) so.4
+      → (answers : ℕ → List (List ℕ)) → ((i : ℕ) (d : X)
+      → i < length shards → Told (answers i) (bytes (get_or shards i d)) (lens (get_or shards i d)) 0 0)
+      → Appends out out' (flat_map whole (merged places answers))
+  written_all places cursors out out' so_far answers all =
+      let so = so_far answers all in
+      subst (λ (l : List (List ℕ)). Appends out out' (flat_map whole l)) (sym (append-nil so.1) ∙ so.3) so.4

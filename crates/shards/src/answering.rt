@@ -4,10 +4,9 @@ ghost use Rattle.std.specs.Prelude.{◌≡◌, ◌≢◌, ◌<◌, ◌≤◌, �
 ghost use Rattle.std.specs.Prelude.{Ok, Err, Result, length, map, min, slice_index_or, vec_capacity};
 ghost use Rattle.std.specs.Io.KnownBytes.{Appends};
 ghost use Rattle.model.specs.Failures.{HasRisen};
-ghost use Rattle.model.specs.declared.replies.Reply.{Reply as ReplyOf};
 ghost use Rattle.model.specs.declared.steps.Step.{Step as StepOf};
 ghost use Rattle.forms.specs.declared.fault.LineFault.{LineFault as FaultOf};
-ghost use Rattle.dealing.specs.Dealing.{HostsDo, dealt};
+ghost use Rattle.dealing.specs.Dealing.{OneDoes, dealt};
 ghost use Rattle.written.specs.Beginnings.{AppendsBeginning};
 ghost use Rattle.shards.specs.Blocks.{AnswersEachBy, AnswersLines, AreDealtTo, AreIdle, DealsMore, IsBelow, IsReadOr};
 ghost use Rattle.shards.specs.Blocks.{RanShard, Told, merged};
@@ -19,11 +18,10 @@ use crate::kept::{Lines, MOST_LINES};
 use crate::place::Place;
 use crate::reading::{Reader, read_shares, share_start};
 use crate::shard::Shard;
+use crate::stepper::Stepper;
 use crate::writing::write_all;
-use handler::Handler;
 use lines::{Counted, LineFault, ServeFault};
 use model::Step;
-use shared_log::Store;
 use std::alloc::Global;
 use std::io::Write;
 use std::thread;
@@ -34,23 +32,23 @@ const THREADED: usize = 64;
 
 /// Answers these lines.
 ///
-/// `Write` comes only where the writer failed, and `NoMemory` where there was none for a reply's text. All steps are
-/// done then too, and a beginning of the replies may be written.
-pub(crate) fn answer<T: Threads + Sync, W: Write, H: Handler + Send, S: Store + Send>(
+/// `Write` comes only where the writer failed, and `NoMemory` where there was none for an answer. All steps are done
+/// then too, and a beginning of the answers may be written.
+pub(crate) fn answer<T: Threads + Sync, W: Write, X: Stepper>(
     rt: &T,
     alloc: Global,
     writer: &mut Counted<W>,
-    shards: &mut [Shard<H, S>],
+    shards: &mut [Shard<X>],
     lines: &Lines,
     desk: &mut Desk,
 ) -> Result<(), ServeFault>
     requires some { 0 < length shards.old }
     requires idle { AreIdle (map (λ s. s.steps.items) shards.old) }
-    ensures ok { OnOk result (AnswersLines H.meaning (dealt (length shards.old)) lines.now
-        (map (λ s. s.host) shards.old) (map (λ s. s.host) shards.new)
+    ensures ok { OnOk result (AnswersLines (OneDoes X.does (dealt (length shards.old))) lines.now
+        (map (λ s. s.stepper) shards.old) (map (λ s. s.stepper) shards.new)
         (Appends (W.contents writer.old.inner) (W.contents writer.new.inner))) }
-    ensures err { OnErr result (AnswersLines H.meaning (dealt (length shards.old)) lines.now
-        (map (λ s. s.host) shards.old) (map (λ s. s.host) shards.new)
+    ensures err { OnErr result (AnswersLines (OneDoes X.does (dealt (length shards.old))) lines.now
+        (map (λ s. s.stepper) shards.old) (map (λ s. s.stepper) shards.new)
         (AppendsBeginning (W.contents writer.old.inner) (W.contents writer.new.inner))) }
     ensures idle { AreIdle (map (λ s. s.steps.items) shards.new) }
     ensures write { result ≡ Err ServeFault.Write → HasRisen writer.old.failed writer.new.failed }
@@ -61,22 +59,22 @@ pub(crate) fn answer<T: Threads + Sync, W: Write, H: Handler + Send, S: Store + 
     write_all(alloc, writer, shards, desk.places.as_slice(), &desk.faults)
 }
 
-/// Reads these lines and does their steps, and writes no reply. Where there are enough of them, they are read in
+/// Reads these lines and does their steps, and writes no answer. Where there are enough of them, they are read in
 /// threads, and each shard does its steps in a thread of its own.
-pub(crate) fn step_lines<T: Threads + Sync, H: Handler + Send, S: Store + Send>(
+pub(crate) fn step_lines<T: Threads + Sync, X: Stepper>(
     rt: &T,
-    shards: &mut [Shard<H, S>],
+    shards: &mut [Shard<X>],
     lines: &Lines,
     desk: &mut Desk,
 )
     requires some { 0 < length shards.old }
     requires idle { AreIdle (map (λ s. s.steps.items) shards.old) }
-    ensures stepped { (readings : List (Result StepOf FaultOf)) × (replies : ℕ → List ReplyOf)
+    ensures stepped { (readings : List (Result StepOf FaultOf)) × (answers : ℕ → List (List ℕ))
         × AreReadFrom lines.now 0 readings × (length readings ≡ length lines.now)
-        × AnswersEachBy (HostsDo H.meaning (dealt (length shards.old))) readings (map (λ s. s.host) shards.old)
-        (merged desk.new.places.items replies) (map (λ s. s.host) shards.new)
+        × AnswersEachBy (OneDoes X.does (dealt (length shards.old))) readings (map (λ s. s.stepper) shards.old)
+        (merged desk.new.places.items answers) (map (λ s. s.stepper) shards.new)
         × All (IsBelow (length shards.new)) desk.new.places.items
-        × ((i : ℕ) (d : _) → i < length shards.new → Told (replies i) (slice_index_or shards.new i d).bytes.items
+        × ((i : ℕ) (d : _) → i < length shards.new → Told (answers i) (slice_index_or shards.new i d).bytes.items
         (slice_index_or shards.new i d).lens.items 0 0) }
     ensures idle { AreIdle (map (λ s. s.steps.items) shards.new) }
 {
@@ -93,11 +91,11 @@ pub(crate) fn step_lines<T: Threads + Sync, H: Handler + Send, S: Store + Send>(
 }
 
 /// Reads these lines, and deals what was read.
-fn read_and_deal<T: Threads + Sync, H: Handler, S: Store>(
+fn read_and_deal<T: Threads + Sync, X: Stepper>(
     rt: &T,
     lines: &Lines,
     readers: &mut [Reader],
-    shards: &mut [Shard<H, S>],
+    shards: &mut [Shard<X>],
     places: &mut Vec<Place>,
 )
     requires some { 0 < length shards.old }
@@ -105,7 +103,7 @@ fn read_and_deal<T: Threads + Sync, H: Handler, S: Store>(
     requires room { MOST_LINES ≤ vec_capacity places.old }
     requires none { places.old.items ≡ [] }
     requires idle { AreIdle (map (λ s. s.steps.items) shards.old) }
-    ensures hosts { map (λ s. s.host) shards.new ≡ map (λ s. s.host) shards.old }
+    ensures steppers { map (λ s. s.stepper) shards.new ≡ map (λ s. s.stepper) shards.old }
     ensures dealt { AreDealtTo (dealt (length shards.old)) lines.now (length lines.now) places.new.items
         (map (λ s. s.steps.items) shards.new) }
     ensures capacity { vec_capacity places.new ≡ vec_capacity places.old }
@@ -118,11 +116,11 @@ fn read_and_deal<T: Threads + Sync, H: Handler, S: Store>(
 }
 
 /// Deals what the readers read of their shares.
-fn deal_shares<H: Handler, S: Store>(
+fn deal_shares<X: Stepper>(
     lines: &Lines,
     size: usize,
     readers: &mut [Reader],
-    shards: &mut [Shard<H, S>],
+    shards: &mut [Shard<X>],
     places: &mut Vec<Place>,
 )
     requires some { 0 < length shards.old }
@@ -132,7 +130,7 @@ fn deal_shares<H: Handler, S: Store>(
         → AreReadFrom lines.now (min (i * size) (length lines.now)) (slice_index_or readers.old i d).found.items }
     requires dealt { AreDealtTo (dealt (length shards.old)) lines.now 0 places.old.items
         (map (λ s. s.steps.items) shards.old) }
-    ensures hosts { map (λ s. s.host) shards.new ≡ map (λ s. s.host) shards.old }
+    ensures steppers { map (λ s. s.stepper) shards.new ≡ map (λ s. s.stepper) shards.old }
     ensures dealt { AreDealtTo (dealt (length shards.old)) lines.now (length lines.now) places.new.items
         (map (λ s. s.steps.items) shards.new) }
     ensures capacity { vec_capacity places.new ≡ vec_capacity places.old }
@@ -146,12 +144,12 @@ fn deal_shares<H: Handler, S: Store>(
 }
 
 /// Deals what a reader read of the lines from one place up to another.
-fn deal_share<H: Handler, S: Store>(
+fn deal_share<X: Stepper>(
     lines: &Lines,
     from: usize,
     to: usize,
     reader: &mut Reader,
-    shards: &mut [Shard<H, S>],
+    shards: &mut [Shard<X>],
     places: &mut Vec<Place>,
 )
     requires some { 0 < length shards.old }
@@ -162,7 +160,7 @@ fn deal_share<H: Handler, S: Store>(
     requires read { AreReadFrom lines.now from reader.old.found.items }
     requires dealt { AreDealtTo (dealt (length shards.old)) lines.now from places.old.items
         (map (λ s. s.steps.items) shards.old) }
-    ensures hosts { map (λ s. s.host) shards.new ≡ map (λ s. s.host) shards.old }
+    ensures steppers { map (λ s. s.stepper) shards.new ≡ map (λ s. s.stepper) shards.old }
     ensures dealt { AreDealtTo (dealt (length shards.old)) lines.now to places.new.items
         (map (λ s. s.steps.items) shards.new) }
     ensures capacity { vec_capacity places.new ≡ vec_capacity places.old }
@@ -176,7 +174,7 @@ fn deal_share<H: Handler, S: Store>(
 
 /// In how many threads the steps that wait are done: in one for each shard where there are enough of them, and no shard
 /// has most of them. A step in a thread of its own takes up to a half longer than in the one that was there before.
-fn threads_for<H: Handler, S: Store>(shards: &[Shard<H, S>]) -> usize
+fn threads_for<X: Stepper>(shards: &[Shard<X>]) -> usize
     requires { 0 < length shards.now }
     ensures { 0 < result }
 {
@@ -196,12 +194,9 @@ fn threads_for<H: Handler, S: Store>(shards: &[Shard<H, S>]) -> usize
 
 /// Deals what was read of a line, and tells where it is answered. A step for which there is no memory is one that was
 /// not read.
-fn deal_one<H: Handler, S: Store>(
-    shards: &mut [Shard<H, S>],
-    read: Result<Step, LineFault>,
-) -> Place
+fn deal_one<X: Stepper>(shards: &mut [Shard<X>], read: Result<Step, LineFault>) -> Place
     requires { 0 < length shards.old }
-    ensures hosts { map (λ s. s.host) shards.new ≡ map (λ s. s.host) shards.old }
+    ensures steppers { map (λ s. s.stepper) shards.new ≡ map (λ s. s.stepper) shards.old }
     ensures dealt { (reading : Result StepOf FaultOf) × IsReadOr read reading
         × DealsMore (dealt (length shards.old)) reading result (map (λ s. s.steps.items) shards.old)
         (map (λ s. s.steps.items) shards.new) }
@@ -219,15 +214,11 @@ fn deal_one<H: Handler, S: Store>(
 }
 
 /// Does each shard's steps, in at most so many threads.
-fn run_all<T: Threads + Sync, H: Handler + Send, S: Store + Send>(
-    rt: &T,
-    shards: &mut [Shard<H, S>],
-    threads: usize,
-)
+fn run_all<T: Threads + Sync, X: Stepper>(rt: &T, shards: &mut [Shard<X>], threads: usize)
     requires { 0 < threads }
     ensures ran { (i : ℕ) (d : _) → i < length shards.old
-        → RanShard H.meaning (slice_index_or shards.old i d).steps.items (slice_index_or shards.old i d).host
-        (slice_index_or shards.new i d).host (slice_index_or shards.new i d).bytes.items
+        → RanShard X.does (slice_index_or shards.old i d).steps.items (slice_index_or shards.old i d).stepper
+        (slice_index_or shards.new i d).stepper (slice_index_or shards.new i d).bytes.items
         (slice_index_or shards.new i d).lens.items }
     ensures steps { (i : ℕ) (d : _) → i < length shards.old → (slice_index_or shards.new i d).steps.items ≡ [] }
 {
@@ -235,9 +226,9 @@ fn run_all<T: Threads + Sync, H: Handler + Send, S: Store + Send>(
         rt,
         shards,
         threads,
-        &|_at, shard: &mut Shard<H, S>|
-            ensures ran { RanShard H.meaning shard.entry.now.steps.items shard.entry.now.host
-                shard.exit.now.host shard.exit.now.bytes.items shard.exit.now.lens.items }
+        &|_at, shard: &mut Shard<X>|
+            ensures ran { RanShard X.does shard.entry.now.steps.items shard.entry.now.stepper
+                shard.exit.now.stepper shard.exit.now.bytes.items shard.exit.now.lens.items }
             ensures steps { shard.exit.now.steps.items ≡ [] }
         { shard.run() },
     );

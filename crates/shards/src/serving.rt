@@ -1,12 +1,12 @@
-//! Serving by shards.
+//! Answering by shards.
 
 ghost use Rattle.std.specs.Prelude.{◌≡◌, ◌≢◌, ◌<◌, ◌≤◌, ◌+◌, ◌^◌, ℕ, List, [], Option, IfOk, OnOk, OnErr, Ok, Err};
 ghost use Rattle.std.specs.Prelude.{false, true, length, map, vec_capacity};
 ghost use Rattle.model.specs.Failures.{HasRisen};
-ghost use Rattle.lines.specs.Serving.{ServedAllBy, ServedSomeBy, ServesBy};
+ghost use Rattle.lines.specs.Serving.{ServedAllBy, ServedSomeBy};
 ghost use Rattle.shards.specs.Blocks.{AreIdle};
-ghost use Rattle.dealing.specs.Dealing.{HostsDo, ShardsServe, dealt};
-ghost use Rattle.shards.specs.Underway.{Ends, Stopped, Turns, Underway};
+ghost use Rattle.dealing.specs.Dealing.{OneDoes, ShardsServe, dealt};
+ghost use Rattle.shards.specs.Underway.{AnsweredAll, AnsweredSome, Ends, Stopped, Turns, Underway};
 
 use crate::answering::{answer, step_lines};
 use crate::block::{Block, take_part};
@@ -14,6 +14,8 @@ use crate::desk::Desk;
 use crate::kept::MOST_LINES;
 use crate::shard::Shard;
 use crate::shards::Shards;
+use crate::stepper::Stepper;
+use book::Host;
 use handler::Handler;
 use lines::{Counted, ServeFault, flush_unless};
 use model::MAX_LINE_BYTES;
@@ -23,24 +25,14 @@ use std::io::{BufRead, Write};
 use std::thread::Threads;
 
 /// Answers each line of the input, in order, and tells how many there were, as `lines::serve_host` does by one host:
-/// whichever book the shards stood for before, what is written are the replies of that book, and the shards then
-/// stand for the book after them.
-///
-/// The lines that the reader shows at once are a block, as long as they aren't too many. Where there are enough of them
-/// and a thread can be started, they are read in as many threads as there are shards, and each shard does its own steps
-/// in a thread. Then the replies are written in the order of the lines. Before a read that may wait all lines are
-/// answered, and their replies flushed.
-///
-/// `Read` comes only where the reader failed, `Write` only where the writer failed, and `NoMemory` where there was no
-/// memory for a buffer or for a reply's text. After each the shards hold the steps so far, and what is written is a
-/// beginning of the replies to the lines read so far. Where the reader fails though it showed more, the replies of
-/// that block are not written.
+/// whichever book the hosts stood for before, what is written are the answers of that book, and the hosts then
+/// stand for the book after them. It reads, steps and writes as `answer_by_shards` does, with its faults.
 pub fn serve_shards<T: Threads + Sync, R: BufRead, W: Write, H: Handler + Send, S: Store + Send>(
     rt: &T,
     alloc: Global,
     reader: &mut Counted<R>,
     writer: &mut Counted<W>,
-    shards: &mut Shards<H, S>,
+    shards: &mut Shards<Host<H, S>>,
 ) -> Result<u64, ServeFault>
     ensures all { IfOk result (λ count. ServedAllBy (ShardsServe H.meaning) (R.remaining reader.old.inner)
         (W.contents writer.old.inner) (W.contents writer.new.inner) shards.old shards.new count) }
@@ -52,28 +44,62 @@ pub fn serve_shards<T: Threads + Sync, R: BufRead, W: Write, H: Handler + Send, 
     ensures read_same { result ≢ Err ServeFault.Read → reader.new.failed ≡ reader.old.failed }
     ensures write_same { result ≢ Err ServeFault.Write → writer.new.failed ≡ writer.old.failed }
 {
-    serve_on(rt, alloc, reader, writer, shards.shards.as_mut_slice())
+    answer_by_shards(rt, alloc, reader, writer, shards)
 }
 
-/// The same by a list of shards.
-fn serve_on<T: Threads + Sync, R: BufRead, W: Write, H: Handler + Send, S: Store + Send>(
+/// Answers each line of the input, in order, and tells how many there were: the step of each line is done by the shard
+/// that its tenant is dealt to, and the others stay.
+///
+/// The lines that the reader shows at once are a block, as long as they aren't too many. Where there are enough of them
+/// and a thread can be started, they are read in as many threads as there are shards, and each shard does its own steps
+/// in a thread. Then the answers are written in the order of the lines. Before a read that may wait all lines are
+/// answered, and their answers flushed.
+///
+/// `Read` comes only where the reader failed, `Write` only where the writer failed, and `NoMemory` where there was no
+/// memory for a buffer or for an answer. After each the shards hold the steps so far, and what is written is a
+/// beginning of the answers to the lines read so far. Where the reader fails though it showed more, the answers of
+/// that block are not written.
+pub fn answer_by_shards<T: Threads + Sync, R: BufRead, W: Write, X: Stepper>(
     rt: &T,
     alloc: Global,
     reader: &mut Counted<R>,
     writer: &mut Counted<W>,
-    shards: &mut [Shard<H, S>],
+    shards: &mut Shards<X>,
+) -> Result<u64, ServeFault>
+    ensures all { IfOk result (λ count. AnsweredAll (OneDoes X.does (dealt (length shards.old)))
+        (R.remaining reader.old.inner)
+        (W.contents writer.old.inner) (W.contents writer.new.inner) shards.old shards.new count) }
+    ensures some { OnErr result (AnsweredSome (OneDoes X.does (dealt (length shards.old)))
+        (R.remaining reader.old.inner) (R.remaining reader.new.inner)
+        (W.contents writer.old.inner) (W.contents writer.new.inner) shards.old shards.new) }
+    ensures many { length shards.new ≡ length shards.old }
+    ensures read { result ≡ Err ServeFault.Read → HasRisen reader.old.failed reader.new.failed }
+    ensures write { result ≡ Err ServeFault.Write → HasRisen writer.old.failed writer.new.failed }
+    ensures read_same { result ≢ Err ServeFault.Read → reader.new.failed ≡ reader.old.failed }
+    ensures write_same { result ≢ Err ServeFault.Write → writer.new.failed ≡ writer.old.failed }
+{
+    answer_on(rt, alloc, reader, writer, shards.shards.as_mut_slice())
+}
+
+/// The same by a list of shards.
+fn answer_on<T: Threads + Sync, R: BufRead, W: Write, X: Stepper>(
+    rt: &T,
+    alloc: Global,
+    reader: &mut Counted<R>,
+    writer: &mut Counted<W>,
+    shards: &mut [Shard<X>],
 ) -> Result<u64, ServeFault>
     requires some { 0 < length shards.old }
     requires idle { AreIdle (map (λ s. s.steps.items) shards.old) }
     ensures idle { AreIdle (map (λ s. s.steps.items) shards.new) }
-    ensures all { IfOk result (λ count. ServedAllBy (ServesBy (HostsDo H.meaning (dealt (length shards.old))))
+    ensures all { IfOk result (λ count. AnsweredAll (OneDoes X.does (dealt (length shards.old)))
         (R.remaining reader.old.inner)
-        (W.contents writer.old.inner) (W.contents writer.new.inner) (map (λ s. s.host) shards.old)
-        (map (λ s. s.host) shards.new) count) }
-    ensures some { OnErr result (ServedSomeBy (ServesBy (HostsDo H.meaning (dealt (length shards.old))))
+        (W.contents writer.old.inner) (W.contents writer.new.inner) (map (λ s. s.stepper) shards.old)
+        (map (λ s. s.stepper) shards.new) count) }
+    ensures some { OnErr result (AnsweredSome (OneDoes X.does (dealt (length shards.old)))
         (R.remaining reader.old.inner) (R.remaining reader.new.inner)
-        (W.contents writer.old.inner) (W.contents writer.new.inner) (map (λ s. s.host) shards.old)
-        (map (λ s. s.host) shards.new)) }
+        (W.contents writer.old.inner) (W.contents writer.new.inner) (map (λ s. s.stepper) shards.old)
+        (map (λ s. s.stepper) shards.new)) }
     ensures read { result ≡ Err ServeFault.Read → HasRisen reader.old.failed reader.new.failed }
     ensures write { result ≡ Err ServeFault.Write → HasRisen writer.old.failed writer.new.failed }
     ensures read_same { result ≢ Err ServeFault.Read → reader.new.failed ≡ reader.old.failed }
@@ -100,12 +126,12 @@ fn serve_on<T: Threads + Sync, R: BufRead, W: Write, H: Handler + Send, S: Store
 
 /// Answers the lines that wait, unless there is more to read without waiting, and reads on. Tells whether the input
 /// is at its end; all lines are answered then.
-fn turn<T: Threads + Sync, R: BufRead, W: Write, H: Handler + Send, S: Store + Send>(
+fn turn<T: Threads + Sync, R: BufRead, W: Write, X: Stepper>(
     rt: &T,
     alloc: Global,
     reader: &mut Counted<R>,
     writer: &mut Counted<W>,
-    shards: &mut [Shard<H, S>],
+    shards: &mut [Shard<X>],
     block: &mut Block,
     desk: &mut Desk,
 ) -> Result<bool, ServeFault>
@@ -113,11 +139,11 @@ fn turn<T: Threads + Sync, R: BufRead, W: Write, H: Handler + Send, S: Store + S
     requires idle { AreIdle (map (λ s. s.steps.items) shards.old) }
     requires held { MAX_LINE_BYTES ≤ vec_capacity block.old.held }
     requires within { block.old.count + reader.old.left < 2 ^ 64 }
-    ensures turns { (start : Ends H.State) → Underway H.meaning (dealt (length shards.old)) start
+    ensures turns { (start : Ends (List X)) → Underway (OneDoes X.does (dealt (length shards.old))) start
         (record {
           input = R.remaining reader.old.inner;
           out = W.contents writer.old.inner;
-          hosts = map (λ s. s.host) shards.old;
+          steppers = map (λ s. s.stepper) shards.old;
         })
         (record {
           held = block.old.held.items;
@@ -125,11 +151,11 @@ fn turn<T: Threads + Sync, R: BufRead, W: Write, H: Handler + Send, S: Store + S
           lines = block.old.lines;
           count = block.old.count;
         })
-        → Turns H.meaning (dealt (length shards.old)) result start
+        → Turns (OneDoes X.does (dealt (length shards.old))) result start
         (record {
           input = R.remaining reader.new.inner;
           out = W.contents writer.new.inner;
-          hosts = map (λ s. s.host) shards.new;
+          steppers = map (λ s. s.stepper) shards.new;
         })
         (record {
           held = block.new.held.items;
@@ -152,12 +178,12 @@ fn turn<T: Threads + Sync, R: BufRead, W: Write, H: Handler + Send, S: Store + S
 }
 
 /// Reads on, where there is room for another line.
-fn read_more<T: Threads + Sync, R: BufRead, W: Write, H: Handler + Send, S: Store + Send>(
+fn read_more<T: Threads + Sync, R: BufRead, W: Write, X: Stepper>(
     rt: &T,
     alloc: Global,
     reader: &mut Counted<R>,
     writer: &mut Counted<W>,
-    shards: &mut [Shard<H, S>],
+    shards: &mut [Shard<X>],
     block: &mut Block,
     desk: &mut Desk,
 ) -> Result<bool, ServeFault>
@@ -166,11 +192,11 @@ fn read_more<T: Threads + Sync, R: BufRead, W: Write, H: Handler + Send, S: Stor
     requires room { length block.old.lines < MOST_LINES }
     requires held { MAX_LINE_BYTES ≤ vec_capacity block.old.held }
     requires within { block.old.count + reader.old.left < 2 ^ 64 }
-    ensures turns { (start : Ends H.State) → Underway H.meaning (dealt (length shards.old)) start
+    ensures turns { (start : Ends (List X)) → Underway (OneDoes X.does (dealt (length shards.old))) start
         (record {
           input = R.remaining reader.old.inner;
           out = W.contents writer.old.inner;
-          hosts = map (λ s. s.host) shards.old;
+          steppers = map (λ s. s.stepper) shards.old;
         })
         (record {
           held = block.old.held.items;
@@ -178,11 +204,11 @@ fn read_more<T: Threads + Sync, R: BufRead, W: Write, H: Handler + Send, S: Stor
           lines = block.old.lines;
           count = block.old.count;
         })
-        → Turns H.meaning (dealt (length shards.old)) result start
+        → Turns (OneDoes X.does (dealt (length shards.old))) result start
         (record {
           input = R.remaining reader.new.inner;
           out = W.contents writer.new.inner;
-          hosts = map (λ s. s.host) shards.new;
+          steppers = map (λ s. s.stepper) shards.new;
         })
         (record {
           held = block.new.held.items;
@@ -216,45 +242,45 @@ fn read_more<T: Threads + Sync, R: BufRead, W: Write, H: Handler + Send, S: Stor
 
 /// Answers the lines that wait, unless there is more to read without waiting and room for it.
 ///
-/// `Write` comes only where the writer failed, and `NoMemory` where there was none for a reply's text.
-fn answer_waiting<T: Threads + Sync, W: Write, H: Handler + Send, S: Store + Send>(
+/// `Write` comes only where the writer failed, and `NoMemory` where there was none for an answer.
+fn answer_waiting<T: Threads + Sync, W: Write, X: Stepper>(
     rt: &T,
     alloc: Global,
     writer: &mut Counted<W>,
-    shards: &mut [Shard<H, S>],
+    shards: &mut [Shard<X>],
     block: &mut Block,
     desk: &mut Desk,
 ) -> Result<(), ServeFault>
     requires some { 0 < length shards.old }
     requires idle { AreIdle (map (λ s. s.steps.items) shards.old) }
-    ensures ok { OnOk result ((start : Ends H.State) (input : Option (List ℕ))
-        → Underway H.meaning (dealt (length shards.old)) start
-        (record { input = input; out = W.contents writer.old.inner; hosts = map (λ s. s.host) shards.old })
+    ensures ok { OnOk result ((start : Ends (List X)) (input : Option (List ℕ))
+        → Underway (OneDoes X.does (dealt (length shards.old))) start
+        (record { input = input; out = W.contents writer.old.inner; steppers = map (λ s. s.stepper) shards.old })
         (record {
           held = block.old.held.items;
           is_long = block.old.is_long;
           lines = block.old.lines;
           count = block.old.count;
         })
-        → Underway H.meaning (dealt (length shards.old)) start
-        (record { input = input; out = W.contents writer.new.inner; hosts = map (λ s. s.host) shards.new })
+        → Underway (OneDoes X.does (dealt (length shards.old))) start
+        (record { input = input; out = W.contents writer.new.inner; steppers = map (λ s. s.stepper) shards.new })
         (record {
           held = block.new.held.items;
           is_long = block.new.is_long;
           lines = block.new.lines;
           count = block.new.count;
         })) }
-    ensures err { OnErr result ((start : Ends H.State) (input : Option (List ℕ))
-        → Underway H.meaning (dealt (length shards.old)) start
-        (record { input = input; out = W.contents writer.old.inner; hosts = map (λ s. s.host) shards.old })
+    ensures err { OnErr result ((start : Ends (List X)) (input : Option (List ℕ))
+        → Underway (OneDoes X.does (dealt (length shards.old))) start
+        (record { input = input; out = W.contents writer.old.inner; steppers = map (λ s. s.stepper) shards.old })
         (record {
           held = block.old.held.items;
           is_long = block.old.is_long;
           lines = block.old.lines;
           count = block.old.count;
         })
-        → Stopped H.meaning (dealt (length shards.old)) start
-        (record { input = input; out = W.contents writer.new.inner; hosts = map (λ s. s.host) shards.new })) }
+        → Stopped (OneDoes X.does (dealt (length shards.old))) start
+        (record { input = input; out = W.contents writer.new.inner; steppers = map (λ s. s.stepper) shards.new })) }
     ensures room { OnOk result (length block.new.lines < MOST_LINES) }
     ensures held { block.new.held ≡ block.old.held }
     ensures count { block.new.count ≡ block.old.count }
@@ -270,46 +296,46 @@ fn answer_waiting<T: Threads + Sync, W: Write, H: Handler + Send, S: Store + Sen
     answer_block(rt, alloc, writer, shards, block, desk, ahead)
 }
 
-/// Answers the lines that wait. Their replies are flushed unless there is more to read without waiting.
-fn answer_block<T: Threads + Sync, W: Write, H: Handler + Send, S: Store + Send>(
+/// Answers the lines that wait. Their answers are flushed unless there is more to read without waiting.
+fn answer_block<T: Threads + Sync, W: Write, X: Stepper>(
     rt: &T,
     alloc: Global,
     writer: &mut Counted<W>,
-    shards: &mut [Shard<H, S>],
+    shards: &mut [Shard<X>],
     block: &mut Block,
     desk: &mut Desk,
     ahead: bool,
 ) -> Result<(), ServeFault>
     requires some { 0 < length shards.old }
     requires idle { AreIdle (map (λ s. s.steps.items) shards.old) }
-    ensures ok { OnOk result ((start : Ends H.State) (input : Option (List ℕ))
-        → Underway H.meaning (dealt (length shards.old)) start
-        (record { input = input; out = W.contents writer.old.inner; hosts = map (λ s. s.host) shards.old })
+    ensures ok { OnOk result ((start : Ends (List X)) (input : Option (List ℕ))
+        → Underway (OneDoes X.does (dealt (length shards.old))) start
+        (record { input = input; out = W.contents writer.old.inner; steppers = map (λ s. s.stepper) shards.old })
         (record {
           held = block.old.held.items;
           is_long = block.old.is_long;
           lines = block.old.lines;
           count = block.old.count;
         })
-        → Underway H.meaning (dealt (length shards.old)) start
-        (record { input = input; out = W.contents writer.new.inner; hosts = map (λ s. s.host) shards.new })
+        → Underway (OneDoes X.does (dealt (length shards.old))) start
+        (record { input = input; out = W.contents writer.new.inner; steppers = map (λ s. s.stepper) shards.new })
         (record {
           held = block.new.held.items;
           is_long = block.new.is_long;
           lines = block.new.lines;
           count = block.new.count;
         })) }
-    ensures err { OnErr result ((start : Ends H.State) (input : Option (List ℕ))
-        → Underway H.meaning (dealt (length shards.old)) start
-        (record { input = input; out = W.contents writer.old.inner; hosts = map (λ s. s.host) shards.old })
+    ensures err { OnErr result ((start : Ends (List X)) (input : Option (List ℕ))
+        → Underway (OneDoes X.does (dealt (length shards.old))) start
+        (record { input = input; out = W.contents writer.old.inner; steppers = map (λ s. s.stepper) shards.old })
         (record {
           held = block.old.held.items;
           is_long = block.old.is_long;
           lines = block.old.lines;
           count = block.old.count;
         })
-        → Stopped H.meaning (dealt (length shards.old)) start
-        (record { input = input; out = W.contents writer.new.inner; hosts = map (λ s. s.host) shards.new })) }
+        → Stopped (OneDoes X.does (dealt (length shards.old))) start
+        (record { input = input; out = W.contents writer.new.inner; steppers = map (λ s. s.stepper) shards.new })) }
     ensures empty { OnOk result (block.new.lines ≡ []) }
     ensures held { block.new.held ≡ block.old.held }
     ensures long { block.new.is_long ≡ block.old.is_long }

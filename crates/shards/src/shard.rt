@@ -1,40 +1,32 @@
-//! One shard: a host, the steps that are dealt to it, and the lines of its replies.
+//! One shard: what does steps, those that are dealt to it, and their answers.
 
-ghost use Rattle.std.specs.Prelude.{◌≡◌, ◌∷◌, ◌++◌, [], OnOk, OnErr};
-ghost use Rattle.model.specs.declared.replies.Reply.{Reply as ReplyOf};
-ghost use Rattle.lines.specs.Serving.{HostDoes, reply_line};
-ghost use Rattle.shards.specs.Blocks.{RanShard, TellsMore, line_len};
+ghost use Rattle.std.specs.Prelude.{◌≡◌, ◌∷◌, ◌++◌, [], ℕ, List, OnOk, OnErr};
+ghost use Rattle.shards.specs.Blocks.{RanShard, TellsMore};
 
-use book::Host;
-use handler::Handler;
-use model::{NoMemory, Reply, Step};
-use quick_forms::write_reply;
-use shared_log::Store;
+use crate::stepper::Stepper;
+use model::{NoMemory, Step};
 use std::alloc::Global;
 use std::collections::VecDeque;
-use std::mem;
 
-/// A host, the steps that are dealt to it and not done yet, and the reply lines of those that were done: their bytes
+/// What does steps, those that are dealt to it and not done yet, and the answers of those that were done: their bytes
 /// behind one another, and how long each is.
 #[derive(Drop)]
-pub(crate) struct Shard<H: Handler, S: Store> {
-    alloc: Global,
-    pub host: Host<H, S>,
+pub(crate) struct Shard<X: Stepper> {
+    pub stepper: X,
     pub steps: VecDeque<Step>,
     pub bytes: Vec<u8>,
     pub lens: Vec<usize>,
     text: Vec<u8>,
 }
 
-impl<H: Handler, S: Store> Shard<H, S> {
-    /// A shard over a host, with no steps.
-    pub(crate) fn new(alloc: Global, host: Host<H, S>) -> Shard<H, S>
-        ensures host { result.host ≡ host }
+impl<X: Stepper> Shard<X> {
+    /// A shard with no steps.
+    pub(crate) fn new(alloc: Global, stepper: X) -> Shard<X>
+        ensures stepper { result.stepper ≡ stepper }
         ensures steps { result.steps.items ≡ [] }
     {
         Shard {
-            alloc,
-            host,
+            stepper,
             steps: VecDeque::new(alloc),
             bytes: Vec::new(alloc),
             lens: Vec::new(alloc),
@@ -44,7 +36,7 @@ impl<H: Handler, S: Store> Shard<H, S> {
 
     /// Takes one step more, to be done behind the others. Where there is no memory for it, it is gone.
     pub(crate) fn take(&mut self, step: Step) -> Result<(), NoMemory>
-        ensures host { self.new.host ≡ self.old.host }
+        ensures stepper { self.new.stepper ≡ self.old.stepper }
         ensures ok { OnOk result (self.new.steps.items ≡ self.old.steps.items ++ step ∷ []) }
         ensures err { OnErr result (self.new.steps.items ≡ self.old.steps.items) }
     {
@@ -52,10 +44,10 @@ impl<H: Handler, S: Store> Shard<H, S> {
         Ok(())
     }
 
-    /// Does all steps, in order. Where there is no memory for the line of a reply, the steps behind it are done too,
-    /// and their lines are left out.
+    /// Does all steps, in order. Where there is no memory for an answer, the steps behind it are done too, and their
+    /// answers are left out.
     pub(crate) fn run(&mut self)
-        ensures ran { RanShard H.meaning self.old.steps.items self.old.host self.new.host self.new.bytes.items
+        ensures ran { RanShard X.does self.old.steps.items self.old.stepper self.new.stepper self.new.bytes.items
             self.new.lens.items }
         ensures steps { self.new.steps.items ≡ [] }
     {
@@ -67,36 +59,27 @@ impl<H: Handler, S: Store> Shard<H, S> {
         }
     }
 
-    /// Does one step, and adds the line of its reply.
+    /// Does one step, and adds its answer where there was memory for those before it.
     fn answer(&mut self, step: Step, is_full: &mut bool)
         ensures steps { self.new.steps.items ≡ self.old.steps.items }
-        ensures done { (reply : ReplyOf) × HostDoes H.meaning self.old.host step reply self.new.host
-            × TellsMore is_full.old is_full.new reply
+        ensures done { (answer : List ℕ) × X.does self.old.stepper step answer self.new.stepper
+            × TellsMore is_full.old is_full.new answer
             self.old.bytes.items self.old.lens.items self.new.bytes.items self.new.lens.items }
     {
-        let reply = self.host.step(step);
-        if !*is_full {
-            *is_full = self.tell(&reply).is_err();
+        if *is_full {
+            self.stepper.pass(step);
+        } else if self.lens.reserve(1).is_err() {
+            *is_full = true;
+            self.stepper.pass(step);
+        } else {
+            let before = self.bytes.as_slice().len();
+            match self.stepper.answer(step, &mut self.text, &mut self.bytes) {
+                Ok(()) => {
+                    let all = self.bytes.as_slice().len();
+                    self.lens.push_reserved(all.saturating_sub(before));
+                }
+                Err(_) => *is_full = true,
+            }
         }
-    }
-
-    /// Adds the line of a reply. Where there is no memory for it, the lines stay as they are.
-    fn tell(&mut self, reply: &Reply) -> Result<(), NoMemory>
-        ensures host { self.new.host ≡ self.old.host }
-        ensures steps { self.new.steps.items ≡ self.old.steps.items }
-        ensures ok { OnOk result ((self.new.bytes.items ≡ self.old.bytes.items ++ reply_line reply.now)
-            × (self.new.lens.items ≡ self.old.lens.items ++ line_len reply.now ∷ [])) }
-        ensures err { OnErr result ((self.new.bytes.items ≡ self.old.bytes.items)
-            × (self.new.lens.items ≡ self.old.lens.items)) }
-    {
-        self.lens.reserve(1)?;
-        let mut room = mem::replace(&mut self.text, Vec::new(self.alloc));
-        room.clear();
-        let mut line = write_reply(room, reply)?;
-        line.push(b'\n')?;
-        self.bytes.extend_from_slice(line.as_slice())?;
-        self.lens.push_reserved(line.len());
-        self.text = line;
-        Ok(())
     }
 }

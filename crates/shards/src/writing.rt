@@ -1,51 +1,48 @@
-//! The replies of all shards, written in the order of the lines.
+//! The answers of all shards, written in the order of the lines.
 
 ghost use Rattle.std.specs.Prelude.{◌≡◌, ◌≢◌, ◌<◌, ◌≤◌, ◌∷◌, ℕ, List, All, OnOk, OnErr, Err, IfOk, flat_map, length};
 ghost use Rattle.std.specs.Prelude.{slice_index_or, replicate};
 ghost use Rattle.std.specs.Io.KnownBytes.{Appends};
 ghost use Rattle.model.specs.Failures.{HasRisen};
-ghost use Rattle.model.specs.declared.replies.Reply.{Reply as ReplyOf};
-ghost use Rattle.lines.specs.Serving.{reply_line};
 ghost use Rattle.written.specs.Beginnings.{AppendsBeginning};
-ghost use Rattle.shards.specs.Blocks.{IsBelow, Told, WroteFirst, WroteOne, first_of, merged};
+ghost use Rattle.shards.specs.Blocks.{IsBelow, Told, WroteFirst, WroteOne, first_of, merged, whole};
 
 use crate::faults::FaultLines;
 use crate::place::Place;
 use crate::shard::Shard;
-use handler::Handler;
+use crate::stepper::Stepper;
 use lines::{Counted, ServeFault, put_bytes};
-use shared_log::Store;
 use std::alloc::Global;
 use std::io::Write;
 
-/// How far the lines of a shard are written: the place in its bytes, and in its lengths.
+/// How far the answers of a shard are written: the place in its bytes, and in its lengths.
 #[derive(Clone, Copy, Debug, Drop)]
 pub(crate) struct Cursor {
     pub at: usize,
     pub next: usize,
 }
 
-/// Writes the reply lines of a block, each from the shard that its place names, in turn.
+/// Writes the answers of a block, each from the shard that its place names, in turn.
 ///
-/// `Write` comes only where the writer failed, and `NoMemory` where there was none for a reply's text.
-pub(crate) fn write_all<W: Write, H: Handler, S: Store>(
+/// `Write` comes only where the writer failed, and `NoMemory` where there was none for an answer.
+pub(crate) fn write_all<W: Write, X: Stepper>(
     alloc: Global,
     writer: &mut Counted<W>,
-    shards: &[Shard<H, S>],
+    shards: &[Shard<X>],
     places: &[Place],
     faults: &FaultLines,
 ) -> Result<(), ServeFault>
-    requires told { (replies : ℕ → List ReplyOf) × ((i : ℕ) (d : _) → i < length shards.now
-        → Told (replies i) (slice_index_or shards.now i d).bytes.items (slice_index_or shards.now i d).lens.items 0 0) }
+    requires told { (answers : ℕ → List (List ℕ)) × ((i : ℕ) (d : _) → i < length shards.now
+        → Told (answers i) (slice_index_or shards.now i d).bytes.items (slice_index_or shards.now i d).lens.items 0 0) }
     requires below { All (IsBelow (length shards.now)) places.now }
-    ensures ok { OnOk result ((replies : ℕ → List ReplyOf) → ((i : ℕ) (d : _) → i < length shards.now
-        → Told (replies i) (slice_index_or shards.now i d).bytes.items (slice_index_or shards.now i d).lens.items 0 0)
+    ensures ok { OnOk result ((answers : ℕ → List (List ℕ)) → ((i : ℕ) (d : _) → i < length shards.now
+        → Told (answers i) (slice_index_or shards.now i d).bytes.items (slice_index_or shards.now i d).lens.items 0 0)
         → Appends (W.contents writer.old.inner) (W.contents writer.new.inner)
-        (flat_map reply_line (merged places.now replies))) }
-    ensures err { OnErr result ((replies : ℕ → List ReplyOf) → ((i : ℕ) (d : _) → i < length shards.now
-        → Told (replies i) (slice_index_or shards.now i d).bytes.items (slice_index_or shards.now i d).lens.items 0 0)
+        (flat_map whole (merged places.now answers))) }
+    ensures err { OnErr result ((answers : ℕ → List (List ℕ)) → ((i : ℕ) (d : _) → i < length shards.now
+        → Told (answers i) (slice_index_or shards.now i d).bytes.items (slice_index_or shards.now i d).lens.items 0 0)
         → AppendsBeginning (W.contents writer.old.inner) (W.contents writer.new.inner)
-        (flat_map reply_line (merged places.now replies))) }
+        (flat_map whole (merged places.now answers))) }
     ensures write { result ≡ Err ServeFault.Write → HasRisen writer.old.failed writer.new.failed }
     ensures read { result ≢ Err ServeFault.Read }
     ensures same { result ≢ Err ServeFault.Write → writer.new.failed ≡ writer.old.failed }
@@ -63,32 +60,32 @@ pub(crate) fn write_all<W: Write, H: Handler, S: Store>(
     Ok(())
 }
 
-/// Writes the reply line of one place.
-fn write_one<W: Write, H: Handler, S: Store>(
+/// Writes the answer of one place.
+fn write_one<W: Write, X: Stepper>(
     writer: &mut Counted<W>,
-    shards: &[Shard<H, S>],
+    shards: &[Shard<X>],
     place: Place,
     cursors: &mut [Cursor],
     faults: &FaultLines,
 ) -> Result<(), ServeFault>
-    requires told { (left : ℕ → List ReplyOf) × ((i : ℕ) (d : _) (e : _) → i < length shards.now
+    requires told { (left : ℕ → List (List ℕ)) × ((i : ℕ) (d : _) (e : _) → i < length shards.now
         → Told (left i) (slice_index_or shards.now i d).bytes.items (slice_index_or shards.now i d).lens.items
         (slice_index_or cursors.old i e).at (slice_index_or cursors.old i e).next) }
     requires below { IsBelow (length shards.now) place }
     requires cursors { length cursors.old ≡ length shards.now }
-    ensures ok { OnOk result ((left : ℕ → List ReplyOf) → ((i : ℕ) (d : _) (e : _) → i < length shards.now
+    ensures ok { OnOk result ((left : ℕ → List (List ℕ)) → ((i : ℕ) (d : _) (e : _) → i < length shards.now
         → Told (left i) (slice_index_or shards.now i d).bytes.items (slice_index_or shards.now i d).lens.items
         (slice_index_or cursors.old i e).at (slice_index_or cursors.old i e).next)
         → WroteOne (W.contents writer.old.inner)
         (W.contents writer.new.inner) place left (λ left. (i : ℕ) (d : _) (e : _) → i < length shards.now
         → Told (left i) (slice_index_or shards.now i d).bytes.items (slice_index_or shards.now i d).lens.items
         (slice_index_or cursors.new i e).at (slice_index_or cursors.new i e).next)) }
-    ensures err { OnErr result ((left : ℕ → List ReplyOf) (places : List _) → ((i : ℕ) (d : _) (e : _)
+    ensures err { OnErr result ((left : ℕ → List (List ℕ)) (places : List _) → ((i : ℕ) (d : _) (e : _)
         → i < length shards.now
         → Told (left i) (slice_index_or shards.now i d).bytes.items (slice_index_or shards.now i d).lens.items
         (slice_index_or cursors.old i e).at (slice_index_or cursors.old i e).next)
         → AppendsBeginning (W.contents writer.old.inner) (W.contents writer.new.inner)
-        (flat_map reply_line (merged (place ∷ places) left))) }
+        (flat_map whole (merged (place ∷ places) left))) }
     ensures write { result ≡ Err ServeFault.Write → HasRisen writer.old.failed writer.new.failed }
     ensures read { result ≢ Err ServeFault.Read }
     ensures same { result ≢ Err ServeFault.Write → writer.new.failed ≡ writer.old.failed }
@@ -117,20 +114,21 @@ fn beginnings(alloc: Global, count: usize) -> Result<Vec<Cursor>, ServeFault>
     }
 }
 
-/// Writes the next line of a shard. `NoMemory` comes where there is none, since there was no memory for its text.
+/// Writes the next answer of a shard. `NoMemory` comes where there is none, since there was no memory for it.
 fn put_next<W: Write>(
     writer: &mut Counted<W>,
     bytes: &[u8],
     lens: &[usize],
     cursor: &mut Cursor,
 ) -> Result<(), ServeFault>
-    requires { (replies : List ReplyOf) × Told replies bytes.now lens.now cursor.old.at cursor.old.next }
-    ensures ok { OnOk result ((replies : List ReplyOf) → Told replies bytes.now lens.now cursor.old.at cursor.old.next
+    requires { (answers : List (List ℕ)) × Told answers bytes.now lens.now cursor.old.at cursor.old.next }
+    ensures ok { OnOk result ((answers : List (List ℕ)) → Told answers bytes.now lens.now cursor.old.at cursor.old.next
         → WroteFirst (W.contents writer.old.inner)
-        (W.contents writer.new.inner) replies bytes.now lens.now cursor.new.at cursor.new.next) }
-    ensures err { OnErr result ((replies : List ReplyOf) → Told replies bytes.now lens.now cursor.old.at cursor.old.next
+        (W.contents writer.new.inner) answers bytes.now lens.now cursor.new.at cursor.new.next) }
+    ensures err { OnErr result ((answers : List (List ℕ))
+        → Told answers bytes.now lens.now cursor.old.at cursor.old.next
         → AppendsBeginning (W.contents writer.old.inner)
-        (W.contents writer.new.inner) (reply_line (first_of replies))) }
+        (W.contents writer.new.inner) (first_of answers)) }
     ensures write { result ≡ Err ServeFault.Write → HasRisen writer.old.failed writer.new.failed }
     ensures read { result ≢ Err ServeFault.Read }
     ensures same { result ≢ Err ServeFault.Write → writer.new.failed ≡ writer.old.failed }

@@ -271,7 +271,7 @@ fn report_option<'a>(alloc: Global) -> Arg<'a> {
         )
 }
 
-/// The option of `run` that has on how many cores tenants are stepped.
+/// The option that has on how many cores tenants are stepped.
 fn cores_option<'a>(alloc: Global) -> Arg<'a> {
     whole_number(alloc, CORES)
         .value_parser(value_parser!(u64).range(1..=MAX_CORES))
@@ -325,6 +325,7 @@ fn drive_command<'a>(alloc: Global, pages: &'a Pages) -> Result<Command<'a>, Err
         .after_help(pages.drive.as_str());
     let drive = with(Ok(drive), Ok(journal_option(alloc)));
     let drive = with(drive, from_option(alloc, DRIVE_FROM));
+    let drive = with(drive, Ok(cores_option(alloc)));
     with_running(alloc, pages, drive)
 }
 
@@ -556,12 +557,11 @@ fn files_of<'a>(alloc: Global, feeds: &ArgMatches<'a>) -> Result<Vec<&'a str>, E
 fn run_words<'a>(pages: &Pages, run: &ArgMatches<'a>) -> RunWords<'a> {
     RunWords {
         log: run.get_str(LOG),
-        cores: run.get_one::<u64>(CORES),
         ..running_words(pages, run, false)
     }
 }
 
-/// What `run` or `drive` is to do, but for the log and the cores.
+/// What `run` or `drive` is to do, but for the log.
 fn running_words<'a>(pages: &Pages, run: &ArgMatches<'a>, drives: bool) -> RunWords<'a> {
     RunWords {
         drives,
@@ -576,7 +576,7 @@ fn running_words<'a>(pages: &Pages, run: &ArgMatches<'a>, drives: bool) -> RunWo
         adopt: run.get_flag(ADOPT),
         accept_upgrade: run.get_flag(ACCEPT_UPGRADE),
         report: run.get_one::<u64>(REPORT),
-        cores: None,
+        cores: run.get_one::<u64>(CORES),
         verbosity: verbosity_of(run),
     }
 }

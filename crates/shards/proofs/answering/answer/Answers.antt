@@ -1,9 +1,8 @@
 use Rattle.std.proofs.Common.{length, sym, subst}
 use Rattle.std.specs.Prelude.{All, flat_map}
 use Rattle.std.specs.Io.KnownBytes.{Appends}
-use Rattle.lines.specs.Serving.{reply_line}
 use Rattle.written.specs.Beginnings.{AppendsBeginning}
-use Rattle.shards.specs.Blocks.{IsBelow, merged}
+use Rattle.shards.specs.Blocks.{IsBelow, merged, whole}
 use Rattle.shards.proofs.Telling.{on_err, on_ok}
 use Rattle.shards.proofs.answering.answer.Goals as goal
 
@@ -25,7 +24,7 @@ returns-clause-ok g c =
       so.3,
       so.4,
       subst (λ l. Appends (g.W.Write.contents c.args.writer.now.inner) (g.W.Write.contents
-          c.write_all.new.writer.inner) (flat_map reply_line (merged l so.1))) c.as_slice.ensures.value
+          c.write_all.new.writer.inner) (flat_map whole (merged l so.1))) c.as_slice.ensures.value
           (wrote so.1 so.6),
     ))
 
@@ -39,6 +38,6 @@ returns-clause-err g c =
       so.3,
       so.4,
       subst (λ l. AppendsBeginning (g.W.Write.contents c.args.writer.now.inner) (g.W.Write.contents
-          c.write_all.new.writer.inner) (flat_map reply_line (merged l so.1))) c.as_slice.ensures.value
+          c.write_all.new.writer.inner) (flat_map whole (merged l so.1))) c.as_slice.ensures.value
           (wrote so.1 so.6),
     ))

@@ -2,7 +2,7 @@ use Rattle.std.proofs.Common.{◌≡◌, drop, length}
 use Rattle.shards.proofs.Telling.{Written}
 use Rattle.shards.proofs.writing.write_all.Given as goal
 
--- the lines of the places so far are written, whatever the replies are of which those are the lines
+-- the answers of the places so far are written, whatever they are
 abbrev pub invariant-loop-place : goal.invariant-loop-place
 invariant-loop-place g l = record {
   cursors : length l.cursors ≡ length l.shards;

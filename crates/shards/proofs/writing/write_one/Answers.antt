@@ -1,6 +1,6 @@
 use Rattle.std.proofs.Common.{◌<◌, length, refl, subst}
 use Rattle.std.specs.Io.KnownBytes.{Appends}
-use Rattle.lines.specs.Serving.{reply_upon}
+use Rattle.shards.specs.Blocks.{fault_answer}
 use Rattle.written.specs.Beginnings.{AppendsBeginning}
 use Rattle.shards.specs.Blocks.{IsBelow}
 use Rattle.shards.proofs.GoingOn.{risen_err, same_unless}
@@ -22,13 +22,13 @@ put_next-requires g c =
 
 pub returns-in-Here-clause-ok : goal.returns-in-Here-clause-ok
 returns-in-Here-clause-ok g c = on_ok c.put_bytes.result _ _ c.put_bytes.ensures.ok (λ grown left all.
-    wrote_here _ _ c.args.place c.in-Here.fault (reply_upon c.in-Here.fault) left _ c.in-Here.is refl
+    wrote_here _ _ c.args.place c.in-Here.fault (fault_answer c.in-Here.fault) left _ c.in-Here.is refl
     (subst (Appends (g.W.Write.contents c.args.writer.now.inner) (g.W.Write.contents c.put_bytes.new.writer.inner))
     c.of.ensures grown) all)
 
 pub returns-in-Here-clause-err : goal.returns-in-Here-clause-err
 returns-in-Here-clause-err g c = on_err c.put_bytes.result _ _ c.put_bytes.ensures.err (λ begun left places all.
-    begins_here _ _ c.args.place c.in-Here.fault (reply_upon c.in-Here.fault) left places c.in-Here.is refl
+    begins_here _ _ c.args.place c.in-Here.fault (fault_answer c.in-Here.fault) left places c.in-Here.is refl
     (subst (AppendsBeginning (g.W.Write.contents c.args.writer.now.inner)
     (g.W.Write.contents c.put_bytes.new.writer.inner)) c.of.ensures begun))
 

@@ -1,20 +1,32 @@
-use Rattle.std.proofs.Common.{sym, subst}
-use Rattle.lines.specs.Serving.{HostDoes}
-use Rattle.shards.proofs.Telling.{still_lost, tells_result}
+use Rattle.std.proofs.Common.{◌≡◌, ◌∷◌, ◌++◌, ◌∙◌, [], false, refl, ap, sym, subst, length, length-append, arith}
+use Rattle.shards.specs.Blocks.{TellsMore}
+use Rattle.shards.proofs.Telling.{still_lost, tells_line}
 use Rattle.shards.proofs.shard.Shard.answer.Goals as goal
 
-pub returns-then-not-is_full-clause-done : goal.returns-then-not-is_full-clause-done
-returns-then-not-is_full-clause-done g c = (
-  c.step-reply.result,
-  subst (λ h. HostDoes g.H.Handler.meaning c.args.self.now.host c.args.step c.step-reply.result h)
-      (sym c.tell.ensures.host) c.step-reply.ensures.entered,
-  tells_result c.tell.result c.args.is_full.now c.is_err.result
-      c.step-reply.result _ _ _ _ c.if-not-is_full.true c.is_err.ensures.value c.tell.ensures.ok c.tell.ensures.err,
+pub returns-then-is_full-clause-done : goal.returns-then-is_full-clause-done
+returns-then-is_full-clause-done g c = (
+  c.pass.ensures.0,
+  c.pass.ensures.1,
+  still_lost c.args.is_full.now c.pass.ensures.0 _ _ c.if-is_full.true,
 )
 
-pub returns-clause-done : goal.returns-clause-done
-returns-clause-done g c = (
-  c.step-reply.result,
-  c.step-reply.ensures.entered,
-  still_lost c.args.is_full.now c.step-reply.result _ _ c.if-not-is_full.false,
-)
+pub returns-in-Ok-clause-done : goal.returns-in-Ok-clause-done
+returns-in-Ok-clause-done g c =
+    let one = c.in-Ok.ensures.ok in
+    let size = ap length one.2 ∙ length-append c.args.self.now.bytes.items one.0 in
+    let len_is : c.saturating_sub.result ≡ length one.0 =
+    omega (
+      arith,
+      c.saturating_sub.ensures,
+      ap length c.as_slice-before.ensures.value,
+      ap length c.as_slice-all.ensures.value,
+      size,
+    ) in (
+      one.0,
+      one.1,
+      subst (λ f. TellsMore f f one.0 c.args.self.now.bytes.items c.args.self.now.lens.items
+          c.answer.new.bytes.items c.push_reserved.new.self.items) (sym c.if-is_full.false)
+          (tells_line false one.0 _ _ _ _ refl one.2 (c.push_reserved.ensures.items
+          ∙ ap (λ n. c.reserve.new.self.items ++ n ∷ []) len_is
+          ∙ ap (λ l. l ++ length one.0 ∷ []) c.reserve.ensures.items)),
+    )

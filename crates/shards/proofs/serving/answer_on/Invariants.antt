@@ -1,9 +1,9 @@
 use Rattle.std.proofs.Common.{◌≡◌, ◌<◌, ◌≤◌, ◌+◌, ◌^◌, length, map, vec_capacity}
 use Rattle.model.specs.declared.limits.TheConstants.{MAX_LINE_BYTES}
-use Rattle.dealing.specs.Dealing.{dealt}
+use Rattle.dealing.specs.Dealing.{OneDoes, dealt}
 use Rattle.shards.specs.Blocks.{AreIdle}
 use Rattle.shards.specs.Underway.{Underway}
-use Rattle.shards.proofs.serving.serve_on.Given as goal
+use Rattle.shards.proofs.serving.answer_on.Given as goal
 
 abbrev pub invariant-loop-is_end : goal.invariant-loop-is_end
 invariant-loop-is_end g l = record {
@@ -12,16 +12,16 @@ invariant-loop-is_end g l = record {
   read_same : l.reader.failed ≡ l.fn.reader.failed;
   write_same : l.writer.failed ≡ l.fn.writer.failed;
   within : l.block.count + l.reader.left < 2 ^ 64;
-  underway : Underway g.H.Handler.meaning (dealt (length l.fn.shards))
+  underway : Underway (OneDoes g.X.Stepper.does (dealt (length l.fn.shards)))
       (record {
         input = g.R.Read.remaining l.fn.reader.inner;
         out = g.W.Write.contents l.fn.writer.inner;
-        hosts = map (λ s. s.host) l.fn.shards;
+        steppers = map (λ s. s.stepper) l.fn.shards;
       })
       (record {
         input = g.R.Read.remaining l.reader.inner;
         out = g.W.Write.contents l.writer.inner;
-        hosts = map (λ s. s.host) l.shards;
+        steppers = map (λ s. s.stepper) l.shards;
       })
       (record {
         held = l.block.held.items;
