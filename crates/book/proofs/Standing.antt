@@ -1,6 +1,6 @@
 -- A host goes on from each book that it stands for.
-use Rattle.std.proofs.Common.{◌≡◌, ◌≤◌, ◌∙◌, ap, inl, inr, refl, sym, subst, true, false, bytes_eq, ℕ, List, [], ◌∷◌}
-use Rattle.std.proofs.Common.{◌++◌}
+use Rattle.std.proofs.Common.{◌≡◌, ◌≤◌, ◌⊎◌, ◌∙◌, ap, inl, inr, refl, sym, subst, true, false, bytes_eq, ℕ, List}
+use Rattle.std.proofs.Common.{[], ◌∷◌, ◌++◌}
 use Rattle.std.proofs.lemmas.Option.{same_Some}
 use Rattle.std.specs.Prelude.{IfSome, Option, Some, None}
 use Rattle.model.specs.Handler.{Meaning}
@@ -10,15 +10,17 @@ use Rattle.model.specs.declared.replies.Reply.{Reply}
 use Rattle.model.specs.declared.replies.Said.{Said}
 use Rattle.model.specs.declared.replies.Who.{Who}
 use Rattle.model.specs.declared.steps.Step.{Step}
+use Rattle.model.specs.declared.steps.TenantStep.{TenantStep}
+use Rattle.model.specs.declared.steps.TenantStep.TheVariants.{Release}
 use Rattle.shared_log.specs.Logged.{Logged}
-use Rattle.tenant.specs.Stands.{KeepsTexts, TenantState, Stands, StandsAt}
+use Rattle.tenant.specs.Stands.{KeepsNoText, KeepsNoTextBut, KeepsTexts, TenantState, Stands, StandsAt}
 use Rattle.book.specs.Entries.{CountsDevice, IsAdded, Ledger, memory_reply}
 use Rattle.book.specs.History.{HoldsAsBefore, Holding, IsAnswered, IsRecordedIn, IsReplay, IsSaidHonestly, world_of}
 use Rattle.book.specs.Past.{HasJustAt, KeepsAt, KeepsIn, keeping_after}
 use Rattle.model.specs.Keeping.{Keeping, Shelf}
 use Rattle.tenant.specs.Past.{KeepsPast}
-use Rattle.book.specs.Standing.{Carries, CommitsHonestly, EntersHonestly, Hosted, IsHostOf, KeepTexts, ReplaysAsWell}
-use Rattle.book.specs.Standing.{held_by}
+use Rattle.book.specs.Standing.{Carries, CommitsHonestly, EntersHonestly, Hosted, IsHostOf, KeepNoTexts}
+use Rattle.book.specs.Standing.{KeepNoTextsBut, KeepTexts, ReplaysAsWell, held_by}
 use Rattle.handler.specs.Inputs.{Input}
 use Rattle.model.specs.Addresses.{addressed}
 use Rattle.model.specs.World.{World}
@@ -226,6 +228,72 @@ texts_more old new name v is whole others kept =
     λ other k there. elim (bytes_eq other name) as (λ b. bytes_eq other name ≡ b → KeepsTexts k) [
       | true ↦ λ e. subst (λ o. IfSome o KeepsTexts) (sym is ∙ ap new (sym (same_name other name e)) ∙ there) whole
       | false ↦ λ e. kept other k (sym (others other e) ∙ there)
+    ] refl
+
+-- ---- no text is kept
+
+-- where a tenant goes on so, and each other is as it was
+pub none_on : {S : Type 0} (old new : List ℕ → Option (TenantState S)) (name : List ℕ) (step : TenantStep)
+    (t v : TenantState S) → old name ≡ Some t → new name ≡ Some v
+    → ((other : List ℕ) → bytes_eq other name ≡ false → new other ≡ old other)
+    → (KeepsNoText t → KeepsNoTextBut step v) → KeepNoTexts old → KeepNoTextsBut name step new
+none_on old new name step t v was is others on none = record {
+  own = λ k there. subst (KeepsNoTextBut step) (same_Some v k (sym is ∙ there)) (on (none name t was));
+  others = λ other k apart there. none other k (sym (others other apart) ∙ there);
+}
+
+-- where no unit keeps any
+pub none_but : {S : Type 0} (at : List ℕ → Option (TenantState S)) (name : List ℕ) (step : TenantStep)
+    → KeepNoTexts at → KeepNoTextsBut name step at
+none_but at name step none = record {
+  own = λ k there u texts kept. inl (none name k there u texts kept);
+  others = λ other k apart there. none other k there;
+}
+
+-- where one more is there, which keeps none
+pub none_more : {S : Type 0} (old new : List ℕ → Option (TenantState S)) (name : List ℕ) (v : Option (TenantState S))
+    → new name ≡ v → IfSome v KeepsNoText
+    → ((other : List ℕ) → bytes_eq other name ≡ false → new other ≡ old other) → KeepNoTexts old → KeepNoTexts new
+none_more old new name v is without others none =
+    λ other k there. elim (bytes_eq other name) as (λ b. bytes_eq other name ≡ b → KeepsNoText k) [
+      | true ↦ λ e. subst (λ o. IfSome o KeepsNoText) (sym is ∙ ap new (sym (same_name other name e)) ∙ there) without
+      | false ↦ λ e. none other k (sym (others other e) ∙ there)
+    ] refl
+
+-- where the unit that was released gives its texts up
+pub none_then : {S : Type 0} (old new : List ℕ → Option (TenantState S)) (name : List ℕ) (step : TenantStep)
+    (t v : TenantState S) → old name ≡ Some t → new name ≡ Some v
+    → ((other : List ℕ) → bytes_eq other name ≡ false → new other ≡ old other)
+    → (KeepsNoTextBut step t → KeepsNoText v) → KeepNoTextsBut name step old → KeepNoTexts new
+none_then old new name step t v was is others gives but =
+    λ other k there. elim (bytes_eq other name) as (λ b. bytes_eq other name ≡ b → KeepsNoText k) [
+      | true ↦ λ e. subst KeepsNoText
+          (same_Some v k (sym is ∙ ap new (sym (same_name other name e)) ∙ there)) (gives (but.own t was))
+      | false ↦ λ e. but.others other k e (sym (others other e) ∙ there)
+    ] refl
+
+-- where its tenant is not there
+pub none_there : {S : Type 0} (at : List ℕ → Option (TenantState S)) (name : List ℕ) (step : TenantStep)
+    → at name ≡ None → KeepNoTextsBut name step at → KeepNoTexts at
+none_there at name step missing but =
+    λ other k there. elim (bytes_eq other name) as (λ b. bytes_eq other name ≡ b → KeepsNoText k) [
+      | true ↦ λ e. absurd (let h = sym (ap at (same_name other name e) ∙ missing) ∙ there in cc h)
+      | false ↦ λ e. but.others other k e there
+    ] refl
+
+no_release : {step : TenantStep} {u : ℕ} {texts : List (List ℕ)}
+    → (step ≡ Release u → ⊥) → (texts ≡ []) ⊎ (step ≡ Release u) → texts ≡ []
+no_release not (inl e) = e
+no_release not (inr e) = absurd (not e)
+
+-- where the step was no release
+pub none_released : {S : Type 0} (at : List ℕ → Option (TenantState S)) (name : List ℕ) (step : TenantStep)
+    → ((unit : ℕ) → step ≡ Release unit → ⊥) → KeepNoTextsBut name step at → KeepNoTexts at
+none_released at name step not but =
+    λ other k there. elim (bytes_eq other name) as (λ b. bytes_eq other name ≡ b → KeepsNoText k) [
+      | true ↦ λ e u texts kept.
+          no_release (not u) (but.own k (ap at (sym (same_name other name e)) ∙ there) u texts kept)
+      | false ↦ λ e. but.others other k e there
     ] refl
 
 -- ---- texts that are given up

@@ -1,5 +1,5 @@
 -- Which books a host stands for, and how a step goes on from each of them.
-use Rattle.std.specs.Prelude.{◌≡◌, ℕ, List, Option, Some, bytes_eq}
+use Rattle.std.specs.Prelude.{◌≡◌, ℕ, List, None, Option, Some, bytes_eq, false}
 use Rattle.std.specs.Map.{keys_of, lookup}
 use Rattle.handler.specs.Inputs.{Input}
 use Rattle.model.specs.Handler.{Meaning}
@@ -7,8 +7,10 @@ use Rattle.model.specs.declared.replies.Entry.{Entry}
 use Rattle.model.specs.declared.replies.Reply.{Reply}
 use Rattle.model.specs.declared.replies.Who.{Who}
 use Rattle.model.specs.declared.steps.Step.{Step}
+use Rattle.model.specs.declared.steps.TenantStep.{TenantStep}
+use Rattle.model.specs.declared.steps.TenantStep.TheVariants.{Release}
 use Rattle.shared_log.specs.Logged.{Logged}
-use Rattle.tenant.specs.Stands.{KeepsTexts, TenantState}
+use Rattle.tenant.specs.Stands.{KeepsNoText, KeepsNoTextBut, KeepsTexts, TenantState}
 use Rattle.book.specs.declared.committed.Committed.{Committed}
 use Rattle.book.specs.Commits.{Commits}
 use Rattle.book.specs.Entries.{IsEntered, Ledger}
@@ -39,6 +41,22 @@ pub record IsHostOf {S : Type 0} (M : Meaning S) (host : Hosted (TenantState S))
 -- under each name no unit gave up a text that it released
 abbrev pub KeepTexts : {S : Type 0} → (List ℕ → Option (TenantState S)) → Type 0
 KeepTexts {S} at = (name : List ℕ) (k : TenantState S) → at name ≡ Some k → KeepsTexts k
+
+-- under each name no unit keeps a text that it released
+abbrev pub KeepNoTexts : {S : Type 0} → (List ℕ → Option (TenantState S)) → Type 0
+KeepNoTexts {S} at = (name : List ℕ) (k : TenantState S) → at name ≡ Some k → KeepsNoText k
+
+-- A unit that keeps texts is the one that this step of the tenant of this name released.
+pub record KeepNoTextsBut {S : Type 0} (name : List ℕ) (step : TenantStep)
+    (at : List ℕ → Option (TenantState S)) : Type 0 where
+  pub own : (k : TenantState S) → at name ≡ Some k → KeepsNoTextBut step k
+  pub others : (other : List ℕ) (k : TenantState S)
+      → bytes_eq other name ≡ false → at other ≡ Some k → KeepsNoText k
+
+-- the unit that a step releases, if it is a release
+abbrev pub Releases : TenantStep → Option ℕ → Type 0
+Releases step None = (unit : ℕ) → step ≡ Release unit → ⊥
+Releases step (Some unit) = step ≡ Release unit
 
 -- A book's host is the replay of its history, and has all texts that were released.
 pub record IsBook {S : Type 0} (M : Meaning S) (host : Hosted (TenantState S)) (history : List Entry) : Type 0 where

@@ -9,13 +9,13 @@ ghost use Rattle.model.specs.declared.records.Record.{Record};
 ghost use Rattle.tenant.specs.Live.{OthersLive};
 ghost use Rattle.tenant.specs.Needs.{WasFresh};
 ghost use Rattle.tenant.specs.Outcomes.{IsPlain};
-ghost use Rattle.tenant.specs.Stands.{IsOpened, KeepsTexts, StandsAt};
+ghost use Rattle.tenant.specs.Stands.{IsOpened, KeepsNoText, KeepsNoTextBut, KeepsTexts, StandsAt};
 ghost use Rattle.shared_log.specs.Logged.{Logged};
 ghost use Rattle.book.specs.Commits.{needs_at};
 ghost use Rattle.book.specs.Entries.{memory_reply as reply_of_memory};
 ghost use Rattle.model.specs.Keeping.{Keeping};
 ghost use Rattle.book.specs.Past.{KeepsAt, KeepsJustAt, KeepsOnAt};
-ghost use Rattle.book.specs.Standing.{KeepTexts};
+ghost use Rattle.book.specs.Standing.{KeepNoTexts, KeepNoTextsBut, KeepTexts, Releases};
 ghost use Rattle.book.specs.History.{DidAt, IsAnswered, HoldsAsBefore, KeepsOthers, LogsAt, StepsAt, holding};
 ghost use Rattle.book.specs.History.{opened_by};
 
@@ -41,6 +41,16 @@ pub(crate) fn memory_reply(step: &Step) -> Reply
         _ => Reply::Refused {
             refusal: Refusal::Memory,
         },
+    }
+}
+
+/// The unit that the step releases, if it is a release.
+pub(crate) fn released_unit(step: &Step) -> Option<Unit>
+    ensures { Releases (addressed step.now).1 result }
+{
+    match step {
+        Step::Release { unit, .. } => Some(*unit),
+        _ => None,
     }
 }
 
@@ -94,6 +104,7 @@ fn open_new<H: Handler>(
         → get bytes_eq tenants.new t ≡ get bytes_eq tenants.old t }
     ensures err { OnErr result (IsUnchanged tenants.old tenants.new) }
     ensures texts { KeepTexts (get bytes_eq tenants.old) → KeepTexts (get bytes_eq tenants.new) }
+    ensures none { KeepNoTexts (get bytes_eq tenants.old) → KeepNoTexts (get bytes_eq tenants.new) }
 {
     if tenants.reserve(1).is_err() {
         return Err(NoMemory);
@@ -141,6 +152,7 @@ fn answer_open<H: Handler, S: Store>(
     ensures err_log { OnErr result (log.new.records ≡ log.old.records) }
     ensures err_failures { OnErr result (log.new.failures ≡ log.old.failures) }
     ensures texts { KeepsTexts tenant.old → KeepsTexts tenant.new }
+    ensures none { KeepsNoText tenant.old → KeepsNoTextBut step tenant.new }
 {
     tenant.step(alloc, handler, name, step, log)
 }
@@ -162,6 +174,7 @@ fn answer_unopened<H: Handler>(
     ensures kill { (unit : ℕ) → step ≡ TenantStep.Kill unit → IsOk result }
     ensures err { OnErr result (IsUnchanged tenants.old tenants.new) }
     ensures texts { KeepTexts (get bytes_eq tenants.old) → KeepTexts (get bytes_eq tenants.new) }
+    ensures none { KeepNoTexts (get bytes_eq tenants.old) → KeepNoTexts (get bytes_eq tenants.new) }
 {
     match step {
         TenantStep::Open {
@@ -197,6 +210,8 @@ pub(crate) fn answer<H: Handler, S: Store>(
     ensures kill { (tenant : List ℕ) (unit : ℕ) → step.now ≡ Step.Kill tenant unit → IsOk result }
     ensures err { OnErr result (HoldsAsBefore (holding tenants.old log.old) (holding tenants.new log.new)) }
     ensures texts { KeepTexts (get bytes_eq tenants.old) → KeepTexts (get bytes_eq tenants.new) }
+    ensures none { KeepNoTexts (get bytes_eq tenants.old)
+        → KeepNoTextsBut (addressed step.now).0 (addressed step.now).1 (get bytes_eq tenants.new) }
 {
     let own_step = step_within(step)?;
     let name = step.tenant();
@@ -214,6 +229,9 @@ pub(crate) fn give_up<H: Handler>(tenants: &mut Tenants<H>, name: &TenantName, u
     ensures keeps { (t : List ℕ) (k : Keeping) → KeepsAt (get bytes_eq tenants.old t) k
         → KeepsAt (get bytes_eq tenants.new t) k }
     ensures names { keys tenants.new ≡ keys tenants.old }
+    // Where the unit alone kept texts, none does then.
+    ensures none { KeepNoTextsBut name.now (TenantStep.Release unit) (get bytes_eq tenants.old)
+        → KeepNoTexts (get bytes_eq tenants.new) }
 {
     if let Some(tenant) = tenants.get_mut(name) {
         tenant.give_up(unit);
@@ -276,6 +294,7 @@ fn answer_open_with<H: Handler, S: Store>(
     ensures err_log { OnErr result (log.new.records ≡ log.old.records) }
     ensures err_failures { OnErr result (log.new.failures ≡ log.old.failures) }
     ensures texts { KeepsTexts tenant.old → KeepsTexts tenant.new }
+    ensures none { KeepsNoText tenant.old → KeepsNoTextBut step tenant.new }
 {
     tenant.step_with(alloc, handler, name, step, worked, log)
 }
@@ -303,6 +322,8 @@ pub(crate) fn answer_with<H: Handler, S: Store>(
     ensures kill { (tenant : List ℕ) (unit : ℕ) → step.now ≡ Step.Kill tenant unit → IsOk result }
     ensures err { OnErr result (HoldsAsBefore (holding tenants.old log.old) (holding tenants.new log.new)) }
     ensures texts { KeepTexts (get bytes_eq tenants.old) → KeepTexts (get bytes_eq tenants.new) }
+    ensures none { KeepNoTexts (get bytes_eq tenants.old)
+        → KeepNoTextsBut (addressed step.now).0 (addressed step.now).1 (get bytes_eq tenants.new) }
 {
     let own_step = step_within(step)?;
     let name = step.tenant();

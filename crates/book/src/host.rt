@@ -5,6 +5,7 @@ ghost use Rattle.model.specs.Addresses.{addressed};
 ghost use Rattle.model.specs.declared.replies.Entry.{Entry};
 ghost use Rattle.model.specs.declared.replies.Reply.{Reply as ReplyOf};
 ghost use Rattle.model.specs.declared.replies.Who.{Who};
+ghost use Rattle.model.specs.declared.steps.TenantStep.{TenantStep};
 ghost use Rattle.tenant.specs.Needs.{WasFresh};
 ghost use Rattle.tenant.specs.Stands.{StandsAt};
 ghost use Rattle.model.specs.World.{World};
@@ -13,10 +14,10 @@ ghost use Rattle.book.specs.Commits.{needed, needs_at};
 ghost use Rattle.book.specs.Entries.{IsAdded};
 ghost use Rattle.book.specs.History.{HoldsAsBefore, IsAnswered, opened, receiver_at, world_of};
 ghost use Rattle.book.specs.Past.{FootprintAfter, kept_after};
-ghost use Rattle.book.specs.Standing.{Carries, KeepTexts, ReplaysAsWell, CommitsHonestly, EntersHonestly, HostReplays};
-ghost use Rattle.book.specs.Standing.{IsHostOf, held_by};
+ghost use Rattle.book.specs.Standing.{Carries, CommitsHonestly, EntersHonestly, HostReplays, IsHostOf, KeepNoTexts};
+ghost use Rattle.book.specs.Standing.{KeepNoTextsBut, KeepTexts, Releases, ReplaysAsWell, held_by};
 
-use crate::answer::{Tenants, answer, answer_with, ask, give_up, memory_reply};
+use crate::answer::{Tenants, answer, answer_with, ask, give_up, memory_reply, released_unit};
 use crate::committed::Committed;
 use handler::{Ask, Done, Handler};
 use indexmap::IndexMap;
@@ -55,6 +56,7 @@ impl<H: Handler, S: Store> Host<H, S> {
         ensures records { result.log.records ≡ [] }
         ensures failures { result.log.failures ≡ S.failures store }
         ensures texts { KeepTexts (held_by result).at }
+        ensures none { KeepNoTexts (held_by result).at }
     {
         Host {
             alloc,
@@ -113,6 +115,8 @@ impl<H: Handler, S: Store> Host<H, S> {
         ensures kill { (tenant : List ℕ) (unit : ℕ) → step.now ≡ Step.Kill tenant unit → IsOk result }
         ensures err { OnErr result (HoldsAsBefore (held_by self.old) (held_by self.new)) }
         ensures texts { KeepTexts (held_by self.old).at → KeepTexts (held_by self.new).at }
+        ensures none { KeepNoTexts (held_by self.old).at
+            → KeepNoTextsBut (addressed step.now).0 (addressed step.now).1 (held_by self.new).at }
     {
         answer(
             self.alloc,
@@ -141,6 +145,8 @@ impl<H: Handler, S: Store> Host<H, S> {
         ensures kill { (tenant : List ℕ) (unit : ℕ) → step.now ≡ Step.Kill tenant unit → IsOk result }
         ensures err { OnErr result (HoldsAsBefore (held_by self.old) (held_by self.new)) }
         ensures texts { KeepTexts (held_by self.old).at → KeepTexts (held_by self.new).at }
+        ensures none { KeepNoTexts (held_by self.old).at
+            → KeepNoTextsBut (addressed step.now).0 (addressed step.now).1 (held_by self.new).at }
     {
         answer_with(
             self.alloc,
@@ -160,25 +166,29 @@ impl<H: Handler, S: Store> Host<H, S> {
             → Carries (IsHostOf H.meaning) (EntersHonestly H.meaning who step result) self.old self.new }
         ensures kill { (who : Who) (tenant : List ℕ) (unit : ℕ) → step ≡ Step.Kill tenant unit
             → Carries (IsHostOf H.meaning) (λ before after. IsAdded before who step result after) self.old self.new }
+        // Where it kept no text that was released, it keeps none.
+        ensures none { KeepNoTexts (held_by self.old).at → KeepNoTexts (held_by self.new).at }
     {
         match self.answer(&step) {
             Err(_) => memory_reply(&step),
             Ok(answer) => {
-                self.give_up_after(&step);
+                self.give_up_after(step.tenant(), released_unit(&step));
                 answer.into_reply()
             }
         }
     }
 
-    /// Gives up the texts that this step released, which are in its reply: of a host nobody may ask for them.
-    pub(crate) fn give_up_after(&mut self, step: &Step)
+    /// Gives up the texts that a step of the tenant of this name released, if it released a unit. They are in its
+    /// reply: of a host nobody may ask for them.
+    pub(crate) fn give_up_after(&mut self, name: &TenantName, released: Option<Unit>)
         ensures log { self.new.log ≡ self.old.log }
         ensures replay { ReplaysAsWell H.meaning self.old self.new }
+        ensures none { (step : TenantStep) → Releases step released
+            → KeepNoTextsBut name.now step (held_by self.old).at → KeepNoTexts (held_by self.new).at }
     {
-        let Step::Release { tenant, unit } = step else {
-            return;
-        };
-        give_up(&mut self.tenants, tenant, *unit);
+        if let Some(unit) = released {
+            give_up(&mut self.tenants, name, unit);
+        }
     }
 
     /// The whole input of the turn that the step now needs, if it needs one: a post or a delivery
@@ -200,12 +210,14 @@ impl<H: Handler, S: Store> Host<H, S> {
         ensures kill { (who : Who) (tenant : List ℕ) (unit : ℕ) (reply : ReplyOf)
             → step ≡ Step.Kill tenant unit → result ≡ Committed.Reply reply
             → Carries (IsHostOf H.meaning) (λ before after. IsAdded before who step reply after) self.old self.new }
+        // Where it kept no text that was released, it keeps none.
+        ensures none { KeepNoTexts (held_by self.old).at → KeepNoTexts (held_by self.new).at }
     {
         match self.answer_with(&step, worked) {
             Err(_) => Committed::Reply(memory_reply(&step)),
             Ok(None) => Committed::Stale(step),
             Ok(Some(answer)) => {
-                self.give_up_after(&step);
+                self.give_up_after(step.tenant(), released_unit(&step));
                 Committed::Reply(answer.into_reply())
             }
         }
@@ -250,8 +262,10 @@ impl<H: Handler, S: Store> Host<H, S> {
     /// of them grows with the steps done, but by what the tenant's quotas and limits allow, the intervals behind the
     /// unit's base, and what it counts (`released`). Takes no memory, and time by the number of its letters.
     pub fn footprint(&self, tenant: &TenantName, unit: Unit) -> Option<Footprint>
-        ensures { (history : List Entry) → HostReplays H.meaning self.now history
+        ensures lengths { (history : List Entry) → HostReplays H.meaning self.now history
             → FootprintAfter H.meaning tenant.now history unit result }
+        // A host that keeps no text that was released tells so.
+        ensures none { KeepNoTexts (held_by self.now).at → IfSome result (λ f. f.texts ≡ 0) }
     {
         match self.tenants.get(tenant) {
             Some(open) => open.footprint(unit),

@@ -1,22 +1,56 @@
 -- Texts that were released are given up.
-use Rattle.std.proofs.Common.{◌≡◌, ◌≢◌, sym, ◌∙◌, ap, subst, ℕ, ◌+◌, ◌<◌, List, [], ◌++◌, length, length-append}
-use Rattle.std.proofs.Common.{append-nil, arith}
+use Rattle.std.proofs.Common.{◌≡◌, ◌≢◌, ◌⊎◌, inl, inr, sym, ◌∙◌, ap, subst, ℕ, ◌+◌, ◌<◌, ◌≤◌, List, [], ◌++◌, length}
+use Rattle.std.proofs.Common.{append-nil, arith, length-append}
 use Rattle.std.proofs.lemmas.List.{length-map}
 use Rattle.std.specs.Prelude.{Option, Some, slice_get}
 use Rattle.std.proofs.lemmas.Option.{same_Some, slice_get_within}
 use native.Mathlib.Decide.{ℕ_discrete}
 use Rattle.output_commit.specs.Holds.{Line, gone_of as count_of, line_of, line_texts}
 use Rattle.model.specs.declared.records.Record.{Record}
+use Rattle.model.specs.declared.steps.TenantStep.{TenantStep}
+use Rattle.model.specs.declared.steps.TenantStep.TheVariants.{Release}
 use Rattle.model.specs.Handler.{Meaning}
 use Rattle.model.specs.World.{World}
 use Rattle.compact.specs.Compact.{Compact}
 use Rattle.model.specs.Keeping.{Shelf}
 use Rattle.tenant.specs.Past.{KeepsPast}
-use Rattle.tenant.specs.Kept.{TenantState, gone_of, released_of}
+use Rattle.tenant.specs.Kept.{KeepsNoText, KeepsNoTextBut, NoTexts, TenantState, gone_of, released_of}
 use Rattle.tenant.specs.Stands.{Stands, live_in}
 use Rattle.tenant.proofs.Standing.{closed, opened}
 use Rattle.tenant.specs.Represents.{IsCompact, IsReleased}
-use Rattle.tenant.proofs.Lines.{count_there, texts_there}
+use Rattle.tenant.proofs.Lines.{count_there, texts_are, texts_there}
+
+-- what is kept of what units released is this unit's alone
+abbrev OnlyOf : ℕ → List (List (List ℕ)) → Type 0
+OnlyOf unit released =
+    (u : ℕ) (texts : List (List ℕ)) → slice_get released u ≡ Some texts → (texts ≡ []) ⊎ (Release unit ≡ Release u)
+
+no_other : {u v : ℕ} {texts : List (List ℕ)}
+    → (texts ≡ []) ⊎ (Release u ≡ Release v) → (u ≢ v) → texts ≡ []
+no_other (inl e) apart = e
+no_other (inr e) apart = absurd (apart (cc e))
+
+-- where that unit is not there, nothing is kept
+pub none_already : (lines : List Line) (u : ℕ)
+    → length lines ≤ u → OnlyOf u (released_of lines) → NoTexts (released_of lines)
+none_already lines u past only = λ v texts there.
+    let h = slice_get_within (released_of lines) v texts there in
+    let n = length-map lines (λ (l : Line). l.texts) in
+    no_other (only v texts there) (λ e. absurd (omega (arith, h, n, past, e)))
+
+-- Where no unit kept a text, none does after a step that leaves what is kept of what units released.
+pub none_still : {S : Type 0} (t v : TenantState S) (step : TenantStep)
+    → v.released ≡ t.released → KeepsNoText t → KeepsNoTextBut step v
+none_still t v step same none = λ u texts there. inl (none u texts (ap (λ ls. slice_get ls u) (sym same) ∙ there))
+
+-- nor after one that leaves it of all units but the one that it released
+pub none_but : {S : Type 0} (t v : TenantState S) (unit : ℕ)
+    → ((u : ℕ) → u ≢ unit → slice_get v.released u ≡ slice_get t.released u)
+    → KeepsNoText t → KeepsNoTextBut (Release unit) v
+none_but t v unit same none = λ u texts there. elim (ℕ_discrete u unit) [
+  | yes e ↦ inr (ap Release (sym e))
+  | no d ↦ inl (none u texts (sym (same u d) ∙ there))
+]
 
 module _ (before after : List Line) (u : ℕ) (len : length after ≡ length before)
     (gone : count_of after u ≡ count_of before u + length (line_texts before u)) (none : line_texts after u ≡ [])
@@ -111,6 +145,19 @@ module _ (before after : List Line) (u : ℕ) (len : length after ≡ length bef
         left = o.left;
         stands = (o.stands.0, given_up (live_in name records) t o.stands.0 counts texts o.stands.1, o.stands.2);
       })
+
+  -- where the unit alone kept texts, none is kept then
+  pub none_then : OnlyOf u (released_of before) → NoTexts (released_of after)
+  none_then only = λ v texts there.
+      let is : line_texts after v ≡ texts = texts_are after v texts there in
+      let within : v < length before =
+      (let h = slice_get_within (released_of after) v texts there in let n = length-map after (λ (l : Line). l.texts) in
+      omega (arith, h, n, len)) in
+      elim (ℕ_discrete v u) [
+        | yes e ↦ sym is ∙ ap (line_texts after) e ∙ none
+        | no d ↦ sym is ∙ ap (λ (l : Line). l.texts) (others v d)
+            ∙ no_other (only v (line_texts before v) (texts_there before v within)) (λ e. d (sym e))
+      ]
 
 -- what the tenant keeps of its past has nothing of the texts
 pub past_still : {S : Type 0} (t : TenantState S)

@@ -5,7 +5,7 @@ use Rattle.std.specs.Prelude.{Some, slice_get, slice_index, slice_index_or, slic
 use Rattle.std.proofs.lemmas.List.{nil_from_length}
 use Rattle.std.proofs.lemmas.Option.{get_or_from_slice_get, same_Some}
 use Rattle.output_commit.specs.Holds.{Line, gone_of as count_of, line_texts}
-use Rattle.tenant.specs.Kept.{Member, NoneGone, firm_of, firm_texts, gone_of, released_member, released_of}
+use Rattle.tenant.specs.Kept.{Member, NoTexts, NoneGone, firm_of, firm_texts, gone_of, released_member, released_of}
 use Rattle.tenant.specs.Kept.{with_firm_out}
 
 -- a unit that has a line has texts
@@ -104,6 +104,40 @@ none_out (l ∷ lines) (suc n) e none =
     let head : l.texts ≡ [] = none 0 in
     let tail = none_out lines n (omega (arith, e)) (λ u. none (suc u)) in
     λ i. head i ∷ tail i
+
+-- ---- that none is kept
+
+no_text : (lines : List Line) (u : ℕ) → NoTexts (released_of lines) → line_texts lines u ≡ []
+no_text [] u none = refl
+no_text (l ∷ lines) zero none = none 0 l.texts refl
+no_text (l ∷ lines) (suc u) none = no_text lines u (λ v texts e. none (suc v) texts e)
+
+-- where each unit's texts are what they were
+pub still_no_texts : (lines others : List Line)
+    → ((u : ℕ) → line_texts lines u ≡ line_texts others u) → NoTexts (released_of others) → NoTexts (released_of lines)
+still_no_texts lines others same none = λ u texts there.
+    sym (texts_are lines u texts there) ∙ same u ∙ no_text others u none
+
+-- at the beginning
+pub no_texts_at_first : (n : ℕ) → NoTexts (replicate n [])
+no_texts_at_first zero u texts e = absurd (cc e)
+no_texts_at_first (suc n) zero texts e = sym (same_Some [] texts e)
+no_texts_at_first (suc n) (suc u) texts e = no_texts_at_first n u texts e
+
+-- where the texts of the other units are what they were
+pub same_others : (lines others : List Line) (u : ℕ)
+    → length lines ≡ length others → ((v : ℕ) → v ≢ u → line_texts lines v ≡ line_texts others v)
+    → (v : ℕ) → v ≢ u → slice_get (released_of lines) v ≡ slice_get (released_of others) v
+same_others [] [] u len same v apart = refl
+same_others [] (m ∷ others) u len same v apart = absurd (omega (arith, len))
+same_others (l ∷ lines) [] u len same v apart = absurd (omega (arith, len))
+same_others (l ∷ lines) (m ∷ others) u len same zero apart = ap (λ (t : List (List ℕ)). Some t) (same 0 apart)
+same_others (l ∷ lines) (m ∷ others) zero len same (suc v) apart =
+    let tail = same_texts lines others (omega (arith, len)) (λ w. same (suc w) (λ e. absurd (omega (arith, e)))) in
+    ap (λ ls. slice_get ls v) tail
+same_others (l ∷ lines) (m ∷ others) (suc u) len same (suc v) apart =
+    same_others lines others u (omega (arith, len)) (λ w d. same (suc w) (λ e. d (omega (arith, e)))) v
+    (λ e. apart (ap suc e))
 
 -- ---- how many texts were given up
 

@@ -1,6 +1,6 @@
 -- What a tenant keeps, by lists.
 use Rattle.std.specs.Prelude.{◌≡◌, All, [], ◌∷◌, replicate, length, ◌++◌, ◌-◌, min, option_map, drop, map, slice_get}
-use Rattle.std.specs.Prelude.{Bool, false, ◌||◌, ◌==◌}
+use Rattle.std.specs.Prelude.{Bool, false, ◌||◌, ◌==◌, ◌⊎◌}
 use Rattle.std.specs.Prelude.{slice_set, ℕ, cond, nat_le, nat_lt, List, Option, Some, None, ◌+◌, take, ◌<◌, ◌^◌}
 use Rattle.std.specs.List.{fold, position}
 use Rattle.std.specs.Option.{is_some}
@@ -19,6 +19,8 @@ use Rattle.model.specs.declared.names.Source.{Source}
 use Rattle.model.specs.declared.names.Source.TheVariants.{Unit as FromUnit}
 use Rattle.model.specs.declared.replies.Reply.{Reply}
 use Rattle.model.specs.declared.replies.Reply.TheVariants.{Accepted}
+use Rattle.model.specs.declared.steps.TenantStep.{TenantStep}
+use Rattle.model.specs.declared.steps.TenantStep.TheVariants.{Release}
 use Rattle.model.specs.Lists.{numbers_from}
 use Rattle.model.specs.Nodes.{sends_within}
 use Rattle.model.specs.Steps.{kind_or_0}
@@ -64,6 +66,19 @@ NoneGone gone = All (λ n. n ≡ 0) gone
 -- no unit gave up a text
 abbrev pub KeepsTexts : {S : Type 0} → TenantState S → Type 0
 KeepsTexts t = NoneGone t.gone
+
+-- of what units released these are kept, and there are none
+abbrev pub NoTexts : List (List (List ℕ)) → Type 0
+NoTexts released = (u : ℕ) (texts : List (List ℕ)) → slice_get released u ≡ Some texts → texts ≡ []
+
+-- no unit keeps a text that it released
+abbrev pub KeepsNoText : {S : Type 0} → TenantState S → Type 0
+KeepsNoText t = NoTexts t.released
+
+-- A unit that keeps texts is the one that this step released.
+abbrev pub KeepsNoTextBut : {S : Type 0} → TenantStep → TenantState S → Type 0
+KeepsNoTextBut step t =
+    (u : ℕ) (texts : List (List ℕ)) → slice_get t.released u ≡ Some texts → (texts ≡ []) ⊎ (step ≡ Release u)
 
 -- ---- a unit that is there and up
 

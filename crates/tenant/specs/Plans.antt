@@ -12,7 +12,7 @@ use Rattle.tenant.specs.Outcomes.{IsPlain}
 
 -- what is received, by values
 abbrev pub arrived : Incoming → Receipt
-arrived a = record { source = a.source; letter = a.letter; number = a.number; text = a.text.now; vector = a.vector.now }
+arrived a = record { source = a.source; letter = a.letter; number = a.number; text = a.text; vector = a.vector.now }
 
 -- The record, the letters and the answer are those of this receipt, whose turn is this one, where the unit's
 -- sessions are these.

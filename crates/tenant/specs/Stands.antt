@@ -14,7 +14,7 @@ use Rattle.model.specs.Steps.{open_new}
 use Rattle.model.specs.Nodes.{Message}
 use Rattle.model.specs.World.{World, executed}
 use Rattle.shared_log.specs.Logged.{Grows, IsLeftOf, Logged, places_from}
-pub use Rattle.tenant.specs.Kept.{KeepsTexts, TenantState}
+pub use Rattle.tenant.specs.Kept.{KeepsNoText, KeepsNoTextBut, KeepsTexts, TenantState}
 use Rattle.tenant.specs.Outcomes.{done}
 use Rattle.tenant.specs.Represents.{StandsFor}
 

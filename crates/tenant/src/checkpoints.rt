@@ -46,6 +46,7 @@ impl<H: Handler> Tenant<H> {
             → self.new ≡ record self.old { members = slice_set self.old.members unit (checkpointed_member m) }) }
         ensures err { OnErr result (self.new ≡ self.old) }
         ensures gone { self.new.gone ≡ self.old.gone }
+        ensures released { self.new.released ≡ self.old.released }
     {
         checkpoint_member(
             alloc,
@@ -83,6 +84,7 @@ impl<H: Handler> Tenant<H> {
         ensures err { OnErr result (self.new ≡ self.old) }
         ensures err_log { OnErr result (log.new.records ≡ log.old.records) }
         ensures gone { self.new.gone ≡ self.old.gone }
+        ensures released { self.new.released ≡ self.old.released }
     {
         let member = match self.up_member(unit) {
             Ok(member) => member,

@@ -105,6 +105,7 @@ impl<H: Handler> Tenant<H> {
         ensures shelves { IfOk result (λ _. SameShelves self.old self.new) }
         ensures err { OnErr result (self.new ≡ self.old) }
         ensures gone { self.new.gone ≡ self.old.gone }
+        ensures released { self.new.released ≡ self.old.released }
     {
         let sent = match self.letter(letter) {
             Some(sent) => sent,
@@ -126,14 +127,15 @@ impl<H: Handler> Tenant<H> {
                 return Ok(Answer::refused(Refusal::Repeat));
             }
         };
+        let text = content.text().copy()?;
         let arrival = Incoming {
             source: Source::Unit(sent.source),
             letter: Some(letter),
             number: content.number(),
-            text: content.text(),
-            vector: content.vector(),
+            text,
+            vector: content.vector().as_slice(),
         };
-        match self.admit(alloc, name, unit, member, &arrival, &turn)? {
+        match self.admit(alloc, name, unit, member, arrival, &turn)? {
             Err(refusal) => Ok(Answer::refused(refusal)),
             Ok(plan) => {
                 let answer = self.apply(unit, plan, turn)?;
@@ -160,6 +162,7 @@ impl<H: Handler> Tenant<H> {
         ensures shelves { IfOk result (λ _. SameShelves self.old self.new) }
         ensures err { OnErr result (self.new ≡ self.old) }
         ensures gone { self.new.gone ≡ self.old.gone }
+        ensures released { self.new.released ≡ self.old.released }
     {
         match self.ask_letter(letter) {
             Err(refusal) => Ok(Answer::refused(refusal)),

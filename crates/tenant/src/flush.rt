@@ -192,6 +192,7 @@ impl<H: Handler> Tenant<H> {
         ensures makes { (m : MemberOf H.State) → slice_get self.old.members unit ≡ Some m
             → MakesStable self.old unit count m self.new }
         ensures gone { self.new.gone ≡ self.old.gone }
+        ensures released { self.new.released ≡ self.old.released }
     {
         mark_stable(
             &mut self.members,
@@ -234,6 +235,7 @@ impl<H: Handler> Tenant<H> {
         ensures err { OnErr result (self.new ≡ self.old) }
         ensures err_log { OnErr result (log.new.records ≡ log.old.records) }
         ensures gone { self.new.gone ≡ self.old.gone }
+        ensures released { self.new.released ≡ self.old.released }
     {
         let member = match self.up_member(unit) {
             Ok(member) => member,

@@ -1,12 +1,12 @@
 //! How long the lists are that are kept of a unit.
 
-ghost use Rattle.std.specs.Prelude.{◌≡◌, ℕ, List, MatchOption, None, Option, Some, length, slice_get};
+ghost use Rattle.std.specs.Prelude.{◌≡◌, ℕ, IfSome, List, MatchOption, None, Option, Some, length, slice_get};
 ghost use Rattle.model.specs.Keeping.{Shelf};
 ghost use Rattle.model.specs.World.{Member as MemberOf, World};
 ghost use Rattle.model.specs.declared.records.Record.{Record};
 ghost use Rattle.tenant.specs.Footprint.{IsFootprint, IsLengths};
 ghost use Rattle.tenant.specs.Past.{KeepsPast};
-ghost use Rattle.tenant.specs.Kept.{Member as MemberState};
+ghost use Rattle.tenant.specs.Kept.{KeepsNoText, Member as MemberState};
 ghost use Rattle.tenant.specs.Stands.{Stands};
 
 use crate::tenant::Tenant;
@@ -37,9 +37,10 @@ pub struct Footprint {
 impl<H: Handler> Tenant<H> {
     /// The lengths of the unit's lists, if the unit is there.
     fn lengths(&self, unit: Unit) -> Option<Footprint>
-        ensures { MatchOption result (slice_get self.now.members unit ≡ None)
+        ensures lengths { MatchOption result (slice_get self.now.members unit ≡ None)
             (λ f. (m : MemberState H.State) → slice_get self.now.members unit ≡ Some m
             → IsLengths self.now unit m f) }
+        ensures none { KeepsNoText self.now → IfSome result (λ f. f.texts ≡ 0) }
     {
         match self.member(unit) {
             Some(member) => Some(Footprint {
@@ -58,11 +59,13 @@ impl<H: Handler> Tenant<H> {
     /// How long the lists are that are kept of this unit, if the unit is there, by whichever world the tenant stands
     /// for, and whatever checkpoints it has. Takes no memory, and time by the number of letters.
     pub fn footprint(&self, unit: Unit) -> Option<Footprint>
-        ensures { (name : List ℕ) (w : World) (records : List (Option Record)) (shelves : List Shelf)
+        ensures lengths { (name : List ℕ) (w : World) (records : List (Option Record)) (shelves : List Shelf)
             → Stands H.meaning name self.now w records → KeepsPast self.now w shelves
             → MatchOption result (slice_get w.members unit ≡ None) (λ f. (m : MemberOf) (s : Shelf)
             → slice_get w.members unit ≡ Some m → slice_get shelves unit ≡ Some s
             → IsFootprint H.meaning w unit m s f) }
+        // A tenant that keeps no text that was released tells so.
+        ensures none { KeepsNoText self.now → IfSome result (λ f. f.texts ≡ 0) }
     {
         self.lengths(unit)
     }

@@ -99,6 +99,7 @@ impl<H: Handler> Tenant<H> {
         ensures log { (m : MemberOf H.State) → slice_get self.old.members at ≡ Some m
             → LetsGo tenant.now m.unit (given_up m.unit_state (next_base m.unit_state frontier)) log.old log.new }
         ensures gone { self.new.gone ≡ self.old.gone }
+        ensures released { self.new.released ≡ self.old.released }
     {
         forget_at(
             tenant,
@@ -119,6 +120,7 @@ impl<H: Handler> Tenant<H> {
         ensures bases { (w : World) (shelves : List Shelf) → Stands H.meaning tenant.now self.old w log.old.records
             → KeepsPast self.old w shelves → KeepsPast self.new w (based_one w at (slice_get w.members at) shelves) }
         ensures gone { self.new.gone ≡ self.old.gone }
+        ensures released { self.new.released ≡ self.old.released }
     {
         if at < self.members.len() && at < self.frontiers.len() {
             let frontier = self.frontiers[at];
@@ -134,6 +136,7 @@ impl<H: Handler> Tenant<H> {
         ensures just { StaysJust H.meaning tenant.now self.old log.old.records self.new log.new.records }
         ensures bases { Bases H.meaning tenant.now self.old log.old.records self.new }
         ensures gone { self.new.gone ≡ self.old.gone }
+        ensures released { self.new.released ≡ self.old.released }
     {
         for at in 0..self.member_count() {
             self.forget_one(tenant, at, log);
@@ -154,6 +157,7 @@ impl<H: Handler> Tenant<H> {
         ensures bases { (w : World) (shelves : List Shelf) → Stands H.meaning tenant.now self.old w log.old.records
             → KeepsPast self.old w shelves → KeepsPast self.new w (where_added w added shelves) }
         ensures gone { self.new.gone ≡ self.old.gone }
+        ensures released { self.new.released ≡ self.old.released }
     {
         if added > 0 {
             self.forget_firm(tenant, log);

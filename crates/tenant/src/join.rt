@@ -6,8 +6,8 @@ ghost use Rattle.session.specs.Counts.{widened_counts};
 ghost use Rattle.model.specs.Steps.{join as join_of};
 ghost use Rattle.model.specs.Keeping.{after_join};
 ghost use Rattle.tenant.specs.Past.{Shelves};
-ghost use Rattle.tenant.specs.Kept.{KeepsTexts, Member as MemberOf, NoneGone, fitted_from, fitted_member, gone_of};
-ghost use Rattle.tenant.specs.Kept.{joined_kept, released_of};
+ghost use Rattle.tenant.specs.Kept.{KeepsNoText, KeepsTexts, Member as MemberOf, NoTexts, NoneGone, fitted_from};
+ghost use Rattle.tenant.specs.Kept.{fitted_member, gone_of, joined_kept, released_of};
 ghost use Rattle.tenant.specs.Outcomes.{IsPlain};
 ghost use Rattle.tenant.specs.Represents.{Does};
 
@@ -59,6 +59,7 @@ fn add_unit<H: Handler>(
     ensures err_lines { OnErr result (released_of outlet.new ≡ released_of outlet.old) }
     ensures err_gone { OnErr result (gone_of outlet.new ≡ gone_of outlet.old) }
     ensures texts { NoneGone (gone_of outlet.old) → NoneGone (gone_of outlet.new) }
+    ensures none { NoTexts (released_of outlet.old) → NoTexts (released_of outlet.new) }
 {
     members.reserve(1)?;
     outlet.widen(width)?;
@@ -83,6 +84,7 @@ fn widen_from<H: Handler>(
     ensures err_lines { OnErr result (released_of outlet.new ≡ released_of outlet.old) }
     ensures err_gone { OnErr result (gone_of outlet.new ≡ gone_of outlet.old) }
     ensures texts { NoneGone (gone_of outlet.old) → NoneGone (gone_of outlet.new) }
+    ensures none { NoTexts (released_of outlet.old) → NoTexts (released_of outlet.new) }
 {
     if at >= members.len() {
         return add_unit(members, outlet, member, width);
@@ -101,6 +103,7 @@ impl<H: Handler> Tenant<H> {
             → self.new ≡ joined_kept H.meaning self.old kind) }
         ensures err { OnErr result (self.new ≡ self.old) }
         ensures texts { KeepsTexts self.old → KeepsTexts self.new }
+        ensures none { KeepsNoText self.old → KeepsNoText self.new }
     {
         let count = self.member_count();
         let width = count + 1;
@@ -136,6 +139,7 @@ impl<H: Handler> Tenant<H> {
             → Shelves (after_join a.reply) self.old self.new) }
         ensures err { OnErr result (self.new ≡ self.old) }
         ensures texts { KeepsTexts self.old → KeepsTexts self.new }
+        ensures none { KeepsNoText self.old → KeepsNoText self.new }
     {
         let kind = match handler.kind(name) {
             Some(kind) => kind,

@@ -34,6 +34,7 @@ impl<H: Handler> Tenant<H> {
         ensures tenant { (m : MemberOf H.State) → slice_get self.old.members unit ≡ Some m
             → self.new ≡ record self.old { members = slice_set self.old.members unit (killed_member m) } }
         ensures gone { self.new.gone ≡ self.old.gone }
+        ensures released { self.new.released ≡ self.old.released }
     {
         kill_member(&mut self.members, usize::from(unit.number()))
     }
@@ -44,6 +45,7 @@ impl<H: Handler> Tenant<H> {
         ensures plain { IsPlain result }
         ensures shelves { SameShelves self.old self.new }
         ensures gone { self.new.gone ≡ self.old.gone }
+        ensures released { self.new.released ≡ self.old.released }
     {
         match self.up_member(unit) {
             Ok(_) => {}

@@ -40,6 +40,7 @@ impl<H: Handler> Tenant<H> {
                   (record m { known = length self.old.table });
             } }
         ensures gone { self.new.gone ≡ self.old.gone }
+        ensures released { self.new.released ≡ self.old.released }
     {
         let known = self.table.len();
         learn(&mut self.members, usize::from(unit.number()), known);
@@ -82,6 +83,7 @@ impl<H: Handler> Tenant<H> {
         ensures err { OnErr result (self.new ≡ self.old) }
         ensures err_log { OnErr result (log.new.records ≡ log.old.records) }
         ensures gone { self.new.gone ≡ self.old.gone }
+        ensures released { self.new.released ≡ self.old.released }
     {
         match self.up_member(unit) {
             Ok(_) => {}

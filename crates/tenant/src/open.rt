@@ -5,7 +5,7 @@ ghost use Rattle.std.specs.List.{list_any, fold};
 ghost use Rattle.std.specs.Option.{is_none};
 ghost use Rattle.model.specs.Steps.{can_open as can_open_with, is_quota as is_quota_of, within as is_within, kind_or_0};
 ghost use Rattle.tenant.specs.Past.{OpensPast};
-ghost use Rattle.tenant.specs.Kept.{KeepsTexts, gone_of, opened_kept, released_of, with_begun};
+ghost use Rattle.tenant.specs.Kept.{KeepsNoText, KeepsTexts, gone_of, opened_kept, released_of, with_begun};
 ghost use Rattle.tenant.specs.Outcomes.{IsPlain};
 ghost use Rattle.tenant.specs.Represents.{OpensAs};
 ghost use Rattle.tenant.specs.Stands.{IsOpened};
@@ -150,6 +150,7 @@ impl<H: Handler> Tenant<H> {
         ensures opens { IfOk result (λ p. OpensAs H.meaning kinds.now quota optimism p.0 p.1) }
         ensures past { IfOk result (λ p. IfSome p.1 (OpensPast p.0)) }
         ensures texts { IfOk result (λ p. IfSome p.1 KeepsTexts) }
+        ensures none { IfOk result (λ p. IfSome p.1 KeepsNoText) }
     {
         let names = kinds.as_slice();
         if can_open(handler, names, quota, optimism) {
@@ -181,6 +182,7 @@ impl<H: Handler> Tenant<H> {
         ensures opened { IfOk result (λ p. IsOpened H.meaning kinds.now quota optimism p.0.reply p.1) }
         ensures past { IfOk result (λ p. IfSome p.1 (OpensPast p.0.reply)) }
         ensures texts { IfOk result (λ p. IfSome p.1 KeepsTexts) }
+        ensures none { IfOk result (λ p. IfSome p.1 KeepsNoText) }
         ensures plain { IfOk result (λ p. IsPlain p.0) }
     {
         let (reply, tenant) = Tenant::opening(alloc, handler, kinds, quota, optimism)?;

@@ -15,7 +15,6 @@ ghost use Rattle.tenant.specs.Represents.{DoesAs, StandsFor};
 use crate::answer::Answer;
 use crate::receipts::{Incoming, ask_upon};
 use crate::tenant::Tenant;
-use depvector::SharedVector;
 use handler::{AskRef, Handler, Turn};
 use model::{NoMemory, Refusal, Source, TenantName, Text, Unit};
 use std::alloc::Global;
@@ -74,6 +73,7 @@ impl<H: Handler> Tenant<H> {
         ensures shelves { IfOk result (λ _. SameShelves self.old self.new) }
         ensures err { OnErr result (self.new ≡ self.old) }
         ensures gone { self.new.gone ≡ self.old.gone }
+        ensures released { self.new.released ≡ self.old.released }
     {
         let member = match self.member(unit) {
             Some(member) => member,
@@ -81,15 +81,14 @@ impl<H: Handler> Tenant<H> {
                 return Ok(Answer::refused(Refusal::NoUnit));
             }
         };
-        let vector = SharedVector::new(alloc, 0)?;
         let arrival = Incoming {
             source: Source::Outside,
             letter: None,
             number: u64::from(number),
-            text: &text,
-            vector: &vector,
+            text,
+            vector: &[],
         };
-        match self.admit(alloc, name, unit, member, &arrival, &turn)? {
+        match self.admit(alloc, name, unit, member, arrival, &turn)? {
             Err(refusal) => Ok(Answer::refused(refusal)),
             Ok(plan) => {
                 let answer = self.apply(unit, plan, turn)?;
@@ -118,6 +117,7 @@ impl<H: Handler> Tenant<H> {
         ensures shelves { IfOk result (λ _. SameShelves self.old self.new) }
         ensures err { OnErr result (self.new ≡ self.old) }
         ensures gone { self.new.gone ≡ self.old.gone }
+        ensures released { self.new.released ≡ self.old.released }
     {
         match self.ask_post(unit, number, &text) {
             Err(refusal) => Ok(Answer::refused(refusal)),

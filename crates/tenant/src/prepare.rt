@@ -81,6 +81,7 @@ impl<H: Handler> Tenant<H> {
         ensures stale { IfOk result (λ o. IfNone o (self.new ≡ self.old)) }
         ensures err { OnErr result (self.new ≡ self.old) }
         ensures gone { self.new.gone ≡ self.old.gone }
+        ensures released { self.new.released ≡ self.old.released }
     {
         match self.ask_post(unit, number, &text) {
             Err(refusal) => Ok(Some(Answer::refused(refusal))),
@@ -115,6 +116,7 @@ impl<H: Handler> Tenant<H> {
         ensures stale { IfOk result (λ o. IfNone o (self.new ≡ self.old)) }
         ensures err { OnErr result (self.new ≡ self.old) }
         ensures gone { self.new.gone ≡ self.old.gone }
+        ensures released { self.new.released ≡ self.old.released }
     {
         match self.ask_letter(letter) {
             Err(refusal) => Ok(Some(Answer::refused(refusal))),

@@ -4,10 +4,11 @@ ghost use Rattle.std.specs.Prelude.{◌≡◌, ℕ, List, Option, IfOk, MatchOpt
 ghost use Rattle.model.specs.FailureFree.{opening_seats as opening_seats_of};
 ghost use Rattle.model.specs.World.{World};
 ghost use Rattle.model.specs.declared.records.Record.{Record};
+ghost use Rattle.model.specs.declared.steps.TenantStep.{TenantStep};
 ghost use Rattle.tenant.specs.Reads.{opening_count as opening_count_of, opening_of, seats_of};
 ghost use Rattle.model.specs.Keeping.{Shelf};
 ghost use Rattle.tenant.specs.Past.{KeepsPast};
-ghost use Rattle.tenant.specs.Kept.{KeepsTexts};
+ghost use Rattle.tenant.specs.Kept.{KeepsNoText, KeepsNoTextBut, KeepsTexts};
 ghost use Rattle.tenant.specs.Stands.{Stands, receiver_in, released_in};
 
 use crate::member::Member;
@@ -49,7 +50,9 @@ fn first_seats<H: Handler>(alloc: Global, members: &[Member<H>]) -> Result<Vec<S
 impl<H: Handler> Tenant<H> {
     /// How many texts of what the unit released are kept.
     pub(crate) fn text_count(&self, unit: Unit) -> usize
-        ensures { (texts : List (List ℕ)) → slice_get self.now.released unit ≡ Some texts → result ≡ length texts }
+        ensures count { (texts : List (List ℕ)) → slice_get self.now.released unit ≡ Some texts
+            → result ≡ length texts }
+        ensures none { KeepsNoText self.now → result ≡ 0 }
     {
         match self.released_texts(unit) {
             Some(texts) => texts.len(),
@@ -95,6 +98,8 @@ impl<H: Handler> Tenant<H> {
             → Stands H.meaning name self.old w records → Stands H.meaning name self.new w records }
         ensures past { (w : World) (shelves : List Shelf) → KeepsPast self.old w shelves
             → KeepsPast self.new w shelves }
+        // Where the unit alone kept texts, none does then.
+        ensures none { KeepsNoTextBut (TenantStep.Release unit) self.old → KeepsNoText self.new }
     {
         if usize::from(unit.number()) < self.outlet.len() {
             self.outlet.give_up(unit);

@@ -1,30 +1,25 @@
 //! A receipt, once its turn is worked: what it adds and answers.
 
-ghost use Rattle.std.specs.Prelude.{◌≡◌, ◌+◌, ◌<◌, ◌≤◌, ◌^◌, ◌++◌, IfOk, IfErr, None, OnErr, Some, length, slice_get};
-ghost use Rattle.std.specs.Prelude.{slice_set, true};
+ghost use Rattle.std.specs.Prelude.{◌≡◌, ◌+◌, ◌<◌, ◌≤◌, ◌^◌, IfOk, IfErr, None, OnErr, Some, length, slice_get};
+ghost use Rattle.std.specs.Prelude.{true};
 ghost use Rattle.std.specs.Option.{is_some};
 ghost use Rattle.model.specs.Lists.{numbers_from};
 ghost use Rattle.model.specs.Nodes.{sends_within};
 ghost use Rattle.model.specs.declared.refusals.Refusal.TheVariants.{Down};
-ghost use Rattle.session.specs.Counts.{advanced};
-ghost use Rattle.compact.specs.Steps.{letters_by as letters_of};
 ghost use Rattle.rollback.specs.Units.{asking, places};
-ghost use Rattle.tenant.specs.Kept.{IsNext, Member as MemberOf, next_record_of, next_reply_of, next_vector_of};
-ghost use Rattle.tenant.specs.Kept.{received_kept, received_member};
+ghost use Rattle.tenant.specs.Kept.{IsNext, Member as MemberOf, next_mark_of, next_reply_of};
+ghost use Rattle.tenant.specs.Kept.{received_kept};
 ghost use Rattle.tenant.specs.Outcomes.{IsPlain};
 ghost use Rattle.tenant.specs.Plans.{IsPlan, IsPlanned, arrived};
 
 use crate::answer::{Answer, PendingAccept};
 use crate::member::Member;
 use crate::tenant::Tenant;
-use depvector::SharedVector;
 use handler::{AskRef, Handler, Turn};
-use model::{Letter, Letters, NoMemory, Record, Refusal, Source, TenantName, Text, Unit};
+use model::{Letter, Letters, Mark, NoMemory, Record, Refusal, Source, TenantName, Text, Unit};
 use session::Sessions;
 use std::alloc::Global;
-use unit_steps::{
-    NewLetters, SentLetters, letters_by, mark_upon, record_upon, turn_refusal, vector_upon,
-};
+use unit_steps::{NewLetters, letters_by, mark_upon, record_upon, turn_refusal, vector_upon};
 
 /// What a unit receives: from whom, which letter under which number, its text and its vector.
 #[derive(Drop)]
@@ -32,8 +27,18 @@ pub(crate) struct Incoming<'a> {
     pub(crate) source: Source,
     pub(crate) letter: Option<Letter>,
     pub(crate) number: u64,
-    pub(crate) text: &'a Text,
-    pub(crate) vector: &'a SharedVector,
+    pub(crate) text: Text,
+    pub(crate) vector: &'a [Mark],
+}
+
+/// The unit that receives, what is kept of it, the mark of the interval that the receipt makes, and how many units
+/// there are.
+#[derive(Drop)]
+struct Receiver<'a, H: Handler> {
+    unit: Unit,
+    member: &'a Member<H>,
+    mark: Mark,
+    width: usize,
 }
 
 /// What a receipt adds and answers.
@@ -59,137 +64,25 @@ pub(crate) fn ask_upon<'a, H: Handler>(
     }
 }
 
-/// Takes a receipt at the unit at this place, with the letters that its turn makes: all or nothing.
-fn receive_at<H: Handler>(
-    members: &mut Vec<Member<H>>,
-    letters: &mut SentLetters,
-    at: usize,
-    logged: Record,
-    made: NewLetters,
-    turn: Turn<H::State>,
-) -> Result<(), NoMemory>
-    requires within { at < length members.old.items }
-    requires few { length logged.vector ≤ 256 }
-    requires next { (m : MemberOf H.State) → slice_get members.old.items at ≡ Some m
-        → IsNext H.meaning m logged turn }
-    ensures members { IfOk result (λ _. (m : MemberOf H.State) → slice_get members.old.items at ≡ Some m
-        → members.new.items ≡ slice_set members.old.items at
-        (received_member H.meaning m logged turn.outputs)) }
-    ensures letters { IfOk result (λ _. letters.new.items ≡ letters.old.items ++ made.items) }
-    ensures err_members { OnErr result (members.new.items ≡ members.old.items) }
-    ensures err_letters { OnErr result (letters.new.items ≡ letters.old.items) }
-{
-    letters.reserve(made.len())?;
-    let member = &mut members[at];
-    member.receive(logged, turn)?;
-    letters.add(made);
-    Ok(())
-}
-
 impl<H: Handler> Tenant<H> {
-    /// How many units there are.
-    fn width(&self) -> usize
-        ensures { result ≡ length self.now.members }
-    {
-        self.members.len()
-    }
-
-    /// The vector of the interval that a receipt of a unit that is there makes.
-    fn vector_upon(
-        &self,
-        alloc: Global,
-        unit: Unit,
-        member: &Member<H>,
-        arrival: &Incoming<'_>,
-    ) -> Result<SharedVector, NoMemory>
-        requires room { places member.now.unit_state < 2 ^ 32 }
-        requires there { unit < length self.now.members }
-        ensures { IfOk result (λ v. v ≡ next_vector_of self.now unit member.now (arrived arrival.now)) }
-    {
-        let width = self.width();
-        if width > 256 {
-            return Err(NoMemory);
-        }
-        vector_upon(
-            alloc,
-            &self.table,
-            width,
-            unit,
-            member.unit_state(),
-            arrival.vector,
-        )
-    }
-
-    /// The record of a receipt, whose interval has this vector.
-    fn record_upon(
-        &self,
-        name: &TenantName,
-        unit: Unit,
-        member: &Member<H>,
-        arrival: &Incoming<'_>,
-        vector: SharedVector,
-    ) -> Result<Record, NoMemory>
-        requires room { places member.now.unit_state < 2 ^ 32 }
-        requires own { vector ≡ next_vector_of self.now unit member.now (arrived arrival.now) }
-        ensures record { IfOk result (λ r. r ≡ next_record_of name.now self.now unit member.now (arrived arrival.now)) }
-        ensures few { IfOk result (λ r. length r.vector ≤ 256) }
-    {
-        let mark = mark_upon(&self.table, unit, member.unit_state());
-        // Brings in that a vector has 256 marks at most.
-        let _few = vector.as_slice();
-        record_upon(
-            name,
-            unit,
-            mark,
-            arrival.source,
-            arrival.letter,
-            arrival.number,
-            arrival.text,
-            vector,
-        )
-    }
-
-    /// The letters that its turn makes, one for each send to a unit that is there, where the unit's sessions are these.
-    fn letters_upon(
-        &self,
-        alloc: Global,
-        unit: Unit,
-        vector: &SharedVector,
-        sessions: &Sessions,
-        source: Source,
-        turn: &Turn<H::State>,
-    ) -> Result<NewLetters, NoMemory>
-        ensures made { IfOk result (λ made.
-            made.items ≡ letters_of unit vector.now (advanced sessions.now source)
-            (sends_within (length self.now.members) turn.now)) }
-        ensures count { IfOk result (λ made.
-            length made.items ≡ length (sends_within (length self.now.members) turn.now)) }
-    {
-        let width = self.width();
-        let made = letters_by(alloc, unit, vector, sessions, source, turn.sends(), width)?;
-        Ok(made)
-    }
-
     /// What a receipt is answered, whose turn makes so many letters.
     fn reply_upon(
         &self,
         alloc: Global,
-        unit: Unit,
-        member: &Member<H>,
+        by: &Receiver<'_, H>,
         made: usize,
         turn: &Turn<H::State>,
     ) -> Result<PendingAccept, NoMemory>
-        requires room { places member.now.unit_state < 2 ^ 32 }
-        requires held { length member.now.outputs + length turn.now.outputs < 2 ^ 32 }
+        requires mark { by.now.mark ≡ next_mark_of self.now by.now.unit by.now.member.now }
+        requires held { length by.now.member.now.outputs + length turn.now.outputs < 2 ^ 32 }
         requires letters { length self.now.letters + length (sends_within (length self.now.members) turn.now) < 2 ^ 32 }
         requires made { made ≡ length (sends_within (length self.now.members) turn.now) }
-        ensures reply { IfOk result (λ a. a.reply ≡ next_reply_of self.now unit member.now turn.now) }
+        ensures reply { IfOk result (λ a. a.reply ≡ next_reply_of self.now by.now.unit by.now.member.now turn.now) }
         ensures plain { IfOk result IsPlain }
     {
         let letters = Letters::from_first(alloc, self.letters.len(), made)?;
-        let at = mark_upon(&self.table, unit, member.unit_state());
-        let held = member.held_count() as u64 + turn.outputs().len() as u64;
-        PendingAccept::new(alloc, at, held, letters)
+        let held = by.member.held_count() as u64 + turn.outputs().len() as u64;
+        PendingAccept::new(alloc, by.mark, held, letters)
     }
 
     /// What a receipt adds and answers that passed all tests, where the unit's sessions are these.
@@ -197,22 +90,48 @@ impl<H: Handler> Tenant<H> {
         &self,
         alloc: Global,
         name: &TenantName,
-        unit: Unit,
-        member: &Member<H>,
+        by: &Receiver<'_, H>,
         sessions: &Sessions,
-        arrival: &Incoming<'_>,
+        arrival: Incoming<'_>,
         turn: &Turn<H::State>,
     ) -> Result<Plan, NoMemory>
-        requires room { places member.now.unit_state < 2 ^ 32 }
-        requires there { unit < length self.now.members }
-        requires held { length member.now.outputs + length turn.now.outputs < 2 ^ 32 }
+        requires mark { by.now.mark ≡ next_mark_of self.now by.now.unit by.now.member.now }
+        requires width { by.now.width ≡ length self.now.members }
+        requires there { by.now.unit < length self.now.members }
+        requires held { length by.now.member.now.outputs + length turn.now.outputs < 2 ^ 32 }
         requires letters { length self.now.letters + length (sends_within (length self.now.members) turn.now) < 2 ^ 32 }
-        ensures { IfOk result (IsPlan name.now self.now unit member.now (arrived arrival.now) turn.now sessions.now) }
+        ensures { IfOk result (IsPlan name.now self.now by.now.unit by.now.member.now (arrived arrival.entry) turn.now
+            sessions.now) }
     {
-        let vector = self.vector_upon(alloc, unit, member, arrival)?;
-        let made = self.letters_upon(alloc, unit, &vector, sessions, arrival.source, turn)?;
-        let logged = self.record_upon(name, unit, member, arrival, vector)?;
-        let answer = self.reply_upon(alloc, unit, member, made.len(), turn)?;
+        let unit_state = by.member.unit_state();
+        let vector = vector_upon(
+            alloc,
+            by.width,
+            by.unit,
+            unit_state,
+            by.mark,
+            arrival.vector,
+        )?;
+        let made = letters_by(
+            alloc,
+            by.unit,
+            &vector,
+            sessions,
+            arrival.source,
+            turn.sends(),
+            by.width,
+        )?;
+        let answer = self.reply_upon(alloc, by, made.len(), turn)?;
+        let logged = record_upon(
+            name,
+            by.unit,
+            by.mark,
+            arrival.source,
+            arrival.letter,
+            arrival.number,
+            arrival.text,
+            vector,
+        );
         Ok(Plan {
             logged,
             made,
@@ -229,16 +148,16 @@ impl<H: Handler> Tenant<H> {
         name: &TenantName,
         unit: Unit,
         member: &Member<H>,
-        arrival: &Incoming<'_>,
+        arrival: Incoming<'_>,
         turn: &Turn<H::State>,
     ) -> Result<Result<Plan, Refusal>, NoMemory>
         requires room { places member.now.unit_state < 2 ^ 32 }
         requires up { is_some member.now.unit_state.progress ≡ true }
         requires there { unit < length self.now.members }
-        ensures { IfOk result (IsPlanned name.now self.now unit member.now (arrived arrival.now) turn.now) }
+        ensures { IfOk result (IsPlanned name.now self.now unit member.now (arrived arrival.entry) turn.now) }
     {
         let held = member.held_count();
-        let width = self.width();
+        let width = self.member_count();
         match turn_refusal(self.quota, held, self.letters.len(), width, turn) {
             Some(refusal) => return Ok(Err(refusal)),
             None => {}
@@ -248,7 +167,13 @@ impl<H: Handler> Tenant<H> {
             Some(progress) => progress,
             None => unreachable!(),
         };
-        let plan = self.plan(alloc, name, unit, member, &progress.sessions, arrival, turn)?;
+        let by = Receiver {
+            unit,
+            member,
+            mark: mark_upon(&self.table, unit, member.unit_state()),
+            width,
+        };
+        let plan = self.plan(alloc, name, &by, &progress.sessions, arrival, turn)?;
         Ok(Ok(plan))
     }
 
@@ -269,20 +194,17 @@ impl<H: Handler> Tenant<H> {
             → self.new ≡ received_kept H.meaning self.old unit m plan.logged turn.outputs plan.made.items) }
         ensures err { OnErr result (self.new ≡ self.old) }
         ensures gone { self.new.gone ≡ self.old.gone }
+        ensures released { self.new.released ≡ self.old.released }
     {
         let Plan {
             logged,
             made,
             answer,
         } = plan;
-        receive_at(
-            &mut self.members,
-            &mut self.letters,
-            usize::from(unit.number()),
-            logged,
-            made,
-            turn,
-        )?;
+        self.letters.reserve(made.len())?;
+        let member = &mut self.members[usize::from(unit.number())];
+        member.receive(logged, turn)?;
+        self.letters.add(made);
         Ok(answer.into_answer())
     }
 }

@@ -1,6 +1,6 @@
 //! The step `release`.
 
-ghost use Rattle.std.specs.Prelude.{◌≡◌, ◌<◌, ℕ, List, IfOk, None, OnErr, Option, Some, length, slice_get};
+ghost use Rattle.std.specs.Prelude.{◌≡◌, ◌≢◌, ◌<◌, ℕ, List, IfOk, None, OnErr, Option, Some, length, slice_get};
 ghost use Rattle.model.specs.Steps.{release as release_of};
 ghost use Rattle.model.specs.World.{World};
 ghost use Rattle.model.specs.declared.records.Record.{Record};
@@ -34,6 +34,7 @@ fn release_member<H: Handler>(
         members.new.items (released_of outlet.new)) }
     ensures err_members { OnErr result (members.new.items ≡ members.old.items) }
     ensures gone { gone_of outlet.new ≡ gone_of outlet.old }
+    ensures others { (u : ℕ) → u ≢ unit → slice_get (released_of outlet.new) u ≡ slice_get (released_of outlet.old) u }
     ensures err_outlet { OnErr result (released_of outlet.new ≡ released_of outlet.old) }
 {
     let at = usize::from(unit.number());
@@ -55,6 +56,7 @@ impl<H: Handler> Tenant<H> {
             → self.new ≡ with_firm_released self.old unit m frontier texts) }
         ensures err { OnErr result (self.new ≡ self.old) }
         ensures gone { self.new.gone ≡ self.old.gone }
+        ensures others { (u : ℕ) → u ≢ unit → slice_get self.new.released u ≡ slice_get self.old.released u }
     {
         release_member(
             &mut self.members,
@@ -93,6 +95,7 @@ impl<H: Handler> Tenant<H> {
             → Stands H.meaning name self.old w records → SameShelves self.old self.new) }
         ensures err { OnErr result (self.new ≡ self.old) }
         ensures gone { self.new.gone ≡ self.old.gone }
+        ensures others { (u : ℕ) → u ≢ unit → slice_get self.new.released u ≡ slice_get self.old.released u }
     {
         match self.up_member(unit) {
             Ok(_) => {}

@@ -65,6 +65,7 @@ impl<H: Handler> Tenant<H> {
         ensures err { OnErr result (self.new ≡ self.old) }
         ensures err_log { OnErr result (log.new.records ≡ log.old.records) }
         ensures gone { self.new.gone ≡ self.old.gone }
+        ensures released { self.new.released ≡ self.old.released }
     {
         match self.restart_refusal(unit) {
             Some(refusal) => return Ok(Answer::refused(refusal)),

@@ -190,6 +190,7 @@ impl<H: Handler> Tenant<H> {
             → self.new ≡ returned_kept self.old unit m target (incarnation_of self.old.table unit + 1) progress) }
         ensures err { OnErr result (self.new ≡ self.old) }
         ensures gone { self.new.gone ≡ self.old.gone }
+        ensures released { self.new.released ≡ self.old.released }
     {
         self.table.append(Row {
             unit,
@@ -242,6 +243,7 @@ impl<H: Handler> Tenant<H> {
         ensures err { OnErr result (self.new ≡ self.old) }
         ensures err_log { OnErr result (log.new.records ≡ log.old.records) }
         ensures gone { self.new.gone ≡ self.old.gone }
+        ensures released { self.new.released ≡ self.old.released }
     {
         let member = self.member_there(unit);
         let keep = member.live_records_until(target);

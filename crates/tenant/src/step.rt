@@ -5,7 +5,7 @@ ghost use Rattle.std.specs.Prelude.{false, bytes_eq};
 ghost use Rattle.model.specs.World.{World};
 ghost use Rattle.model.specs.declared.replies.End.TheVariants.{Device};
 ghost use Rattle.tenant.specs.Past.{KeepsOn};
-ghost use Rattle.tenant.specs.Kept.{KeepsTexts, TenantState};
+ghost use Rattle.tenant.specs.Kept.{KeepsNoText, KeepsNoTextBut, KeepsTexts, TenantState};
 ghost use Rattle.tenant.specs.Live.{KeepsJust, OthersLive};
 ghost use Rattle.tenant.specs.Needs.{WasFresh, needs};
 ghost use Rattle.tenant.specs.Stands.{Did, Stands};
@@ -51,6 +51,8 @@ impl<H: Handler> Tenant<H> {
         ensures err_log { OnErr result (log.new.records ≡ log.old.records) }
         // A unit that gave up no text still has all of them.
         ensures texts { KeepsTexts self.old → KeepsTexts self.new }
+        // Where no unit kept a text that it released, none does but the one that the step released.
+        ensures none { KeepsNoText self.old → KeepsNoTextBut step self.new }
     {
         match step {
             TenantStep::Open { .. } => Ok(Answer::refused(Refusal::AlreadyOpen)),
@@ -109,6 +111,8 @@ impl<H: Handler> Tenant<H> {
         ensures err_log { OnErr result (log.new.records ≡ log.old.records) }
         // A unit that gave up no text still has all of them.
         ensures texts { KeepsTexts self.old → KeepsTexts self.new }
+        // Where no unit kept a text that it released, none does but the one that the step released.
+        ensures none { KeepsNoText self.old → KeepsNoTextBut step self.new }
     {
         match step {
             TenantStep::Post { unit, number, text } => {

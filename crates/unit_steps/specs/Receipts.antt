@@ -83,10 +83,13 @@ last_vector_of r = (slice_index_or r.intervals (length r.intervals - 1) unknown)
 abbrev pub mark_upon : {S : Type 0} → List Row → ℕ → Recovering S → Mark
 mark_upon table unit r = record { incarnation = incarnation_of table unit; index = places r }
 
--- its vector, in a tenant of so many units
+-- its vector, in a tenant of so many units, where this is its mark
+abbrev pub vector_marked : {S : Type 0} → ℕ → ℕ → Recovering S → Mark → List Mark → List Mark
+vector_marked width unit r mark vector = slice_set (joined (widened (last_vector_of r) width) vector) unit mark
+
+-- and where its mark is that of the table
 abbrev pub vector_upon : {S : Type 0} → List Row → ℕ → ℕ → Recovering S → List Mark → List Mark
-vector_upon table width unit r vector =
-    slice_set (joined (widened (last_vector_of r) width) vector) unit (mark_upon table unit r)
+vector_upon table width unit r vector = vector_marked width unit r (mark_upon table unit r) vector
 
 -- ---- frontiers
 

@@ -1,9 +1,9 @@
 //! The interval that a receipt makes.
 
-ghost use Rattle.std.specs.Prelude.{◌≡◌, ◌<◌, ◌≤◌, ◌^◌, IfOk};
+ghost use Rattle.std.specs.Prelude.{◌≡◌, ◌<◌, ◌≤◌, ◌^◌, IfOk, length};
 ghost use Rattle.depvector.specs.Vectors.{joined};
 ghost use Rattle.rollback.specs.Units.{places};
-ghost use Rattle.unit_steps.specs.Receipts.{last_vector_of, mark_upon as mark_upon_of, vector_upon as vector_upon_of};
+ghost use Rattle.unit_steps.specs.Receipts.{last_vector_of, mark_upon as mark_upon_of, vector_marked};
 
 use depvector::{DepVector, SharedVector};
 use handler::Handler;
@@ -38,37 +38,34 @@ fn join_known(vector: &mut DepVector, sent: &[Mark])
     vector.join_marks(&sent[..count]);
 }
 
-/// The vector of the interval that a receipt makes: the last one, with an entry for each unit, joined with that of the
-/// letter as far as it has entries, and its own mark set.
+/// The vector of the interval that a receipt makes, where this is its mark: the last one, with an entry for each unit,
+/// joined with the letter's as far as it has entries, and its own mark set.
 ///
 /// # Errors
 ///
-/// `NoMemory` where the vector finds no memory.
+/// `NoMemory` where the vector finds no memory, or there are more units than a vector has entries.
 pub fn vector_upon<H: Handler>(
     alloc: Global,
-    table: &StartTable,
     width: usize,
     unit: Unit,
     unit_state: &RecoveryUnit<H>,
-    letter: &SharedVector,
+    mark: Mark,
+    letter: &[Mark],
 ) -> Result<SharedVector, NoMemory>
-    requires few { width ≤ 256 }
     requires own { unit < width }
-    ensures { IfOk result (λ v. places unit_state.now < 2 ^ 32
-        → v ≡ vector_upon_of table.now width unit unit_state.now letter.now) }
+    ensures { IfOk result (λ v. v ≡ vector_marked width unit unit_state.now mark letter.now) }
 {
+    if width > 256 {
+        return Err(NoMemory);
+    }
     let mut vector = last_vector(unit_state).to_own(alloc)?;
     vector.widen(width)?;
-    join_known(&mut vector, letter.as_slice());
-    vector.set_own(unit, mark_upon(table, unit, unit_state));
+    join_known(&mut vector, letter);
+    vector.set_own(unit, mark);
     vector.into_shared(alloc)
 }
 
 /// The record of a receipt.
-///
-/// # Errors
-///
-/// `NoMemory` where there are 2^63 - 1 copies of the text already.
 pub fn record_upon(
     tenant: &TenantName,
     unit: Unit,
@@ -76,24 +73,24 @@ pub fn record_upon(
     source: Source,
     letter: Option<Letter>,
     number: u64,
-    text: &Text,
+    text: Text,
     vector: SharedVector,
-) -> Result<Record, NoMemory>
-    ensures { IfOk result (λ r. r ≡ record {
+) -> Record
+    ensures record { result ≡ record {
       tenant = tenant.now;
       unit = unit;
       mark = mark;
       source = source;
       letter = letter;
       number = number;
-      text = text.now;
+      text = text;
       vector = vector;
-    }) }
+    } }
+    ensures few { length result.vector ≤ 256 }
 {
     let tenant = tenant.copy();
-    let text = text.copy()?;
     let vector = vector.into_marks();
-    Ok(Record {
+    Record {
         tenant,
         unit,
         mark,
@@ -102,5 +99,5 @@ pub fn record_upon(
         number,
         text,
         vector,
-    })
+    }
 }

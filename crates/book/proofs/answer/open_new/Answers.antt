@@ -4,8 +4,8 @@ use Rattle.std.specs.Prelude.{IfSome, None, Some}
 use Rattle.std.specs.Map.{keys_of, lookup}
 use Rattle.indexmap.specs.IndexMap.{get, keys}
 use Rattle.tenant.specs.Past.{OpensPast}
-use Rattle.tenant.specs.Stands.{IsOpened, KeepsTexts}
-use Rattle.book.proofs.Standing.{texts_more}
+use Rattle.tenant.specs.Stands.{IsOpened, KeepsNoText, KeepsTexts}
+use Rattle.book.proofs.Standing.{none_more, texts_more}
 use Rattle.model.specs.declared.steps.TenantStep.TheVariants.{Open}
 use Rattle.book.specs.Past.{KeepsOnAt}
 use Rattle.book.proofs.Answers.{opened-none, opened-some}
@@ -76,4 +76,20 @@ returns-in_ok-put-in-Some-clause-texts g c =
 pub returns-in_err-put-in-Some-clause-texts : goal.returns-in_err-put-in-Some-clause-texts
 returns-in_err-put-in-Some-clause-texts g c = λ kept name k there.
     kept name k (sym (ap (lookup (bytes_eq name)) (c.in_err-put-in-Some.ensures.err ∙ c.reserve.ensures.entries))
+    ∙ there)
+
+pub returns-in_ok-put-in-Some-clause-none : goal.returns-in_ok-put-in-Some-clause-none
+returns-in_ok-put-in-Some-clause-none g c =
+    let a = c.args in
+    let here : get bytes_eq c.put.new.tenants a.name.now ≡ Some c.in-Some.tenant =
+    rw c.copy-own_name.ensures at c.in_ok-put-in-Some.ensures.here in
+    let without = subst (λ t. IfSome t KeepsNoText) c.in-Some.is c.in_ok-answer.ensures.none in
+    none_more (get bytes_eq a.tenants.now)
+    (get bytes_eq c.put.new.tenants) a.name.now (Some c.in-Some.tenant) here without
+    (λ t apart. c.put.ensures.others t (subst (λ n. bytes_eq t n ≡ false) (sym c.copy-own_name.ensures) apart)
+    ∙ ap (lookup (bytes_eq t)) c.reserve.ensures.entries)
+
+pub returns-in_err-put-in-Some-clause-none : goal.returns-in_err-put-in-Some-clause-none
+returns-in_err-put-in-Some-clause-none g c = λ none name k there.
+    none name k (sym (ap (lookup (bytes_eq name)) (c.in_err-put-in-Some.ensures.err ∙ c.reserve.ensures.entries))
     ∙ there)

@@ -1,5 +1,6 @@
 use Rattle.std.proofs.Common.{arith}
-use Rattle.tenant.proofs.Lines.{one_gone_more, one_line, same_counts, same_texts, still_none}
+use Rattle.tenant.proofs.Lines.{one_gone_more, one_line, same_counts, same_texts, still_no_texts}
+use Rattle.tenant.proofs.Lines.{still_none}
 use Rattle.tenant.proofs.Results.{whatever}
 use Rattle.tenant.proofs.join.add_unit.Goals as goal
 
@@ -26,3 +27,9 @@ returns-in_err-widen-clause-texts g c = still_none c.widen.new.self c.args.outle
 
 pub returns-clause-texts : goal.returns-clause-texts
 returns-clause-texts g c = still_none c.widen.new.self c.args.outlet.now c.widen.ensures.gone
+
+pub returns-in_err-widen-clause-none : goal.returns-in_err-widen-clause-none
+returns-in_err-widen-clause-none g c = still_no_texts c.widen.new.self c.args.outlet.now c.widen.ensures.texts
+
+pub returns-clause-none : goal.returns-clause-none
+returns-clause-none g c = still_no_texts c.widen.new.self c.args.outlet.now c.widen.ensures.texts

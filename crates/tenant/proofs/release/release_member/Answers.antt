@@ -2,7 +2,7 @@ use Rattle.std.proofs.Common.{◌≡◌, ◌∙◌, ap, arith}
 use Rattle.std.specs.Prelude.{slice_get}
 use Rattle.std.proofs.lemmas.Option.{get_or_from_slice_get}
 use Rattle.tenant.specs.Kept.{Member}
-use Rattle.tenant.proofs.Lines.{member_out, same_counts, same_texts, texts_out}
+use Rattle.tenant.proofs.Lines.{member_out, same_counts, same_others, same_texts, texts_out}
 use Rattle.tenant.proofs.Results.{whatever}
 use Rattle.tenant.proofs.release.release_member.Goals as goal
 
@@ -33,3 +33,18 @@ returns-in_err-reserve-clause-gone g c =
 pub returns-clause-gone : goal.returns-clause-gone
 returns-clause-gone g c = same_counts c.release.new.outlet c.args.outlet.now (c.release.ensures.len
     ∙ c.reserve.ensures.len) (λ u. c.release.ensures.gone u ∙ c.reserve.ensures.gone u)
+
+pub returns-in_err-reserve-clause-others : goal.returns-in_err-reserve-clause-others
+returns-in_err-reserve-clause-others g c =
+    same_others c.reserve.new.self c.args.outlet.now c.args.unit c.reserve.ensures.len
+    (λ u d. c.reserve.ensures.texts u)
+
+pub returns-clause-others : goal.returns-clause-others
+returns-clause-others g c =
+    let own = c.unit.ensures in
+    let one = c.number-2.ensures in
+    let other = c.number-3.ensures in
+    let same = c.if-number.false in
+    let unit : c.index_mut-member.result.now.unit ≡ c.args.unit = omega (arith, own, one, other, same) in
+    same_others c.release.new.outlet c.args.outlet.now c.args.unit (c.release.ensures.len ∙ c.reserve.ensures.len)
+    (λ u d. c.release.ensures.others u (λ e. d (e ∙ unit)) ∙ c.reserve.ensures.texts u)

@@ -2,3 +2,6 @@ use Rattle.book.proofs.host.Host.answer.Goals as goal
 
 pub returns-clause-texts : goal.returns-clause-texts
 returns-clause-texts g c = rw (← c.self.view_is) c.answer.ensures.texts
+
+pub returns-clause-none : goal.returns-clause-none
+returns-clause-none g c = rw (← c.self.view_is) c.answer.ensures.none

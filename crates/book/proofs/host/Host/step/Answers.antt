@@ -1,3 +1,5 @@
+use Rattle.std.proofs.Common.{sym, ◌∙◌}
+use Rattle.model.specs.Addresses.{addressed}
 use Rattle.book.specs.Entries.{IsAdded}
 use Rattle.book.proofs.Standing.{adds, carries_on, enters, forgoes}
 use Rattle.book.proofs.host.Host.step.Goals as goal
@@ -27,3 +29,11 @@ returns-clause-kill g c = λ who tenant unit is.
 
 pub returns-in-Err-clause-kill : goal.returns-in-Err-clause-kill
 returns-in-Err-clause-kill g c = λ who tenant unit is. absurd (let h = c.in-Err.ensures.kill tenant unit is in cc h)
+
+pub returns-clause-none : goal.returns-clause-none
+returns-clause-none g c = λ none.
+    let but = rw (← c.tenant.ensures) at (c.answer.ensures.none none) in
+    c.give_up_after.ensures.none (addressed c.args.step).1 c.released_unit.ensures but
+
+pub returns-in-Err-clause-none : goal.returns-in-Err-clause-none
+returns-in-Err-clause-none g c = λ none name k there. none name k (sym (c.in-Err.ensures.err.tenants name) ∙ there)

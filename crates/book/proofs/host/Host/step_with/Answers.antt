@@ -1,4 +1,5 @@
 use Rattle.std.proofs.Common.{◌≡◌, ◌∙◌, sym, subst}
+use Rattle.model.specs.Addresses.{addressed}
 use Rattle.book.specs.Entries.{IsAdded}
 use Rattle.book.specs.Standing.{Carries, IsHostOf}
 use Rattle.book.proofs.Standing.{adds, carries_on, commits, forgoes_worked, gives_back}
@@ -45,3 +46,16 @@ returns-in-Err-clause-kill g c = λ who tenant unit reply is told.
 
 pub returns-in-Ok-None-clause-kill : goal.returns-in-Ok-None-clause-kill
 returns-in-Ok-None-clause-kill g c = λ who tenant unit reply is told. absurd (cc told)
+
+pub returns-in-Ok-Some-clause-none : goal.returns-in-Ok-Some-clause-none
+returns-in-Ok-Some-clause-none g c = λ none.
+    let but = rw (← c.tenant.ensures) at (c.answer_with.ensures.none none) in
+    c.give_up_after.ensures.none (addressed c.args.step).1 c.released_unit.ensures but
+
+pub returns-in-Err-clause-none : goal.returns-in-Err-clause-none
+returns-in-Err-clause-none g c = λ none name k there. none name k (sym (c.in-Err.ensures.err.tenants name) ∙ there)
+
+pub returns-in-Ok-None-clause-none : goal.returns-in-Ok-None-clause-none
+returns-in-Ok-None-clause-none g c = λ none name k there.
+    let stale = rw c.in-Ok-None.field-0-is at c.in-Ok-None.ensures.stale in
+    none name k (sym (stale.tenants name) ∙ there)

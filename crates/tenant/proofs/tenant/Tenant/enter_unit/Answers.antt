@@ -1,5 +1,5 @@
 use Rattle.std.proofs.Common.{refl, sym, subst, ◌∙◌, ap, [], ◌∷◌, ◌++◌}
-use Rattle.tenant.specs.Kept.{KeepsTexts, TenantState}
+use Rattle.tenant.specs.Kept.{KeepsNoText, KeepsTexts, TenantState}
 use Rattle.tenant.proofs.Joining.{entered}
 use Rattle.tenant.proofs.tenant.Tenant.enter_unit.Goals as goal
 
@@ -20,3 +20,23 @@ returns-in_err-widen_from-clause-texts g c = λ kept.
 pub returns-clause-texts : goal.returns-clause-texts
 returns-clause-texts g c = λ kept.
     c.widen_from.ensures.texts (subst (λ (t : TenantState g.row.H-State.Denot). KeepsTexts t) (sym c.self.view_is) kept)
+
+pub returns-in_err-widen_from-clause-none : goal.returns-in_err-widen_from-clause-none
+returns-in_err-widen_from-clause-none g c = λ none.
+    c.widen_from.ensures.none (subst (λ (t : TenantState g.row.H-State.Denot). KeepsNoText t) (sym c.self.view_is) none)
+
+pub returns-clause-none : goal.returns-clause-none
+returns-clause-none g c = λ none.
+    c.widen_from.ensures.none (subst (λ (t : TenantState g.row.H-State.Denot). KeepsNoText t) (sym c.self.view_is) none)
+
+pub returns-in_err-reserve-clause-none : goal.returns-in_err-reserve-clause-none
+returns-in_err-reserve-clause-none g c = λ none.
+    subst (λ (t : TenantState g.row.H-State.Denot). KeepsNoText t) (sym c.self.view_is) none
+
+pub returns-in_err-reserve-2-clause-none : goal.returns-in_err-reserve-2-clause-none
+returns-in_err-reserve-2-clause-none g c = λ none.
+    subst (λ (t : TenantState g.row.H-State.Denot). KeepsNoText t) (sym c.self.view_is) none
+
+pub returns-in_err-member-clause-none : goal.returns-in_err-member-clause-none
+returns-in_err-member-clause-none g c = λ none.
+    subst (λ (t : TenantState g.row.H-State.Denot). KeepsNoText t) (sym c.self.view_is) none

@@ -11,6 +11,7 @@ use Rattle.tenant.proofs.tenant.Tenant.forget_firm.Goals as goal
 pub loop-at-init : goal.loop-at-init
 loop-at-init g c = record {
   gone = refl;
+  released = refl;
   stands = λ w s. s;
   just = λ w s has. has;
   beside = beside_same c.args.tenant.now c.args.log.now;
@@ -20,6 +21,7 @@ loop-at-init g c = record {
 pub loop-at-preserved : goal.loop-at-preserved
 loop-at-preserved g c = record {
   gone = c.forget_one.ensures.gone ∙ c.loop-at.invariant.gone;
+  released = c.forget_one.ensures.released ∙ c.loop-at.invariant.released;
   stands = λ w s. c.forget_one.ensures.stands w (c.loop-at.invariant.stands w s);
   just = λ w s has. c.forget_one.ensures.just w (c.loop-at.invariant.stands w s) (c.loop-at.invariant.just w s has);
   beside = beside_then c.args.tenant.now

@@ -11,6 +11,7 @@ use Rattle.tenant.proofs.tenant.Tenant.forget_firm.Given as goal
 abbrev pub invariant-loop-at : goal.invariant-loop-at
 invariant-loop-at g l = record {
   gone : l.self.gone ≡ l.fn.self.gone;
+  released : l.self.released ≡ l.fn.self.released;
   stands : (w : World) → Stands g.H.Handler.meaning l.tenant l.fn.self w l.fn.log.records
       → Stands g.H.Handler.meaning l.tenant l.self w l.log.records;
   just : StaysJust g.H.Handler.meaning l.tenant l.fn.self l.fn.log.records l.self l.log.records;

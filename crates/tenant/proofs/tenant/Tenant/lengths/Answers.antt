@@ -9,8 +9,8 @@ use Rattle.unit_steps.specs.SentLetters.{is_spent_to}
 use Rattle.tenant.specs.Kept.{TenantState, Member}
 use Rattle.tenant.proofs.tenant.Tenant.lengths.Goals as goal
 
-pub returns-in-Some : goal.returns-in-Some
-returns-in-Some g c = λ m found.
+pub returns-in-Some-clause-lengths : goal.returns-in-Some-clause-lengths
+returns-in-Some-clause-lengths g c = λ m found.
     let u = c.args.unit in
     let is : c.in-Some.member.now ≡ m = same_Some c.in-Some.member.now m (sym c.in-Some.ensures ∙ found) in
     let rows : length (filter (λ (r : Row). r.unit == u) c.self.inside.table) ≡ rows_of c.args.self.now.table u =
@@ -25,5 +25,5 @@ returns-in-Some g c = λ m found.
           c.count_spent_to.ensures
           ∙ ap (λ (t : TenantState g.row.H-State.Denot). length (filter (is_spent_to u) t.letters)) c.self.view_is;
       released = c.released_count.ensures;
-      texts = c.text_count.ensures;
+      texts = c.text_count.ensures.count;
     }

@@ -1,7 +1,7 @@
 use Rattle.std.proofs.Common.{◌∙◌, ap, sym, subst, length}
 use Rattle.model.specs.declared.replies.Reply.TheVariants.{Opened}
-use Rattle.tenant.specs.Kept.{KeepsTexts, opened_kept}
-use Rattle.tenant.proofs.Lines.{none_at_first}
+use Rattle.tenant.specs.Kept.{KeepsNoText, KeepsTexts, opened_kept}
+use Rattle.tenant.proofs.Lines.{no_texts_at_first, none_at_first}
 use Rattle.tenant.proofs.Beginning.{open_is}
 use Rattle.tenant.proofs.PastKept.{opens_past}
 use Rattle.tenant.proofs.tenant.Tenant.opening.Goals as goal
@@ -17,4 +17,5 @@ returns-then-can_open g c = record {
       (c.in_ok-tenant.ensures ∙ ap (λ ns. opened_kept g.H.Handler.meaning ns c.args.quota c.args.optimism) same)
       (ap (λ ns. Opened (length ns)) same);
   texts = subst KeepsTexts (sym c.in_ok-tenant.ensures) (none_at_first (length c.as_slice-names.result.now));
+  none = subst KeepsNoText (sym c.in_ok-tenant.ensures) (no_texts_at_first (length c.as_slice-names.result.now));
 }

@@ -1,16 +1,43 @@
-use Rattle.std.proofs.Common.{◌∙◌, length}
+use Rattle.std.proofs.Common.{◌≡◌, ◌∙◌, ap, length}
+use Rattle.std.specs.Prelude.{nat_lt}
+use Rattle.std.specs.List.{filter}
 use Rattle.compact.specs.Steps.{letters_by}
+use Rattle.compact.proofs.Received.{length_letters_by}
 use Rattle.session.specs.Counts.{advanced}
-use Rattle.model.specs.Nodes.{sends_within}
+use Rattle.unit_steps.specs.Receipts.{vector_marked}
+use Rattle.tenant.specs.Kept.{next_vector_of}
+use Rattle.tenant.specs.Plans.{arrived}
 use Rattle.tenant.proofs.tenant.Tenant.plan.Goals as goal
 
+pub reply_upon-requires-clause-made : goal.reply_upon-requires-clause-made
+reply_upon-requires-clause-made g c κs within =
+    c.len.ensures ∙ ap length c.in_ok-made.ensures ∙ length_letters_by c.args.by.now.unit _ _ _
+    ∙ (λ i. length (filter (λ s. nat_lt s.0 (c.requires.width i)) (c.sends.ensures i)))
+
 pub returns : goal.returns
-returns g c = record {
-  logged = c.in_ok-logged.ensures.record;
-  few = c.in_ok-logged.ensures.few;
-  made = c.in_ok-made.ensures.made
-      ∙ (λ i. letters_by c.args.unit (c.in_ok-vector.ensures i) (advanced c.args.sessions.now c.args.arrival.now.source)
-      (sends_within (length c.args.self.now.members) c.args.turn.now));
-  reply = c.in_ok-answer.ensures.reply;
-  plain = c.in_ok-answer.ensures.plain;
-}
+returns g c =
+    let by = c.args.by.now in
+    let vector : c.in_ok-vector.vector
+    ≡ next_vector_of c.args.self.now by.unit by.member.now (arrived c.args.arrival) =
+    c.in_ok-vector.ensures
+    ∙ (λ i. vector_marked (c.requires.width i) by.unit (c.unit_state-unit_state.ensures i) (c.requires.mark i)
+    c.args.arrival.vector.now) in
+    let record_is = c.record_upon-logged.ensures.record in
+    record {
+      logged = record_is ∙ (λ i. record {
+        tenant = c.args.name.now;
+        unit = by.unit;
+        mark = c.requires.mark i;
+        source = c.args.arrival.source;
+        letter = c.args.arrival.letter;
+        number = c.args.arrival.number;
+        text = c.args.arrival.text;
+        vector = vector i;
+      });
+      few = c.record_upon-logged.ensures.few;
+      made = c.in_ok-made.ensures
+          ∙ (λ i. letters_by by.unit (vector i) (advanced c.args.sessions.now c.args.arrival.source)
+          (filter (λ s. nat_lt s.0 (c.requires.width i)) (c.sends.ensures i)));
+      reply = c.in_ok-answer.ensures.reply;
+      plain = c.in_ok-answer.ensures.plain;
+    }

@@ -1,8 +1,9 @@
-use Rattle.std.proofs.Common.{refl}
+use Rattle.std.proofs.Common.{inl, refl}
 use Rattle.model.specs.declared.steps.TenantStep.TheVariants.{Checkpoint, Deliver, Flush, Join, Kill, Notice, Post}
 use Rattle.model.specs.declared.steps.TenantStep.TheVariants.{Release, Restart, Status}
 use Rattle.tenant.proofs.Stepping.{any_did, any_ok, plain_ok}
 use Rattle.model.specs.declared.steps.TenantStep.{TenantStep}
+use Rattle.tenant.proofs.Giving.{none_but, none_still}
 use Rattle.tenant.proofs.Live.{join_stable, quiet_keeps, quiet_ok, stays_bases, stays_ok, stays_stable}
 use Rattle.tenant.proofs.PastKept.{after_join_bases, join_ok, none_changed, notice_ok, release_ok, restart_ok}
 use Rattle.tenant.proofs.PastKept.{same_keeps, same_ok}
@@ -212,3 +213,39 @@ returns-in-Notice-clause-just g c =
     c.args.log.now c.notice.new.log c.notice.result c.notice.ensures.did
     (notice_ok g.H.Handler.meaning c.args.name.now c.args.self.now c.notice.new.self c.args.log.now.records
     c.in-Notice.unit c.notice.result c.notice.ensures.shelves) c.notice.ensures.just)
+
+pub returns-in-Join-clause-none : goal.returns-in-Join-clause-none
+returns-in-Join-clause-none g c = λ none u texts there. inl (c.join.ensures.none none u texts there)
+
+pub returns-in-Post-clause-none : goal.returns-in-Post-clause-none
+returns-in-Post-clause-none g c =
+    none_still c.args.self.now c.post.new.self c.args.step c.post.ensures.released
+
+pub returns-in-Deliver-clause-none : goal.returns-in-Deliver-clause-none
+returns-in-Deliver-clause-none g c =
+    none_still c.args.self.now c.deliver.new.self c.args.step c.deliver.ensures.released
+
+pub returns-in-Flush-clause-none : goal.returns-in-Flush-clause-none
+returns-in-Flush-clause-none g c =
+    none_still c.args.self.now c.flush.new.self c.args.step c.flush.ensures.released
+
+pub returns-in-Checkpoint-clause-none : goal.returns-in-Checkpoint-clause-none
+returns-in-Checkpoint-clause-none g c =
+    none_still c.args.self.now c.checkpoint.new.self c.args.step c.checkpoint.ensures.released
+
+pub returns-in-Kill-clause-none : goal.returns-in-Kill-clause-none
+returns-in-Kill-clause-none g c =
+    none_still c.args.self.now c.kill.new.self c.args.step c.kill.ensures.released
+
+pub returns-in-Restart-clause-none : goal.returns-in-Restart-clause-none
+returns-in-Restart-clause-none g c =
+    none_still c.args.self.now c.restart.new.self c.args.step c.restart.ensures.released
+
+pub returns-in-Notice-clause-none : goal.returns-in-Notice-clause-none
+returns-in-Notice-clause-none g c =
+    none_still c.args.self.now c.notice.new.self c.args.step c.notice.ensures.released
+
+pub returns-in-Release-clause-none : goal.returns-in-Release-clause-none
+returns-in-Release-clause-none g c =
+    rw (c.in-Release.is)
+    (none_but c.args.self.now c.release.new.self c.in-Release.unit c.release.ensures.others)

@@ -58,12 +58,13 @@ admit-requires-clause-room g c κs within =
     (c.in-Some.ensures ∙ ap (λ (l : CompactLetter). Some l) (sym c.sent.view_is)) in
     let content : Content = record {
       number = c.number.result;
-      text = c.text.result.now;
-      vector = c.vector.result.now;
+      text = c.in_ok-text.text;
+      vector = c.as_slice.result.now;
     } in
     let whole : sent.content ≡ Some content =
-    content_parts sent.content c.in-Some-content.content.now c.number.result c.text.result.now c.vector.result.now
-    (ap option_copied c.in-Some-content.is) c.number.ensures c.text.ensures c.vector.ensures in
+    content_parts sent.content c.in-Some-content.content.now c.number.result c.in_ok-text.text c.as_slice.result.now
+    (ap option_copied c.in-Some-content.is) c.number.ensures (c.in_ok-text.ensures ∙ c.text.ensures)
+    (c.as_slice.ensures.marks ∙ c.vector.ensures) in
     let is = subst (λ (o : Option Content).
     IsTurnBy g.H.Handler.meaning c.args.self.now c.in-Some-member.member.now sent o c.args.turn) whole
     (c.requires.own sent c.in-Some-member.member.now there c.in-Some-member.ensures) in
@@ -80,12 +81,13 @@ admit-requires-clause-up g c κs within =
     (c.in-Some.ensures ∙ ap (λ (l : CompactLetter). Some l) (sym c.sent.view_is)) in
     let content : Content = record {
       number = c.number.result;
-      text = c.text.result.now;
-      vector = c.vector.result.now;
+      text = c.in_ok-text.text;
+      vector = c.as_slice.result.now;
     } in
     let whole : sent.content ≡ Some content =
-    content_parts sent.content c.in-Some-content.content.now c.number.result c.text.result.now c.vector.result.now
-    (ap option_copied c.in-Some-content.is) c.number.ensures c.text.ensures c.vector.ensures in
+    content_parts sent.content c.in-Some-content.content.now c.number.result c.in_ok-text.text c.as_slice.result.now
+    (ap option_copied c.in-Some-content.is) c.number.ensures (c.in_ok-text.ensures ∙ c.text.ensures)
+    (c.as_slice.ensures.marks ∙ c.vector.ensures) in
     let is = subst (λ (o : Option Content).
     IsTurnBy g.H.Handler.meaning c.args.self.now c.in-Some-member.member.now sent o c.args.turn) whole
     (c.requires.own sent c.in-Some-member.member.now there c.in-Some-member.ensures) in
@@ -110,12 +112,13 @@ apply-requires-clause-few g c κs within =
     (c.in-Some.ensures ∙ ap (λ (l : CompactLetter). Some l) (sym c.sent.view_is)) in
     let content : Content = record {
       number = c.number.result;
-      text = c.text.result.now;
-      vector = c.vector.result.now;
+      text = c.in_ok-text.text;
+      vector = c.as_slice.result.now;
     } in
     let whole : sent.content ≡ Some content =
-    content_parts sent.content c.in-Some-content.content.now c.number.result c.text.result.now c.vector.result.now
-    (ap option_copied c.in-Some-content.is) c.number.ensures c.text.ensures c.vector.ensures in
+    content_parts sent.content c.in-Some-content.content.now c.number.result c.in_ok-text.text c.as_slice.result.now
+    (ap option_copied c.in-Some-content.is) c.number.ensures (c.in_ok-text.ensures ∙ c.text.ensures)
+    (c.as_slice.ensures.marks ∙ c.vector.ensures) in
     let is = subst (λ (o : Option Content).
     IsTurnBy g.H.Handler.meaning c.args.self.now c.in-Some-member.member.now sent o c.args.turn) whole
     (c.requires.own sent c.in-Some-member.member.now there c.in-Some-member.ensures) in
@@ -135,12 +138,13 @@ apply-requires-clause-next g c κs within = λ m at.
     (c.in-Some.ensures ∙ ap (λ (l : CompactLetter). Some l) (sym c.sent.view_is)) in
     let content : Content = record {
       number = c.number.result;
-      text = c.text.result.now;
-      vector = c.vector.result.now;
+      text = c.in_ok-text.text;
+      vector = c.as_slice.result.now;
     } in
     let whole : sent.content ≡ Some content =
-    content_parts sent.content c.in-Some-content.content.now c.number.result c.text.result.now c.vector.result.now
-    (ap option_copied c.in-Some-content.is) c.number.ensures c.text.ensures c.vector.ensures in
+    content_parts sent.content c.in-Some-content.content.now c.number.result c.in_ok-text.text c.as_slice.result.now
+    (ap option_copied c.in-Some-content.is) c.number.ensures (c.in_ok-text.ensures ∙ c.text.ensures)
+    (c.as_slice.ensures.marks ∙ c.vector.ensures) in
     let is = subst (λ (o : Option Content).
     IsTurnBy g.H.Handler.meaning c.args.self.now c.in-Some-member.member.now sent o c.args.turn) whole
     (c.requires.own sent c.in-Some-member.member.now there c.in-Some-member.ensures) in
@@ -161,12 +165,13 @@ returns-in-Err-clause-done g c = λ live w log s.
     (c.in-Some.ensures ∙ ap (λ (l : CompactLetter). Some l) (sym c.sent.view_is)) in
     let content : Content = record {
       number = c.number.result;
-      text = c.text.result.now;
-      vector = c.vector.result.now;
+      text = c.in_ok-text.text;
+      vector = c.as_slice.result.now;
     } in
     let whole : sent.content ≡ Some content =
-    content_parts sent.content c.in-Some-content.content.now c.number.result c.text.result.now c.vector.result.now
-    (ap option_copied c.in-Some-content.is) c.number.ensures c.text.ensures c.vector.ensures in
+    content_parts sent.content c.in-Some-content.content.now c.number.result c.in_ok-text.text c.as_slice.result.now
+    (ap option_copied c.in-Some-content.is) c.number.ensures (c.in_ok-text.ensures ∙ c.text.ensures)
+    (c.as_slice.ensures.marks ∙ c.vector.ensures) in
     let is = subst (λ (o : Option Content).
     IsTurnBy g.H.Handler.meaning c.args.self.now c.in-Some-member.member.now sent o c.args.turn) whole
     (c.requires.own sent c.in-Some-member.member.now there c.in-Some-member.ensures) in
@@ -186,12 +191,13 @@ returns-in_ok-answer-in-Ok-clause-plain g c =
     (c.in-Some.ensures ∙ ap (λ (l : CompactLetter). Some l) (sym c.sent.view_is)) in
     let content : Content = record {
       number = c.number.result;
-      text = c.text.result.now;
-      vector = c.vector.result.now;
+      text = c.in_ok-text.text;
+      vector = c.as_slice.result.now;
     } in
     let whole : sent.content ≡ Some content =
-    content_parts sent.content c.in-Some-content.content.now c.number.result c.text.result.now c.vector.result.now
-    (ap option_copied c.in-Some-content.is) c.number.ensures c.text.ensures c.vector.ensures in
+    content_parts sent.content c.in-Some-content.content.now c.number.result c.in_ok-text.text c.as_slice.result.now
+    (ap option_copied c.in-Some-content.is) c.number.ensures (c.in_ok-text.ensures ∙ c.text.ensures)
+    (c.as_slice.ensures.marks ∙ c.vector.ensures) in
     let is = subst (λ (o : Option Content).
     IsTurnBy g.H.Handler.meaning c.args.self.now c.in-Some-member.member.now sent o c.args.turn) whole
     (c.requires.own sent c.in-Some-member.member.now there c.in-Some-member.ensures) in
@@ -211,12 +217,13 @@ returns-in_ok-answer-in-Ok-clause-done g c = λ live w log s.
     (c.in-Some.ensures ∙ ap (λ (l : CompactLetter). Some l) (sym c.sent.view_is)) in
     let content : Content = record {
       number = c.number.result;
-      text = c.text.result.now;
-      vector = c.vector.result.now;
+      text = c.in_ok-text.text;
+      vector = c.as_slice.result.now;
     } in
     let whole : sent.content ≡ Some content =
-    content_parts sent.content c.in-Some-content.content.now c.number.result c.text.result.now c.vector.result.now
-    (ap option_copied c.in-Some-content.is) c.number.ensures c.text.ensures c.vector.ensures in
+    content_parts sent.content c.in-Some-content.content.now c.number.result c.in_ok-text.text c.as_slice.result.now
+    (ap option_copied c.in-Some-content.is) c.number.ensures (c.in_ok-text.ensures ∙ c.text.ensures)
+    (c.as_slice.ensures.marks ∙ c.vector.ensures) in
     let is = subst (λ (o : Option Content).
     IsTurnBy g.H.Handler.meaning c.args.self.now c.in-Some-member.member.now sent o c.args.turn) whole
     (c.requires.own sent c.in-Some-member.member.now there c.in-Some-member.ensures) in
@@ -238,12 +245,13 @@ returns-in_ok-answer-in-Ok-clause-shelves g c =
     (c.in-Some.ensures ∙ ap (λ (l : CompactLetter). Some l) (sym c.sent.view_is)) in
     let content : Content = record {
       number = c.number.result;
-      text = c.text.result.now;
-      vector = c.vector.result.now;
+      text = c.in_ok-text.text;
+      vector = c.as_slice.result.now;
     } in
     let whole : sent.content ≡ Some content =
-    content_parts sent.content c.in-Some-content.content.now c.number.result c.text.result.now c.vector.result.now
-    (ap option_copied c.in-Some-content.is) c.number.ensures c.text.ensures c.vector.ensures in
+    content_parts sent.content c.in-Some-content.content.now c.number.result c.in_ok-text.text c.as_slice.result.now
+    (ap option_copied c.in-Some-content.is) c.number.ensures (c.in_ok-text.ensures ∙ c.text.ensures)
+    (c.as_slice.ensures.marks ∙ c.vector.ensures) in
     let is = subst (λ (o : Option Content).
     IsTurnBy g.H.Handler.meaning c.args.self.now c.in-Some-member.member.now sent o c.args.turn) whole
     (c.requires.own sent c.in-Some-member.member.now there c.in-Some-member.ensures) in

@@ -1,4 +1,4 @@
-use Rattle.std.proofs.Common.{refl, ap}
+use Rattle.std.proofs.Common.{[], refl, ap}
 use Rattle.std.specs.Prelude.{None}
 use Rattle.std.proofs.lemmas.Option.{slice_get_within}
 use Rattle.model.specs.declared.names.Source.TheVariants.{Outside}
@@ -52,16 +52,16 @@ apply-requires-clause-next g c κs within = λ m there.
     c.args.self.now c.args.unit c.in-Some.member.now _ c.args.turn c.in-Ok.plan planned _ Outside c.args.text
     r.input r.asking g.H.Handler.meaning r.own refl refl c.in-Some.ensures m there
 
-pub returns-clause-plain : goal.returns-clause-plain
-returns-clause-plain g c =
+pub returns-in_ok-answer-in-Ok-clause-plain : goal.returns-in_ok-answer-in-Ok-clause-plain
+returns-in_ok-answer-in-Ok-clause-plain g c =
     let r = c.requires.own c.in-Some.member.now c.in-Some.ensures in
     let planned = rw (c.in-Ok.is) at c.in_ok-refusal.ensures in
     rw (c.in_ok-answer-in-Ok.ensures.answer)
     (planned_plain c.args.name.now c.args.self.now c.args.unit c.in-Some.member.now _ c.args.turn c.in-Ok.plan
     planned _ Outside c.args.text r.input r.asking)
 
-pub returns-clause-done : goal.returns-clause-done
-returns-clause-done g c = λ live w log s.
+pub returns-in_ok-answer-in-Ok-clause-done : goal.returns-in_ok-answer-in-Ok-clause-done
+returns-in_ok-answer-in-Ok-clause-done g c = λ live w log s.
     let r = c.requires.own c.in-Some.member.now c.in-Some.ensures in
     let planned = rw (c.in-Ok.is) at c.in_ok-refusal.ensures in
     post_planned g.H.Handler.meaning c.args.name.now live c.args.self.now w log s c.args.unit c.args.number c.args.text
@@ -71,13 +71,13 @@ returns-clause-done g c = λ live w log s.
       letter = None;
       number = c.from.ensures i;
       text = c.args.text;
-      vector = c.in_ok-vector.ensures i;
+      vector = [];
     }) c.in-Ok.plan planned
     c.in_ok-answer-in-Ok.answer.reply (ap (λ (a : Answer). a.reply) c.in_ok-answer-in-Ok.ensures.answer)
     c.apply.new.self (c.in_ok-answer-in-Ok.ensures.ok c.in-Some.member.now c.in-Some.ensures)
 
-pub returns-clause-shelves : goal.returns-clause-shelves
-returns-clause-shelves g c =
+pub returns-in_ok-answer-in-Ok-clause-shelves : goal.returns-in_ok-answer-in-Ok-clause-shelves
+returns-in_ok-answer-in-Ok-clause-shelves g c =
     let r = c.requires.own c.in-Some.member.now c.in-Some.ensures in
     let planned = rw (c.in-Ok.is) at c.in_ok-refusal.ensures in
     received_same g.H.Handler.meaning c.args.self.now c.args.unit c.in-Some.member.now c.in-Some.ensures
