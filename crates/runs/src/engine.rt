@@ -7,14 +7,13 @@ use crate::hosted::Hosted;
 use crate::judged::Judged;
 use crate::waits::{tell_done, tell_driven, tell_waiting, total};
 use book::{Book, Host};
-use driven_shards::{Driven, drive_shards};
 use driver::{Done, Driver, drive, drive_host};
 use handler::Handler;
 use lines::{Counted, ServeFault, serve, serve_host};
 use log::{Log, error};
 use model::NoMemory;
 use reports::{Amount, NOTHING, audit_all, kept_by, sum, tell_amount};
-use shards::{Shards, Stepper, serve_shards};
+use shards::{Shards, drive_shards, serve_shards};
 use shared_log::{MemoryStore, Store};
 use std::alloc::Global;
 use std::io::{BufRead, Write};
@@ -31,11 +30,11 @@ const REFUSED: u8 = 3;
 enum Stepped<H: Handler, S: Store> {
     Host(Host<H, S>),
     Book(Book<H, S>),
-    Shards(Shards<Host<H, MemoryStore>>),
-    Driven(Shards<Driven<H, MemoryStore>>),
+    Shards(Shards<H, MemoryStore>),
+    DrivenShards(Shards<H, MemoryStore>),
 }
 
-/// What answers lines, and carries on behind each where that is asked for.
+/// What answers lines, and carries on behind each where that is asked for. Shards have drivers of their own.
 ///
 /// It isn't let go of by itself: the process ends with the run, and to let go of each text would take a fifth of its
 /// time (`forget`).
@@ -63,7 +62,7 @@ impl<H: Handler + Send, S: Store> Engine<H, S> {
         match &self.stepped {
             Stepped::Host(host) => Some(host),
             Stepped::Book(book) => Some(book.host()),
-            Stepped::Shards(_) | Stepped::Driven(_) => None,
+            Stepped::Shards(_) | Stepped::DrivenShards(_) => None,
         }
     }
 
@@ -79,8 +78,7 @@ impl<H: Handler + Send, S: Store> Engine<H, S> {
         match stepped {
             Stepped::Host(host) => mem::forget(host),
             Stepped::Book(book) => mem::forget(book),
-            Stepped::Shards(shards) => mem::forget(shards),
-            Stepped::Driven(shards) => mem::forget(shards),
+            Stepped::Shards(shards) | Stepped::DrivenShards(shards) => mem::forget(shards),
         }
     }
 
@@ -89,12 +87,7 @@ impl<H: Handler + Send, S: Store> Engine<H, S> {
         match &self.stepped {
             Stepped::Host(host) => kept_by(host),
             Stepped::Book(book) => kept_by(book.host()),
-            Stepped::Shards(shards) => kept_by_all(shards, &|host: &Host<H, MemoryStore>| {
-                kept_by(host)
-            }),
-            Stepped::Driven(shards) => kept_by_all(shards, &|driven: &Driven<H, MemoryStore>| {
-                kept_by(driven.host())
-            }),
+            Stepped::Shards(shards) | Stepped::DrivenShards(shards) => kept_by_all(shards),
         }
     }
 
@@ -130,7 +123,9 @@ impl<H: Handler + Send, S: Store> Engine<H, S> {
                 before,
             ),
             (Stepped::Shards(shards), _, _) => serve_shards(rt, alloc, reader, writer, shards),
-            (Stepped::Driven(shards), _, _) => drive_shards(rt, alloc, reader, writer, shards),
+            (Stepped::DrivenShards(shards), _, _) => {
+                drive_shards(rt, alloc, reader, writer, shards)
+            }
         }
     }
 
@@ -147,7 +142,7 @@ impl<H: Handler + Send, S: Store> Engine<H, S> {
             tell_amount(told, self.kept());
         }
         match (&self.stepped, &self.driver) {
-            (Stepped::Driven(shards), _) => tell_driven_by_all(told, shards),
+            (Stepped::DrivenShards(shards), _) => tell_driven_by_all(told, shards),
             (_, Some(driver)) => tell_driven(told, driver),
             (_, None) => {}
         }
@@ -189,11 +184,18 @@ impl<H: Handler + Copy + Send> Engine<H, MemoryStore> {
         cores: usize,
         drives: bool,
     ) -> Result<Engine<H, MemoryStore>, NoMemory> {
-        let make = || Host::new(alloc, handler, MemoryStore::new(alloc));
+        let mut shards = Shards::new(alloc, Host::new(alloc, handler, MemoryStore::new(alloc)))?;
+        for _ in 1..cores {
+            let host = Host::new(alloc, handler, MemoryStore::new(alloc));
+            if shards.add(host).is_err() {
+                mem::forget(shards);
+                return Err(NoMemory);
+            }
+        }
         let stepped = if drives {
-            Stepped::Driven(shards_of(alloc, cores, &|| Driven::new(alloc, make()))?)
+            Stepped::DrivenShards(shards)
         } else {
-            Stepped::Shards(shards_of(alloc, cores, &make)?)
+            Stepped::Shards(shards)
         };
         Ok(Engine {
             stepped,
@@ -202,56 +204,30 @@ impl<H: Handler + Copy + Send> Engine<H, MemoryStore> {
     }
 }
 
-/// So many shards, one at least. `NoMemory` comes where there is none for their list.
-fn shards_of<X: Stepper, F: Fn() -> X>(
-    alloc: Global,
-    count: usize,
-    make: &F,
-) -> Result<Shards<X>, NoMemory>
-    requires { F.IsAlwaysCallable make.now }
-{
-    let mut shards = Shards::new(alloc, make())?;
-    for _ in 1..count {
-        if shards.add(make()).is_err() {
-            mem::forget(shards);
-            return Err(NoMemory);
-        }
-    }
-    Ok(shards)
-}
-
-/// What is kept of all tenants of some shards.
-fn kept_by_all<X: Stepper, F: Fn(&X) -> Result<Amount, NoMemory>>(
-    shards: &Shards<X>,
-    kept: &F,
-) -> Result<Amount, NoMemory>
-    requires { F.IsAlwaysCallable kept.now }
-{
+/// What is kept of all tenants of some hosts.
+fn kept_by_all<H: Handler, S: Store>(shards: &Shards<H, S>) -> Result<Amount, NoMemory> {
     let mut all = NOTHING;
     for at in 0..shards.len() {
-        match shards.stepper(at) {
-            Some(stepper) => all = sum(all, kept(stepper)?),
+        match shards.host(at) {
+            Some(host) => all = sum(all, kept_by(host)?),
             None => break,
         }
     }
     Ok(all)
 }
 
-/// Tells what the drivers of some shards did together, and which letters still wait.
-fn tell_driven_by_all<L: Log, H: Handler + Send>(
-    told: &L,
-    shards: &Shards<Driven<H, MemoryStore>>,
-) {
+/// Tells what the drivers of some hosts did together, and which letters still wait.
+fn tell_driven_by_all<L: Log, H: Handler, S: Store>(told: &L, shards: &Shards<H, S>) {
     let mut done = Done::none();
     for at in 0..shards.len() {
-        if let Some(driven) = shards.stepper(at) {
-            done = total(done, driven.driver().done());
+        if let Some(driver) = shards.driver(at) {
+            done = total(done, driver.done());
         }
     }
     tell_done(told, done);
     for at in 0..shards.len() {
-        if let Some(driven) = shards.stepper(at) {
-            tell_waiting(told, driven.driver());
+        if let Some(driver) = shards.driver(at) {
+            tell_waiting(told, driver);
         }
     }
 }

@@ -17,12 +17,12 @@ use Rattle.shards.proofs.Merging.{merges, places_below}
 use Rattle.dealing.proofs.Standing.{dealt_below}
 
 module _ {B X : Type 0} (Does : B → Step → List ℕ → B → Type 0) (steps : X → List Step)
-    (stepper : X → B) (bytes lens : X → List ℕ) (old new : List X) (same : length new ≡ length old)
+    (host : X → B) (bytes lens : X → List ℕ) (old new : List X) (same : length new ≡ length old)
     (ran : (i : ℕ) (d : X) → i < length old → RanShard Does (steps (get_or old i d))
-    (stepper (get_or old i d)) (stepper (get_or new i d)) (bytes (get_or new i d)) (lens (get_or new i d))) where
+    (host (get_or old i d)) (host (get_or new i d)) (bytes (get_or new i d)) (lens (get_or new i d))) where
   abbrev IsOf : ℕ → List (List ℕ) → Type 0
   IsOf i answers = (h v : X) → slice_get old i ≡ Some h → slice_get new i ≡ Some v
-      → DoesEach Does (steps h) (stepper h) answers (stepper v) × Told answers (bytes v) (lens v) 0 0
+      → DoesEach Does (steps h) (host h) answers (host v) × Told answers (bytes v) (lens v) 0 0
 
   answers_at : (i : ℕ) → i < length old → (answers : List (List ℕ)) × IsOf i answers
   answers_at i h =
@@ -32,9 +32,9 @@ module _ {B X : Type 0} (Does : B → Step → List ℕ → B → Type 0) (steps
         λ a b is is'.
             let a_is : get_or old i x ≡ a = get_or_from_slice_get old i a x is in
             let b_is : get_or new i x ≡ b = get_or_from_slice_get new i b x is' in (
-              subst (λ (y : X). DoesEach Does (steps a) (stepper a) r.answers (stepper y)) b_is
+              subst (λ (y : X). DoesEach Does (steps a) (host a) r.answers (host y)) b_is
                   (subst (λ (y : X).
-                  DoesEach Does (steps y) (stepper y) r.answers (stepper (get_or new i x))) a_is r.does),
+                  DoesEach Does (steps y) (host y) r.answers (host (get_or new i x))) a_is r.does),
               subst (λ (y : X). Told r.answers (bytes y) (lens y) 0 0) b_is r.told,
             ),
       )
@@ -62,22 +62,22 @@ module _ {B X : Type 0} (Does : B → Step → List ℕ → B → Type 0) (steps
       let x = get_within old i within in
       (is_of i within x.0 (get_or new i d) x.1 (slice_get-get_or new i d h)).1
 
-  -- each stepper of a list of shards is that of one
-  stepper_at : (xs : List X) (j : ℕ) (h : B)
-      → slice_get (map stepper xs) j ≡ Some h → (x : X) × (slice_get xs j ≡ Some x) × (stepper x ≡ h)
-  stepper_at xs j h is =
+  -- each host of a list of shards is that of one
+  host_at : (xs : List X) (j : ℕ) (h : B)
+      → slice_get (map host xs) j ≡ Some h → (x : X) × (slice_get xs j ≡ Some x) × (host x ≡ h)
+  host_at xs j h is =
       let within : j < length xs =
-      subst (λ n. j < n) (length-map xs stepper) (slice_get_within (map stepper xs) j h is) in
+      subst (λ n. j < n) (length-map xs host) (slice_get_within (map host xs) j h is) in
       let x = get_within xs j within in
-      (x.0, x.1, same_Some _ _ (sym (slice_get-map stepper xs j ∙ ap (option_map stepper) x.1) ∙ is))
+      (x.0, x.1, same_Some _ _ (sym (slice_get-map host xs j ∙ ap (option_map host) x.1) ∙ is))
 
   module _ (among : ℕ) (some : 0 < among) (few : length old ≡ among) (readings : List (Result Step LineFault))
       (places : List Place) (are : AreDealt (dealt among) readings places (map steps old)) where
-    each_did : (j : ℕ) (h v : B) → slice_get (map stepper old) j ≡ Some h → slice_get (map stepper new) j ≡ Some v
+    each_did : (j : ℕ) (h v : B) → slice_get (map host old) j ≡ Some h → slice_get (map host new) j ≡ Some v
         → DoesEach Does (steps_for (dealt among) j readings) h (all_answers j) v
     each_did j h v is is' =
-        let x = stepper_at old j h is in
-        let y = stepper_at new j v is' in
+        let x = host_at old j h is in
+        let y = host_at new j v is' in
         let within = slice_get_within old j x.0 x.1 in
         let there : j < length (map steps old) = subst (λ n. j < n) (sym (length-map old steps)) within in
         let own : steps x.0 ≡ steps_for (dealt among) j readings =
@@ -85,20 +85,20 @@ module _ {B X : Type 0} (Does : B → Step → List ℕ → B → Type 0) (steps
         ∙ sym (get_or-map steps old j x.0 [] within) ∙ are.steps_are j there in
         subst (λ (w : B). DoesEach Does (steps_for (dealt among) j readings) h (all_answers j) w) y.2
         (subst (λ (w : B).
-        DoesEach Does (steps_for (dealt among) j readings) w (all_answers j) (stepper y.0)) x.2
-        (subst (λ (ss : List Step). DoesEach Does ss (stepper x.0) (all_answers j) (stepper y.0))
+        DoesEach Does (steps_for (dealt among) j readings) w (all_answers j) (host y.0)) x.2
+        (subst (λ (ss : List Step). DoesEach Does ss (host x.0) (all_answers j) (host y.0))
         own (is_of j within x.0 y.0 x.1 y.1).0))
 
     -- What was read of a block is answered, line by line, by the merged answers of the shards.
     pub answered : AnswersEachBy
-        (OneDoes Does (dealt among)) readings (map stepper old) (merged places all_answers) (map stepper new)
+        (OneDoes Does (dealt among)) readings (map host old) (merged places all_answers) (map host new)
     answered =
         subst (λ (l : List Place). AnswersEachBy (OneDoes Does (dealt among))
-        readings (map stepper old) (merged l all_answers) (map stepper new)) (sym are.places_are)
-        (merges Does (dealt among) readings (map stepper old) (map stepper new) all_answers (length-map new stepper
-        ∙ same ∙ sym (length-map old stepper))
+        readings (map host old) (merged l all_answers) (map host new)) (sym are.places_are)
+        (merges Does (dealt among) readings (map host old) (map host new) all_answers (length-map new host
+        ∙ same ∙ sym (length-map old host))
         (λ tenant. subst (λ n. dealt among tenant < n)
-        (sym (length-map old stepper ∙ few)) (dealt_below among tenant some)) each_did)
+        (sym (length-map old host ∙ few)) (dealt_below among tenant some)) each_did)
 
     -- Each place of a block that is dealt is that of a shard.
     pub below : (n : ℕ) → n ≡ among → All (IsBelow n) places

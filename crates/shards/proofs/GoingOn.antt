@@ -200,13 +200,13 @@ line_so begin input answered held is_long lines n count empty short counted hear
 -- ---- a block
 
 module _ {B : Type 0} (Does : B → Step → List ℕ → B → Type 0) (start : Ends B) (input out : Option (List ℕ))
-    (steppers : B) (waiting : Waiting)
-    (under : Underway Does start (record { input = input; out = out; steppers = steppers }) waiting) where
+    (hosts : B) (waiting : Waiting)
+    (under : Underway Does start (record { input = input; out = out; hosts = hosts }) waiting) where
   -- Where more is heard, serving goes on.
   pub hears : (input' : Option (List ℕ)) (waiting' : Waiting)
       → ((begin : Option (List ℕ)) (answered : List (List ℕ))
       → ReadSoFar begin input answered waiting → ReadSoFar begin input' answered waiting')
-      → Underway Does start (record { input = input'; out = out; steppers = steppers }) waiting'
+      → Underway Does start (record { input = input'; out = out; hosts = hosts }) waiting'
   hears input' waiting' more = record {
     answered = under.answered;
     answers = under.answers;
@@ -216,15 +216,15 @@ module _ {B : Type 0} (Does : B → Step → List ℕ → B → Type 0) (start :
   }
 
   -- its lines are answered
-  module _ (steppers' : B) (IsWritten : List ℕ → Type 0)
-      (done : AnswersLines Does waiting.lines steppers steppers' IsWritten) where
+  module _ (hosts' : B) (IsWritten : List ℕ → Type 0)
+      (done : AnswersLines Does waiting.lines hosts hosts' IsWritten) where
     all_answered : AnsweredEach Does
-        (under.answered ++ under.heard.queued) start.steppers (under.answers ++ done.1) steppers'
+        (under.answered ++ under.heard.queued) start.hosts (under.answers ++ done.1) hosts'
     all_answered = (
       under.served.0 ++ done.0,
       readings-append under.answered under.heard.queued under.served.0 done.0 under.served.1
           (readings_are under.heard.queued waiting.lines done.0 under.heard.are_kept done.2 done.3),
-      answers-append Does under.served.0 done.0 start.steppers steppers steppers' under.answers done.1
+      answers-append Does under.served.0 done.0 start.hosts hosts hosts' under.answers done.1
           under.served.2 done.4,
     )
 
@@ -233,15 +233,15 @@ module _ {B : Type 0} (Does : B → Step → List ℕ → B → Type 0) (start :
     lines_are = flat_map-append whole under.answers done.1
 
   -- Behind a block whose lines are answered and whose answers are all written serving goes on.
-  pub goes_on : (mid out' : Option (List ℕ)) (steppers' : B) (lines : List (Result (List ℕ) LineFault))
-      → AnswersLines Does waiting.lines steppers steppers' (Appends out mid) → Keeps mid out' → lines ≡ []
-      → Underway Does start (record { input = input; out = out'; steppers = steppers' })
+  pub goes_on : (mid out' : Option (List ℕ)) (hosts' : B) (lines : List (Result (List ℕ) LineFault))
+      → AnswersLines Does waiting.lines hosts hosts' (Appends out mid) → Keeps mid out' → lines ≡ []
+      → Underway Does start (record { input = input; out = out'; hosts = hosts' })
       (record { held = waiting.held; is_long = waiting.is_long; lines = lines; count = waiting.count })
-  goes_on mid out' steppers' lines done same none = record {
+  goes_on mid out' hosts' lines done same none = record {
     answered = under.answered ++ under.heard.queued;
     answers = under.answers ++ done.1;
-    served = all_answered steppers' (Appends out mid) done;
-    written = subst (Appends start.out out') (sym (lines_are steppers' (Appends out mid) done))
+    served = all_answered hosts' (Appends out mid) done;
+    written = subst (Appends start.out out') (sym (lines_are hosts' (Appends out mid) done))
         (Appends-kept _ _ _ _ (Appends-trans _ _ _ _ _ under.written done.5) same);
     heard = record {
       queued = [];
@@ -258,22 +258,22 @@ module _ {B : Type 0} (Does : B → Step → List ℕ → B → Type 0) (start :
   }
 
   -- Serving stopped where a block is answered and a beginning of its answers is written.
-  pub stops : (out' : Option (List ℕ)) (steppers' : B)
-      → AnswersLines Does waiting.lines steppers steppers' (AppendsBeginning out out')
-      → Stopped Does start (record { input = input; out = out'; steppers = steppers' })
-  stops out' steppers' done = (
+  pub stops : (out' : Option (List ℕ)) (hosts' : B)
+      → AnswersLines Does waiting.lines hosts hosts' (AppendsBeginning out out')
+      → Stopped Does start (record { input = input; out = out'; hosts = hosts' })
+  stops out' hosts' done = (
     under.answered ++ under.heard.queued,
     under.answers ++ done.1,
     under.heard.rest,
     under.heard.read,
     (under.heard.text, under.heard.part, under.heard.taken),
-    all_answered steppers' (AppendsBeginning out out') done,
+    all_answered hosts' (AppendsBeginning out out') done,
     (
       flat_map whole under.answers ++ done.5.0,
       Appends-trans _ _ _ _ _ under.written done.5.1,
       (
         done.5.2.0,
-        lines_are steppers' (AppendsBeginning out out') done
+        lines_are hosts' (AppendsBeginning out out') done
             ∙ ap (λ l. flat_map whole under.answers ++ l) done.5.2.1
             ∙ sym (append_assoc (flat_map whole under.answers) done.5.0 done.5.2.0),
       ),
@@ -281,11 +281,11 @@ module _ {B : Type 0} (Does : B → Step → List ℕ → B → Type 0) (start :
   )
 
   -- Serving may stop behind a block whose lines are answered and whose answers are all written.
-  pub stops_after : (mid out' : Option (List ℕ)) (steppers' : B)
-      → AnswersLines Does waiting.lines steppers steppers' (Appends out mid) → Keeps mid out'
-      → Stopped Does start (record { input = input; out = out'; steppers = steppers' })
-  stops_after mid out' steppers' done same =
-      stops out' steppers' (
+  pub stops_after : (mid out' : Option (List ℕ)) (hosts' : B)
+      → AnswersLines Does waiting.lines hosts hosts' (Appends out mid) → Keeps mid out'
+      → Stopped Does start (record { input = input; out = out'; hosts = hosts' })
+  stops_after mid out' hosts' done same =
+      stops out' hosts' (
         done.0,
         done.1,
         done.2,
@@ -303,7 +303,7 @@ module _ {B : Type 0} (Does : B → Step → List ℕ → B → Type 0) (start :
   -- At the end of the input, where no line waits, all lines are served.
   pub ends_well : waiting.lines ≡ []
       → IfSome start.input (λ _. IsAtEnd input) → waiting.held ≡ [] → waiting.is_long ≡ false
-      → AnsweredAll Does start.input start.out out start.steppers steppers waiting.count
+      → AnsweredAll Does start.input start.out out start.hosts hosts waiting.count
   ends_well none at_end empty short =
       let holds = subst (λ b. Holds waiting.held b under.heard.text) short under.heard.holds in
       let no_text : under.heard.text ≡ [] = sym holds.0 ∙ empty in (
@@ -328,7 +328,7 @@ module _ {B : Type 0} (Does : B → Step → List ℕ → B → Type 0) (start n
 
   -- Behind a turn that is the end all lines are served.
   pub turned_end : (is_end : Bool) → is_end ≡ true → Turns Does (Ok is_end) start now waiting
-      → AnsweredAll Does start.input start.out now.out start.steppers now.steppers waiting.count
+      → AnsweredAll Does start.input start.out now.out start.hosts now.hosts waiting.count
   turned_end false e turned = absurd cc
   turned_end true e turned = turned
 

@@ -1,8 +1,10 @@
 -- Answering by hosts is serving.
-use Rattle.std.proofs.Common.{◌≡◌, List, [], ◌∷◌, ◌++◌, ℕ, length, refl, sym, ap, subst, ◌∙◌, inl, inr}
+use Rattle.std.proofs.Common.{◌≡◌, List, [], ◌∷◌, ◌++◌, ℕ, length, false, refl, sym, ap, subst, ◌∙◌, inl, inr}
+use Rattle.std.proofs.Common.{Bool, append-nil}
 use Rattle.std.specs.Prelude.{Option, Some, None, Result, Ok, Err, IfOk, OnErr, flat_map}
 use Rattle.std.specs.Io.KnownBytes.{Appends}
 use Rattle.std.proofs.lemmas.List.Concat.{flat_map-cons}
+use Rattle.model.specs.Addresses.{addressed}
 use Rattle.model.specs.Handler.{Meaning}
 use Rattle.model.specs.declared.replies.Reply.{Reply}
 use Rattle.model.specs.declared.steps.Step.{Step}
@@ -16,7 +18,8 @@ use Rattle.lines.specs.declared.fault.ServeFault.{ServeFault}
 use Rattle.written.specs.Beginnings.{AppendsBeginning}
 use Rattle.dealing.specs.Dealing.{HostsDo, OneDoes, ShardsServe, dealt}
 use Rattle.dealing.proofs.Serving.{dealt_lines_serve}
-use Rattle.shards.specs.Blocks.{AnswersBy, AnswersEachBy, whole}
+use Rattle.driver.specs.Driving.{Drives, IsStepRound, Round, lines_told, round_text}
+use Rattle.shards.specs.Blocks.{AnswersBy, AnswersEachBy, Tells, whole}
 use Rattle.shards.specs.Underway.{AnsweredAll, AnsweredSome}
 
 -- ---- one line, by what was read of it
@@ -43,25 +46,45 @@ module _ {B : Type 0} (Does : B → Step → Reply → B → Type 0) where
     λ long. let no = is.1 long in absurd cc,
   )
 
+-- ---- one step
+
+-- A host's step with its reply alone is a round without steps of a driver.
+pub told_alone : {S : Type 0} (M : Meaning S) (drives : Bool) (old : HostState S) (step : Step) (reply : Reply)
+    (new : HostState S) → HostDoes M old step reply new → Tells M drives old step (reply_line reply) new
+told_alone M drives old step reply new does = (
+  record { reply = reply; steps = [] },
+  record { mid = new; done = does; driven = refl },
+  sym (append-nil (reply_line reply)),
+  λ e. refl,
+)
+
 -- ---- all lines
 
 module _ {S : Type 0} (M : Meaning S) (deal : List ℕ → ℕ) where
-  -- a host's step, with the text of its reply
-  abbrev pub Tells : HostState S → Step → List ℕ → HostState S → Type 0
-  Tells old step answer new = (reply : Reply) × HostDoes M old step reply new × (answer ≡ reply_line reply)
-
   abbrev Answers : Result Step LineFault → List (HostState S) → List ℕ → List (HostState S) → Type 0
-  Answers read old answer new = AnswersBy (OneDoes Tells deal) read old answer new
+  Answers read old answer new = AnswersBy (OneDoes (Tells M false) deal) read old answer new
+
+  -- A round of which no step was driven is a reply.
+  one_reply : (step : Step) (h v : HostState S) (round : Round) → IsStepRound (HostDoes M) step h round v
+      → round.steps ≡ [] → HostDoes M h step round.reply v × (round_text round ≡ reply_line round.reply)
+  one_reply step h v round is none =
+      let driven : Drives (HostDoes M) (addressed step).0 is.mid [] v =
+      subst (λ (l : List (Step × Reply)). Drives (HostDoes M) (addressed step).0 is.mid l v) none is.driven in (
+        subst (λ (x : HostState S). HostDoes M h step round.reply x) (sym driven) is.done,
+        ap (λ (l : List (Step × Reply)). reply_line round.reply ++ flat_map lines_told l) none
+            ∙ append-nil (reply_line round.reply),
+      )
 
   line_served : (line : List ℕ) (read : Result Step LineFault) (old : List (HostState S)) (answer : List ℕ)
       (new : List (HostState S)) → ReadingOf line read → Answers read old answer new
       → (reply : Reply) × AnsweredLineBy (HostsDo M deal) line old reply new × (answer ≡ reply_line reply)
-  line_served line (Ok step) old answer new is p = (
-    p.does.0,
-    step_answered (HostsDo M deal) line step old p.does.0 new is
-        (record { before = p.before; after = p.after; at = p.at; does = p.does.1; others = p.others }),
-    p.does.2,
-  )
+  line_served line (Ok step) old answer new is p =
+      let one = one_reply step p.before p.after p.does.0 p.does.1 (p.does.3 refl) in (
+        p.does.0.reply,
+        step_answered (HostsDo M deal) line step old p.does.0.reply new is
+            (record { before = p.before; after = p.after; at = p.at; does = one.0; others = p.others }),
+        p.does.2 ∙ one.1,
+      )
   line_served line (Err fault) old answer new is p =
       (reply_upon fault, fault_answered (HostsDo M deal) line fault old new is p.1, p.0)
 
@@ -72,7 +95,7 @@ module _ {S : Type 0} (M : Meaning S) (deal : List ℕ → ℕ) where
 
   lines_served : (lines : List (List ℕ)) (readings : List (Result Step LineFault)) (old : List (HostState S))
       (answers : List (List ℕ)) (new : List (HostState S)) → AreReadings lines readings
-      → AnswersEachBy (OneDoes Tells deal) readings old answers new → Served lines old answers new
+      → AnswersEachBy (OneDoes (Tells M false) deal) readings old answers new → Served lines old answers new
   lines_served [] [] old answers new are p = ([], (refl, p.1), ap (flat_map whole) p.0)
   lines_served [] (r ∷ readings) old answers new are p = absurd cc
   lines_served (l ∷ lines) [] old answers new are p = absurd are
@@ -92,7 +115,7 @@ module _ {S : Type 0} (M : Meaning S) (deal : List ℕ → ℕ) where
 
 module _ {S : Type 0} (M : Meaning S) (old new : List (HostState S)) (same : length new ≡ length old) where
   abbrev Does : List (HostState S) → Step → List ℕ → List (HostState S) → Type 0
-  Does = OneDoes (Tells M (dealt (length old))) (dealt (length old))
+  Does = OneDoes (Tells M false) (dealt (length old))
 
   -- Where answering ended well, all lines were served for each book that the hosts stood for.
   pub all_of : (r : Result ℕ ServeFault) (input out out' : Option (List ℕ))

@@ -3,11 +3,14 @@
 use Rattle.std.specs.Prelude.{◌≡◌, ◌<◌, ◌≤◌, ◌==◌, ◌⊎◌, ℕ, List, [], ◌∷◌, ◌++◌, length, map, drop, Bool, false, Option}
 use Rattle.std.specs.Prelude.{Result, Ok, Err, if◌then◌else◌, flat_map, slice_index_or}
 use Rattle.std.specs.Io.KnownBytes.{Appends}
+use Rattle.model.specs.Handler.{Meaning}
 use Rattle.model.specs.declared.steps.Step.{Step}
+use Rattle.book.specs.Standing.{HostState}
 use Rattle.forms.specs.declared.fault.LineFault.{LineFault}
 use Rattle.forms.specs.declared.fault.LineFault.TheVariants.{NoMemory}
-use Rattle.lines.specs.Serving.{reply_line, reply_upon}
+use Rattle.lines.specs.Serving.{HostDoes, reply_line, reply_upon}
 use Rattle.dealing.specs.Dealing.{tenant_of}
+use Rattle.driver.specs.Driving.{IsStepRound, Round, round_text}
 use Rattle.shards.specs.declared.place.Place.{Place}
 use Rattle.shards.specs.declared.place.Place.TheVariants.{Here, Dealt}
 use Rattle.shards.specs.Kept.{AreReadFrom}
@@ -19,6 +22,13 @@ whole answer = answer
 -- the answer to a line that gives no step
 abbrev pub fault_answer : LineFault → List ℕ
 fault_answer fault = reply_line (reply_upon fault)
+
+-- A host did a step, and this is written of it: the reply's text and, where the host is driven, the texts of what the
+-- driver's steps behind it let out.
+abbrev pub Tells : {S : Type 0} → Meaning S → Bool → HostState S → Step → List ℕ → HostState S → Type 0
+Tells M drives old step answer new =
+    (round : Round) × IsStepRound (HostDoes M) step old round new × (answer ≡ round_text round)
+    × (drives ≡ false → round.steps ≡ [])
 
 -- ---- what is read
 

@@ -1,3 +1,4 @@
 pub mod Kept
 pub mod Blocks
 pub mod Underway
+pub mod Driven

@@ -39,11 +39,11 @@ AnsweredSome Does input input' out out' old new =
 
 -- ---- on the way
 
--- what is known of input and output, and what does the steps
+-- what is known of input and output, and the hosts
 pub record Ends (B : Type 0) : Type 0 where
   pub input : Option (List ℕ)
   pub out : Option (List ℕ)
-  pub steppers : B
+  pub hosts : B
 
 -- what is held of the line that goes on, and what is kept of the lines before it that are not answered yet
 pub record Waiting : Type 0 where
@@ -70,13 +70,13 @@ pub record Underway {B : Type 0}
     (Does : B → Step → List ℕ → B → Type 0) (start now : Ends B) (waiting : Waiting) : Type 0 where
   pub answered : List (List ℕ)
   pub answers : List (List ℕ)
-  pub served : AnsweredEach Does answered start.steppers answers now.steppers
+  pub served : AnsweredEach Does answered start.hosts answers now.hosts
   pub written : Appends start.out now.out (flat_map whole answers)
   pub heard : ReadSoFar start.input now.input answered waiting
 
 -- answering ended early
 abbrev pub Stopped : {B : Type 0} → (B → Step → List ℕ → B → Type 0) → Ends B → Ends B → Type 0
-Stopped Does start now = AnsweredSome Does start.input now.input start.out now.out start.steppers now.steppers
+Stopped Does start now = AnsweredSome Does start.input now.input start.out now.out start.hosts now.hosts
 
 -- A part of a line was read, and this is held of the line then. Whatever was heard before is so with the part taken.
 abbrev pub TakesOn : Part → Waiting → Waiting → Type 0
@@ -91,5 +91,5 @@ abbrev pub Turns : {B : Type 0} → (B → Step → List ℕ → B → Type 0) �
     → Type 0
 Turns Does (Ok false) start now waiting = Underway Does start now waiting
 Turns Does (Ok true) start now waiting =
-    AnsweredAll Does start.input start.out now.out start.steppers now.steppers waiting.count
+    AnsweredAll Does start.input start.out now.out start.hosts now.hosts waiting.count
 Turns Does (Err fault) start now waiting = Stopped Does start now

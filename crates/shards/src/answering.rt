@@ -9,7 +9,7 @@ ghost use Rattle.forms.specs.declared.fault.LineFault.{LineFault as FaultOf};
 ghost use Rattle.dealing.specs.Dealing.{OneDoes, dealt};
 ghost use Rattle.written.specs.Beginnings.{AppendsBeginning};
 ghost use Rattle.shards.specs.Blocks.{AnswersEachBy, AnswersLines, AreDealtTo, AreIdle, DealsMore, IsBelow, IsReadOr};
-ghost use Rattle.shards.specs.Blocks.{RanShard, Told, merged};
+ghost use Rattle.shards.specs.Blocks.{RanShard, Tells, Told, merged};
 ghost use Rattle.shards.specs.Kept.{AreReadFrom};
 
 use crate::deal::shard_of;
@@ -18,10 +18,11 @@ use crate::kept::{Lines, MOST_LINES};
 use crate::place::Place;
 use crate::reading::{Reader, read_shares, share_start};
 use crate::shard::Shard;
-use crate::stepper::Stepper;
 use crate::writing::write_all;
+use handler::Handler;
 use lines::{Counted, LineFault, ServeFault};
 use model::Step;
+use shared_log::Store;
 use std::alloc::Global;
 use std::io::Write;
 use std::thread;
@@ -30,49 +31,52 @@ use std::thread::Threads;
 /// From how many lines on a block is read and stepped in threads: starting them takes as long as some tens of lines.
 const THREADED: usize = 64;
 
-/// Answers these lines.
+/// Answers these lines, and carries on behind each where the hosts are driven.
 ///
 /// `Write` comes only where the writer failed, and `NoMemory` where there was none for an answer. All steps are done
 /// then too, and a beginning of the answers may be written.
-pub(crate) fn answer<T: Threads + Sync, W: Write, X: Stepper>(
+pub(crate) fn answer<T: Threads + Sync, W: Write, H: Handler + Send, S: Store + Send>(
     rt: &T,
     alloc: Global,
     writer: &mut Counted<W>,
-    shards: &mut [Shard<X>],
+    shards: &mut [Shard<H, S>],
     lines: &Lines,
     desk: &mut Desk,
+    drives: bool,
 ) -> Result<(), ServeFault>
     requires some { 0 < length shards.old }
     requires idle { AreIdle (map (λ s. s.steps.items) shards.old) }
-    ensures ok { OnOk result (AnswersLines (OneDoes X.does (dealt (length shards.old))) lines.now
-        (map (λ s. s.stepper) shards.old) (map (λ s. s.stepper) shards.new)
+    ensures ok { OnOk result (AnswersLines (OneDoes (Tells H.meaning drives) (dealt (length shards.old))) lines.now
+        (map (λ s. s.host) shards.old) (map (λ s. s.host) shards.new)
         (Appends (W.contents writer.old.inner) (W.contents writer.new.inner))) }
-    ensures err { OnErr result (AnswersLines (OneDoes X.does (dealt (length shards.old))) lines.now
-        (map (λ s. s.stepper) shards.old) (map (λ s. s.stepper) shards.new)
+    ensures err { OnErr result (AnswersLines (OneDoes (Tells H.meaning drives) (dealt (length shards.old))) lines.now
+        (map (λ s. s.host) shards.old) (map (λ s. s.host) shards.new)
         (AppendsBeginning (W.contents writer.old.inner) (W.contents writer.new.inner))) }
     ensures idle { AreIdle (map (λ s. s.steps.items) shards.new) }
     ensures write { result ≡ Err ServeFault.Write → HasRisen writer.old.failed writer.new.failed }
     ensures read { result ≢ Err ServeFault.Read }
     ensures same { result ≢ Err ServeFault.Write → writer.new.failed ≡ writer.old.failed }
 {
-    step_lines(rt, shards, lines, desk);
+    step_lines(rt, shards, lines, desk, drives);
     write_all(alloc, writer, shards, desk.places.as_slice(), &desk.faults)
 }
 
 /// Reads these lines and does their steps, and writes no answer. Where there are enough of them, they are read in
 /// threads, and each shard does its steps in a thread of its own.
-pub(crate) fn step_lines<T: Threads + Sync, X: Stepper>(
+pub(crate) fn step_lines<T: Threads + Sync, H: Handler + Send, S: Store + Send>(
     rt: &T,
-    shards: &mut [Shard<X>],
+    shards: &mut [Shard<H, S>],
     lines: &Lines,
     desk: &mut Desk,
+    drives: bool,
 )
     requires some { 0 < length shards.old }
     requires idle { AreIdle (map (λ s. s.steps.items) shards.old) }
     ensures stepped { (readings : List (Result StepOf FaultOf)) × (answers : ℕ → List (List ℕ))
         × AreReadFrom lines.now 0 readings × (length readings ≡ length lines.now)
-        × AnswersEachBy (OneDoes X.does (dealt (length shards.old))) readings (map (λ s. s.stepper) shards.old)
-        (merged desk.new.places.items answers) (map (λ s. s.stepper) shards.new)
+        × AnswersEachBy (OneDoes (Tells H.meaning drives) (dealt (length shards.old))) readings
+        (map (λ s. s.host) shards.old)
+        (merged desk.new.places.items answers) (map (λ s. s.host) shards.new)
         × All (IsBelow (length shards.new)) desk.new.places.items
         × ((i : ℕ) (d : _) → i < length shards.new → Told (answers i) (slice_index_or shards.new i d).bytes.items
         (slice_index_or shards.new i d).lens.items 0 0) }
@@ -87,15 +91,15 @@ pub(crate) fn step_lines<T: Threads + Sync, X: Stepper>(
         &mut desk.places,
     );
     let threads = threads_for(shards);
-    run_all(rt, shards, threads);
+    run_all(rt, shards, threads, drives);
 }
 
 /// Reads these lines, and deals what was read.
-fn read_and_deal<T: Threads + Sync, X: Stepper>(
+fn read_and_deal<T: Threads + Sync, H: Handler + Send, S: Store + Send>(
     rt: &T,
     lines: &Lines,
     readers: &mut [Reader],
-    shards: &mut [Shard<X>],
+    shards: &mut [Shard<H, S>],
     places: &mut Vec<Place>,
 )
     requires some { 0 < length shards.old }
@@ -103,7 +107,7 @@ fn read_and_deal<T: Threads + Sync, X: Stepper>(
     requires room { MOST_LINES ≤ vec_capacity places.old }
     requires none { places.old.items ≡ [] }
     requires idle { AreIdle (map (λ s. s.steps.items) shards.old) }
-    ensures steppers { map (λ s. s.stepper) shards.new ≡ map (λ s. s.stepper) shards.old }
+    ensures hosts { map (λ s. s.host) shards.new ≡ map (λ s. s.host) shards.old }
     ensures dealt { AreDealtTo (dealt (length shards.old)) lines.now (length lines.now) places.new.items
         (map (λ s. s.steps.items) shards.new) }
     ensures capacity { vec_capacity places.new ≡ vec_capacity places.old }
@@ -116,11 +120,11 @@ fn read_and_deal<T: Threads + Sync, X: Stepper>(
 }
 
 /// Deals what the readers read of their shares.
-fn deal_shares<X: Stepper>(
+fn deal_shares<H: Handler, S: Store>(
     lines: &Lines,
     size: usize,
     readers: &mut [Reader],
-    shards: &mut [Shard<X>],
+    shards: &mut [Shard<H, S>],
     places: &mut Vec<Place>,
 )
     requires some { 0 < length shards.old }
@@ -130,7 +134,7 @@ fn deal_shares<X: Stepper>(
         → AreReadFrom lines.now (min (i * size) (length lines.now)) (slice_index_or readers.old i d).found.items }
     requires dealt { AreDealtTo (dealt (length shards.old)) lines.now 0 places.old.items
         (map (λ s. s.steps.items) shards.old) }
-    ensures steppers { map (λ s. s.stepper) shards.new ≡ map (λ s. s.stepper) shards.old }
+    ensures hosts { map (λ s. s.host) shards.new ≡ map (λ s. s.host) shards.old }
     ensures dealt { AreDealtTo (dealt (length shards.old)) lines.now (length lines.now) places.new.items
         (map (λ s. s.steps.items) shards.new) }
     ensures capacity { vec_capacity places.new ≡ vec_capacity places.old }
@@ -144,12 +148,12 @@ fn deal_shares<X: Stepper>(
 }
 
 /// Deals what a reader read of the lines from one place up to another.
-fn deal_share<X: Stepper>(
+fn deal_share<H: Handler, S: Store>(
     lines: &Lines,
     from: usize,
     to: usize,
     reader: &mut Reader,
-    shards: &mut [Shard<X>],
+    shards: &mut [Shard<H, S>],
     places: &mut Vec<Place>,
 )
     requires some { 0 < length shards.old }
@@ -160,7 +164,7 @@ fn deal_share<X: Stepper>(
     requires read { AreReadFrom lines.now from reader.old.found.items }
     requires dealt { AreDealtTo (dealt (length shards.old)) lines.now from places.old.items
         (map (λ s. s.steps.items) shards.old) }
-    ensures steppers { map (λ s. s.stepper) shards.new ≡ map (λ s. s.stepper) shards.old }
+    ensures hosts { map (λ s. s.host) shards.new ≡ map (λ s. s.host) shards.old }
     ensures dealt { AreDealtTo (dealt (length shards.old)) lines.now to places.new.items
         (map (λ s. s.steps.items) shards.new) }
     ensures capacity { vec_capacity places.new ≡ vec_capacity places.old }
@@ -174,7 +178,7 @@ fn deal_share<X: Stepper>(
 
 /// In how many threads the steps that wait are done: in one for each shard where there are enough of them, and no shard
 /// has most of them. A step in a thread of its own takes up to a half longer than in the one that was there before.
-fn threads_for<X: Stepper>(shards: &[Shard<X>]) -> usize
+fn threads_for<H: Handler, S: Store>(shards: &[Shard<H, S>]) -> usize
     requires { 0 < length shards.now }
     ensures { 0 < result }
 {
@@ -194,9 +198,12 @@ fn threads_for<X: Stepper>(shards: &[Shard<X>]) -> usize
 
 /// Deals what was read of a line, and tells where it is answered. A step for which there is no memory is one that was
 /// not read.
-fn deal_one<X: Stepper>(shards: &mut [Shard<X>], read: Result<Step, LineFault>) -> Place
+fn deal_one<H: Handler, S: Store>(
+    shards: &mut [Shard<H, S>],
+    read: Result<Step, LineFault>,
+) -> Place
     requires { 0 < length shards.old }
-    ensures steppers { map (λ s. s.stepper) shards.new ≡ map (λ s. s.stepper) shards.old }
+    ensures hosts { map (λ s. s.host) shards.new ≡ map (λ s. s.host) shards.old }
     ensures dealt { (reading : Result StepOf FaultOf) × IsReadOr read reading
         × DealsMore (dealt (length shards.old)) reading result (map (λ s. s.steps.items) shards.old)
         (map (λ s. s.steps.items) shards.new) }
@@ -214,11 +221,17 @@ fn deal_one<X: Stepper>(shards: &mut [Shard<X>], read: Result<Step, LineFault>) 
 }
 
 /// Does each shard's steps, in at most so many threads.
-fn run_all<T: Threads + Sync, X: Stepper>(rt: &T, shards: &mut [Shard<X>], threads: usize)
+fn run_all<T: Threads + Sync, H: Handler + Send, S: Store + Send>(
+    rt: &T,
+    shards: &mut [Shard<H, S>],
+    threads: usize,
+    drives: bool,
+)
     requires { 0 < threads }
     ensures ran { (i : ℕ) (d : _) → i < length shards.old
-        → RanShard X.does (slice_index_or shards.old i d).steps.items (slice_index_or shards.old i d).stepper
-        (slice_index_or shards.new i d).stepper (slice_index_or shards.new i d).bytes.items
+        → RanShard (Tells H.meaning drives) (slice_index_or shards.old i d).steps.items
+        (slice_index_or shards.old i d).host
+        (slice_index_or shards.new i d).host (slice_index_or shards.new i d).bytes.items
         (slice_index_or shards.new i d).lens.items }
     ensures steps { (i : ℕ) (d : _) → i < length shards.old → (slice_index_or shards.new i d).steps.items ≡ [] }
 {
@@ -226,10 +239,10 @@ fn run_all<T: Threads + Sync, X: Stepper>(rt: &T, shards: &mut [Shard<X>], threa
         rt,
         shards,
         threads,
-        &|_at, shard: &mut Shard<X>|
-            ensures ran { RanShard X.does shard.entry.now.steps.items shard.entry.now.stepper
-                shard.exit.now.stepper shard.exit.now.bytes.items shard.exit.now.lens.items }
+        &|_at, shard: &mut Shard<H, S>|
+            ensures ran { RanShard (Tells H.meaning drives) shard.entry.now.steps.items shard.entry.now.host
+                shard.exit.now.host shard.exit.now.bytes.items shard.exit.now.lens.items }
             ensures steps { shard.exit.now.steps.items ≡ [] }
-        { shard.run() },
+        { shard.run(drives) },
     );
 }

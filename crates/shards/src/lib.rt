@@ -1,16 +1,17 @@
 //! Several hosts as one: tenants are dealt to shards by their names, and the lines of a block are read and stepped in
 //! threads.
 //!
-//! - `Stepper`: what does the steps of lines, and tells what is written of each: a host is one.
-//! - `Shards`: some steppers, one for each thread. By isolation no tenant can tell that others stand on another host.
-//! - `answer_by_shards`: answers each line of a reader, in order. What the reader shows at once is a block: its lines
-//!   are read in threads and dealt, each shard does its own steps in a thread of its own, and the answers are written
-//!   in the order of the lines.
-//! - `serve_shards`: the same by hosts, as `lines::serve_host` does by one.
+//! - `Shards`: some hosts, one for each thread. By isolation no tenant can tell that others stand on another host.
+//! - `serve_shards`: answers each line of a reader, in order, as `lines::serve_host` does. What the reader shows at
+//!   once is a block: its lines are read in threads and dealt, each shard does its own steps in a thread of its own,
+//!   and the replies are written in the order of the lines.
+//! - `drive_shards`: the same as `driver::drive_host` does. Each host has a driver of its own, whose steps behind a
+//!   line are all for the line's tenant.
+//! - `driven_run` (`laws`): what a run of new hosts that are driven is as a whole.
 //!
 //! `dealing` says which book some hosts stand for together, and its law `shards_run` what a run by them is as a
 //! whole. `specs/Kept` says what is kept of a line, `specs/Blocks` what is read of a block and what is written of it,
-//! and `specs/Underway` how far answering is.
+//! and `specs/Underway` how far answering is. There an answer is a text: a reply's, or all that is written of a round.
 //!
 //! For a program that has more than one core. A caller:
 //!
@@ -29,16 +30,16 @@ mod deal;
 mod desk;
 mod faults;
 mod kept;
+mod laws;
 mod place;
-mod plain;
 mod reading;
 mod serving;
 mod shard;
 mod shards;
 mod span;
-mod stepper;
+mod stepping;
 mod writing;
 
-pub use serving::{answer_by_shards, serve_shards};
+pub use laws::driven_run;
+pub use serving::{drive_shards, serve_shards};
 pub use shards::Shards;
-pub use stepper::Stepper;

@@ -10,8 +10,9 @@ ghost use Rattle.shards.specs.Blocks.{IsBelow, Told, WroteFirst, WroteOne, first
 use crate::faults::FaultLines;
 use crate::place::Place;
 use crate::shard::Shard;
-use crate::stepper::Stepper;
+use handler::Handler;
 use lines::{Counted, ServeFault, put_bytes};
+use shared_log::Store;
 use std::alloc::Global;
 use std::io::Write;
 
@@ -25,10 +26,10 @@ pub(crate) struct Cursor {
 /// Writes the answers of a block, each from the shard that its place names, in turn.
 ///
 /// `Write` comes only where the writer failed, and `NoMemory` where there was none for an answer.
-pub(crate) fn write_all<W: Write, X: Stepper>(
+pub(crate) fn write_all<W: Write, H: Handler, S: Store>(
     alloc: Global,
     writer: &mut Counted<W>,
-    shards: &[Shard<X>],
+    shards: &[Shard<H, S>],
     places: &[Place],
     faults: &FaultLines,
 ) -> Result<(), ServeFault>
@@ -61,9 +62,9 @@ pub(crate) fn write_all<W: Write, X: Stepper>(
 }
 
 /// Writes the answer of one place.
-fn write_one<W: Write, X: Stepper>(
+fn write_one<W: Write, H: Handler, S: Store>(
     writer: &mut Counted<W>,
-    shards: &[Shard<X>],
+    shards: &[Shard<H, S>],
     place: Place,
     cursors: &mut [Cursor],
     faults: &FaultLines,

@@ -6,11 +6,11 @@ use Rattle.dealing.proofs.Lists.{map-set_kept}
 use Rattle.shards.proofs.Merging.{deals_kept, deals_none, deals_step}
 use Rattle.shards.proofs.answering.deal_one.Goals as goal
 
-pub returns-in-Ok-take-clause-steppers : goal.returns-in-Ok-take-clause-steppers
-returns-in-Ok-take-clause-steppers g c =
-    map-set_kept (λ s. s.stepper) c.args.shards.now c.shard_of-at.result c.index-shards-at.result c.take.new.self
-    c.index-shards-at.is c.shard_of-at.ensures.below (c.take.ensures.stepper
-    ∙ sym (ap (λ s. s.stepper) c.index-shards-at.is))
+pub returns-in-Ok-take-clause-hosts : goal.returns-in-Ok-take-clause-hosts
+returns-in-Ok-take-clause-hosts g c =
+    map-set_kept (λ s. s.host) c.args.shards.now c.shard_of-at.result c.index-shards-at.result c.take.new.self
+    c.index-shards-at.is c.shard_of-at.ensures.below (c.take.ensures.host
+    ∙ sym (ap (λ s. s.host) c.index-shards-at.is))
 
 pub returns-in-Ok-take-clause-dealt : goal.returns-in-Ok-take-clause-dealt
 returns-in-Ok-take-clause-dealt g c = (
@@ -23,11 +23,11 @@ returns-in-Ok-take-clause-dealt g c = (
       (sym (c.shard_of-at.ensures.is ∙ ap (dealt (length c.args.shards.now)) c.tenant.ensures)),
 )
 
-pub returns-in-Err-take-clause-steppers : goal.returns-in-Err-take-clause-steppers
-returns-in-Err-take-clause-steppers g c =
-    map-set_kept (λ s. s.stepper) c.args.shards.now c.shard_of-at.result c.index-shards-at.result c.take.new.self
-    c.index-shards-at.is c.shard_of-at.ensures.below (c.take.ensures.stepper
-    ∙ sym (ap (λ s. s.stepper) c.index-shards-at.is))
+pub returns-in-Err-take-clause-hosts : goal.returns-in-Err-take-clause-hosts
+returns-in-Err-take-clause-hosts g c =
+    map-set_kept (λ s. s.host) c.args.shards.now c.shard_of-at.result c.index-shards-at.result c.take.new.self
+    c.index-shards-at.is c.shard_of-at.ensures.below (c.take.ensures.host
+    ∙ sym (ap (λ s. s.host) c.index-shards-at.is))
 
 pub returns-in-Err-take-clause-dealt : goal.returns-in-Err-take-clause-dealt
 returns-in-Err-take-clause-dealt g c = (

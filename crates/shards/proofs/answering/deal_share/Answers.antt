@@ -5,7 +5,7 @@ use Rattle.shards.proofs.answering.deal_share.Goals as goal
 
 pub loop-at-preserved : goal.loop-at-preserved
 loop-at-preserved g c = record {
-  steppers = c.deal_one-place.ensures.steppers ∙ c.loop-at.invariant.steppers;
+  hosts = c.deal_one-place.ensures.hosts ∙ c.loop-at.invariant.hosts;
   capacity = c.push_reserved.ensures.capacity ∙ c.loop-at.invariant.capacity;
   read = c.next-read.ensures.others;
   dealt = dealt_more (length c.args.shards.now) (length c.loop-at.shards) c.args.lines.now c.loop-at.at

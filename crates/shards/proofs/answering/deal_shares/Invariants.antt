@@ -7,7 +7,7 @@ use Rattle.shards.proofs.answering.deal_shares.Given as goal
 -- the shares of the readers so far are dealt, and what the others found is there still
 abbrev pub invariant-loop-at : goal.invariant-loop-at
 invariant-loop-at g l = record {
-  steppers : map (λ s. s.stepper) l.shards ≡ map (λ s. s.stepper) l.fn.shards;
+  hosts : map (λ s. s.host) l.shards ≡ map (λ s. s.host) l.fn.shards;
   capacity : vec_capacity l.places ≡ vec_capacity l.fn.places;
   read : (i : ℕ) (d : _) → l.at ≤ i → i < length l.readers
       → AreReadFrom l.lines (min (i * l.size) (length l.lines)) (get_or l.readers i d).found.items;

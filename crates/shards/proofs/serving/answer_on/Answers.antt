@@ -6,6 +6,7 @@ use Rattle.lines.specs.declared.fault.ServeFault.TheVariants.{Read, Write}
 use Rattle.shards.specs.Underway.{AnsweredSome}
 use Rattle.lines.proofs.Parts.{LinesRead-nil, TakesPart-none}
 use Rattle.dealing.specs.Dealing.{OneDoes, dealt}
+use Rattle.shards.specs.Blocks.{Tells}
 use Rattle.shards.proofs.GoingOn.{begins, turned_end, turned_on, turns_same, under_same}
 use Rattle.shards.proofs.serving.answer_on.Goals as goal
 
@@ -38,10 +39,10 @@ loop-is_end-init g c = record {
   read_same = refl;
   write_same = refl;
   within = search rules;
-  underway = begins (OneDoes g.X.Stepper.does (dealt (length c.args.shards.now))) (record {
+  underway = begins (OneDoes (Tells g.H.Handler.meaning c.args.drives) (dealt (length c.args.shards.now))) (record {
     input = g.R.Read.remaining c.args.reader.now.inner;
     out = g.W.Write.contents c.args.writer.now.inner;
-    steppers = map (λ s. s.stepper) c.args.shards.now;
+    hosts = map (λ s. s.host) c.args.shards.now;
   })
       c.in-Ok.block.held.items c.in-Ok.block.is_long c.in-Ok.block.lines c.in-Ok.block.count
       c.in-Ok.ensures.lines c.in-Ok.ensures.held c.in-Ok.ensures.short c.in-Ok.ensures.count;
@@ -56,11 +57,14 @@ loop-is_end-preserved g c =
       read_same = c.in-Ok-turn.ensures.read_same (λ e. cc) ∙ c.loop-is_end.invariant.read_same;
       write_same = c.in-Ok-turn.ensures.write_same (λ e. cc) ∙ c.loop-is_end.invariant.write_same;
       within = goes.1;
-      underway = turned_on (OneDoes g.X.Stepper.does (dealt (length c.args.shards.now))) _ _ _ c.in-Ok-turn.is_end
+      underway = turned_on (OneDoes (Tells g.H.Handler.meaning c.args.drives) (dealt (length c.args.shards.now))) _
+          _ _ c.in-Ok-turn.is_end
           c.if-is_end.false
-          (turns_same (λ n. OneDoes g.X.Stepper.does (dealt n)) (length c.args.shards.now) (length c.loop-is_end.shards)
+          (turns_same (λ n. OneDoes (Tells g.H.Handler.meaning c.args.drives) (dealt n)) (length c.args.shards.now)
+          (length c.loop-is_end.shards)
           c.loop-is_end.auto.shards _ _ _ (Ok c.in-Ok-turn.is_end)
-          (c.in-Ok-turn.ensures.turns _ (under_same (λ n. OneDoes g.X.Stepper.does (dealt n)) (length c.args.shards.now)
+          (c.in-Ok-turn.ensures.turns _ (under_same (λ n. OneDoes (Tells g.H.Handler.meaning c.args.drives)
+          (dealt n)) (length c.args.shards.now)
           (length c.loop-is_end.shards) c.loop-is_end.auto.shards _ _ _ c.loop-is_end.invariant.underway)));
     }
 
@@ -69,14 +73,14 @@ loop-is_end-smaller g c = (c.in-Ok-turn.ensures.goes (ap Ok c.if-is_end.false)).
 
 pub returns-then-is_end-clause-all : goal.returns-then-is_end-clause-all
 returns-then-is_end-clause-all g c =
-    turned_end (OneDoes g.X.Stepper.does (dealt (length c.args.shards.now))) (record {
+    turned_end (OneDoes (Tells g.H.Handler.meaning c.args.drives) (dealt (length c.args.shards.now))) (record {
       input = g.R.Read.remaining c.args.reader.now.inner;
       out = g.W.Write.contents c.args.writer.now.inner;
-      steppers = map (λ s. s.stepper) c.args.shards.now;
+      hosts = map (λ s. s.host) c.args.shards.now;
     }) (record {
       input = g.R.Read.remaining c.turn.new.reader.inner;
       out = g.W.Write.contents c.turn.new.writer.inner;
-      steppers = map (λ s. s.stepper) c.turn.new.shards;
+      hosts = map (λ s. s.host) c.turn.new.shards;
     })
     (record {
       held = c.turn.new.block.held.items;
@@ -84,18 +88,21 @@ returns-then-is_end-clause-all g c =
       lines = c.turn.new.block.lines;
       count = c.turn.new.block.count;
     }) c.in-Ok-turn.is_end c.if-is_end.true
-    (turns_same (λ n. OneDoes g.X.Stepper.does (dealt n)) (length c.args.shards.now) (length c.loop-is_end.shards)
+    (turns_same (λ n. OneDoes (Tells g.H.Handler.meaning c.args.drives) (dealt n)) (length c.args.shards.now)
+    (length c.loop-is_end.shards)
     c.loop-is_end.auto.shards _ _ _ (Ok c.in-Ok-turn.is_end)
-    (c.in-Ok-turn.ensures.turns _ (under_same (λ n. OneDoes g.X.Stepper.does (dealt n)) (length c.args.shards.now)
+    (c.in-Ok-turn.ensures.turns _ (under_same (λ n. OneDoes (Tells g.H.Handler.meaning c.args.drives) (dealt n))
+    (length c.args.shards.now)
     (length c.loop-is_end.shards) c.loop-is_end.auto.shards _ _ _ c.loop-is_end.invariant.underway)))
 
 pub returns-in-Err-clause-some : goal.returns-in-Err-clause-some
 returns-in-Err-clause-some g c =
-    subst (λ n. AnsweredSome (OneDoes g.X.Stepper.does (dealt n))
+    subst (λ n. AnsweredSome (OneDoes (Tells g.H.Handler.meaning c.args.drives) (dealt n))
     (g.R.Read.remaining c.args.reader.now.inner) (g.R.Read.remaining c.turn.new.reader.inner)
     (g.W.Write.contents c.args.writer.now.inner) (g.W.Write.contents c.turn.new.writer.inner)
-    (map (λ s. s.stepper) c.args.shards.now) (map (λ s. s.stepper) c.turn.new.shards)) c.loop-is_end.auto.shards
-    (c.in-Err.ensures.turns _ (under_same (λ n. OneDoes g.X.Stepper.does (dealt n)) (length c.args.shards.now)
+    (map (λ s. s.host) c.args.shards.now) (map (λ s. s.host) c.turn.new.shards)) c.loop-is_end.auto.shards
+    (c.in-Err.ensures.turns _ (under_same (λ n. OneDoes (Tells g.H.Handler.meaning c.args.drives) (dealt n))
+    (length c.args.shards.now)
     (length c.loop-is_end.shards) c.loop-is_end.auto.shards _ _ _ c.loop-is_end.invariant.underway))
 
 pub returns-then-is_end-clause-read_same : goal.returns-then-is_end-clause-read_same

@@ -1,7 +1,7 @@
 use Rattle.std.proofs.Common.{◌≡◌, ◌<◌, ◌≤◌, ◌+◌, ◌^◌, length, map, vec_capacity}
 use Rattle.model.specs.declared.limits.TheConstants.{MAX_LINE_BYTES}
 use Rattle.dealing.specs.Dealing.{OneDoes, dealt}
-use Rattle.shards.specs.Blocks.{AreIdle}
+use Rattle.shards.specs.Blocks.{AreIdle, Tells}
 use Rattle.shards.specs.Underway.{Underway}
 use Rattle.shards.proofs.serving.answer_on.Given as goal
 
@@ -12,16 +12,16 @@ invariant-loop-is_end g l = record {
   read_same : l.reader.failed ≡ l.fn.reader.failed;
   write_same : l.writer.failed ≡ l.fn.writer.failed;
   within : l.block.count + l.reader.left < 2 ^ 64;
-  underway : Underway (OneDoes g.X.Stepper.does (dealt (length l.fn.shards)))
+  underway : Underway (OneDoes (Tells g.H.Handler.meaning l.fn.drives) (dealt (length l.fn.shards)))
       (record {
         input = g.R.Read.remaining l.fn.reader.inner;
         out = g.W.Write.contents l.fn.writer.inner;
-        steppers = map (λ s. s.stepper) l.fn.shards;
+        hosts = map (λ s. s.host) l.fn.shards;
       })
       (record {
         input = g.R.Read.remaining l.reader.inner;
         out = g.W.Write.contents l.writer.inner;
-        steppers = map (λ s. s.stepper) l.shards;
+        hosts = map (λ s. s.host) l.shards;
       })
       (record {
         held = l.block.held.items;

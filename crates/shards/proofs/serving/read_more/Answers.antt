@@ -2,7 +2,7 @@ use Rattle.std.proofs.Common.{◌≡◌, ◌∙◌, length, map, ap, subst}
 use Rattle.std.specs.Prelude.{Ok, Err}
 use Rattle.lines.specs.declared.fault.ServeFault.TheVariants.{Write}
 use Rattle.dealing.specs.Dealing.{OneDoes, dealt}
-use Rattle.shards.specs.Blocks.{merged}
+use Rattle.shards.specs.Blocks.{Tells, merged}
 use Rattle.shards.specs.Kept.{AreReadFrom}
 use Rattle.shards.proofs.GoingOn.{ended, ends_well, hears, kept_so, stops}
 use Rattle.shards.proofs.Telling.{none_begins}
@@ -11,15 +11,15 @@ use Rattle.shards.proofs.serving.read_more.Goals as goal
 pub returns-in-Err-clause-turns : goal.returns-in-Err-clause-turns
 returns-in-Err-clause-turns g c start under =
     let so = c.step_lines.ensures.stepped in
-    let still = hears (OneDoes g.X.Stepper.does (dealt (length c.args.shards.now))) start
+    let still = hears (OneDoes (Tells g.H.Handler.meaning c.args.drives) (dealt (length c.args.shards.now))) start
     (g.R.Read.remaining c.args.reader.now.inner) (g.W.Write.contents c.args.writer.now.inner)
-    (map (λ s. s.stepper) c.args.shards.now) _ under (g.R.Read.remaining c.take_part.new.reader.inner) _
+    (map (λ s. s.host) c.args.shards.now) _ under (g.R.Read.remaining c.take_part.new.reader.inner) _
     (λ begin answered heard. kept_so begin (g.R.Read.remaining c.args.reader.now.inner) answered _ heard
     (g.R.Read.remaining c.take_part.new.reader.inner) c.in-Err.ensures.kept) in
-    stops (OneDoes g.X.Stepper.does (dealt (length c.args.shards.now))) start
+    stops (OneDoes (Tells g.H.Handler.meaning c.args.drives) (dealt (length c.args.shards.now))) start
     (g.R.Read.remaining c.take_part.new.reader.inner) (g.W.Write.contents c.args.writer.now.inner)
-    (map (λ s. s.stepper) c.args.shards.now) _ still (g.W.Write.contents c.args.writer.now.inner)
-    (map (λ s. s.stepper) c.step_lines.new.shards) (
+    (map (λ s. s.host) c.args.shards.now) _ still (g.W.Write.contents c.args.writer.now.inner)
+    (map (λ s. s.host) c.step_lines.new.shards) (
       so.0,
       merged c.step_lines.new.desk.places.items so.1,
       subst (λ l. AreReadFrom l 0 so.0) c.in-Err.ensures.err so.2,
@@ -30,9 +30,9 @@ returns-in-Err-clause-turns g c start under =
 
 pub returns-then-not-is_end-clause-turns : goal.returns-then-not-is_end-clause-turns
 returns-then-not-is_end-clause-turns g c start under =
-    hears (OneDoes g.X.Stepper.does (dealt (length c.args.shards.now))) start
+    hears (OneDoes (Tells g.H.Handler.meaning c.args.drives) (dealt (length c.args.shards.now))) start
     (g.R.Read.remaining c.args.reader.now.inner) (g.W.Write.contents c.args.writer.now.inner)
-    (map (λ s. s.stepper) c.args.shards.now) _ under (g.R.Read.remaining c.take_part.new.reader.inner) _
+    (map (λ s. s.host) c.args.shards.now) _ under (g.R.Read.remaining c.take_part.new.reader.inner) _
     c.in-Ok.ensures.ok
 
 pub returns-in-Err-clause-read : goal.returns-in-Err-clause-read
@@ -51,9 +51,9 @@ returns-then-not-is_end-clause-goes g c e =
 pub returns-in-Ok-answer_block-clause-turns : goal.returns-in-Ok-answer_block-clause-turns
 returns-in-Ok-answer_block-clause-turns g c start under =
     let end = c.in-Ok.ensures.end (ap Ok c.if-not-is_end.false) in
-    let on = hears (OneDoes g.X.Stepper.does (dealt (length c.args.shards.now))) start
+    let on = hears (OneDoes (Tells g.H.Handler.meaning c.args.drives) (dealt (length c.args.shards.now))) start
     (g.R.Read.remaining c.args.reader.now.inner) (g.W.Write.contents c.args.writer.now.inner)
-    (map (λ s. s.stepper) c.args.shards.now) _ under (g.R.Read.remaining c.take_part.new.reader.inner)
+    (map (λ s. s.host) c.args.shards.now) _ under (g.R.Read.remaining c.take_part.new.reader.inner)
     (record {
       held = c.take_part.new.block.held.items;
       is_long = c.take_part.new.block.is_long;
@@ -63,9 +63,9 @@ returns-in-Ok-answer_block-clause-turns g c start under =
     c.in-Ok.ensures.ok in
     let at_end = ended start.input (g.R.Read.remaining c.args.reader.now.inner) under.answered _ under.heard
     (g.R.Read.remaining c.take_part.new.reader.inner) end.0 end.1 in
-    ends_well (OneDoes g.X.Stepper.does (dealt (length c.args.shards.now))) start
+    ends_well (OneDoes (Tells g.H.Handler.meaning c.args.drives) (dealt (length c.args.shards.now))) start
     (g.R.Read.remaining c.take_part.new.reader.inner) (g.W.Write.contents c.answer_block.new.writer.inner)
-    (map (λ s. s.stepper) c.answer_block.new.shards)
+    (map (λ s. s.host) c.answer_block.new.shards)
     (record {
       held = c.answer_block.new.block.held.items;
       is_long = c.answer_block.new.block.is_long;
@@ -78,9 +78,9 @@ returns-in-Ok-answer_block-clause-turns g c start under =
 
 pub returns-in-Err-answer_block-clause-turns : goal.returns-in-Err-answer_block-clause-turns
 returns-in-Err-answer_block-clause-turns g c start under =
-    let on = hears (OneDoes g.X.Stepper.does (dealt (length c.args.shards.now))) start
+    let on = hears (OneDoes (Tells g.H.Handler.meaning c.args.drives) (dealt (length c.args.shards.now))) start
     (g.R.Read.remaining c.args.reader.now.inner) (g.W.Write.contents c.args.writer.now.inner)
-    (map (λ s. s.stepper) c.args.shards.now) _ under (g.R.Read.remaining c.take_part.new.reader.inner)
+    (map (λ s. s.host) c.args.shards.now) _ under (g.R.Read.remaining c.take_part.new.reader.inner)
     (record {
       held = c.take_part.new.block.held.items;
       is_long = c.take_part.new.block.is_long;

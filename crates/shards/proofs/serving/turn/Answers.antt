@@ -3,15 +3,16 @@ use Rattle.model.specs.Failures.{HasRisen}
 use Rattle.std.specs.Prelude.{Err}
 use Rattle.dealing.specs.Dealing.{OneDoes, dealt}
 use Rattle.lines.specs.declared.fault.ServeFault.TheVariants.{Write}
+use Rattle.shards.specs.Blocks.{Tells}
 use Rattle.shards.proofs.GoingOn.{turns_same, under_same}
 use Rattle.shards.proofs.serving.turn.Goals as goal
 
 pub returns-in-Ok-clause-turns : goal.returns-in-Ok-clause-turns
 returns-in-Ok-clause-turns g c start under =
-    turns_same (λ n. OneDoes g.X.Stepper.does (dealt n)) (length c.args.shards.now)
+    turns_same (λ n. OneDoes (Tells g.H.Handler.meaning c.args.drives) (dealt n)) (length c.args.shards.now)
     (length c.answer_waiting.new.shards) c.answer_waiting.auto.shards start _ _ c.read_more.result
     (c.read_more.ensures.turns start
-    (under_same (λ n. OneDoes g.X.Stepper.does (dealt n)) (length c.args.shards.now)
+    (under_same (λ n. OneDoes (Tells g.H.Handler.meaning c.args.drives) (dealt n)) (length c.args.shards.now)
     (length c.answer_waiting.new.shards) c.answer_waiting.auto.shards start _ _
     (c.in-Ok.ensures.ok start (g.R.Read.remaining c.args.reader.now.inner) under)))
 

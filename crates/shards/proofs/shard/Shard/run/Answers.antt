@@ -1,4 +1,5 @@
 use Rattle.std.proofs.Common.{◌≡◌, ◌++◌, ◌∷◌, [], sym, ap, ◌∙◌, append_assoc, rules}
+use Rattle.shards.specs.Blocks.{Tells}
 use Rattle.shards.proofs.Merging.{DoesEach-more}
 use Rattle.shards.proofs.shard.Shard.run.Goals as goal
 
@@ -11,6 +12,7 @@ loop-step-preserved g c =
       so_far.1 ++ one.0 ∷ [],
       so_far.2 ∙ ap (λ l. so_far.0 ++ l) popped
           ∙ sym (append_assoc so_far.0 (c.in-Some.step ∷ []) c.answer.new.self.steps.items),
-      DoesEach-more g.X.Stepper.does so_far.0 _ _ _ so_far.1 c.in-Some.step one.0 so_far.3 one.1,
+      DoesEach-more (Tells g.H.Handler.meaning c.args.drives) so_far.0 _ _ _ so_far.1 c.in-Some.step one.0 so_far.3
+          one.1,
       one.2 so_far.1 so_far.4,
     )

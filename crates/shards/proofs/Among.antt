@@ -1,6 +1,6 @@
 -- A shard's round is one of all shards, since the driver's steps are all for the line's tenant.
 use Rattle.std.proofs.Common.{◌≡◌, ℕ, zero, suc, List, [], ◌∷◌, ◌++◌, length, set, refl, sym, ap, subst, ◌∙◌}
-use Rattle.std.proofs.Common.{append-nil}
+use Rattle.std.proofs.Common.{append-nil, true}
 use Rattle.std.specs.Prelude.{Option, Some, None, Result, Ok, Err, IfOk, OnErr, flat_map, slice_get}
 use Rattle.std.specs.Io.KnownBytes.{Appends}
 use Rattle.std.proofs.lemmas.List.Concat.{flat_map-cons}
@@ -18,7 +18,7 @@ use Rattle.written.specs.Beginnings.{AppendsBeginning}
 use Rattle.dealing.specs.Dealing.{AreHostsOf, HostsDo, OneDoes, dealt, tenant_of}
 use Rattle.dealing.proofs.Lists.{get-set_same}
 use Rattle.dealing.proofs.Standing.{hosts_do, legal_of, new_book, stand_new}
-use Rattle.shards.specs.Blocks.{AnswersBy, AnswersEachBy, whole}
+use Rattle.shards.specs.Blocks.{AnswersBy, AnswersEachBy, Tells, whole}
 use Rattle.shards.specs.Underway.{AnsweredAll, AnsweredSome}
 use Rattle.shards.proofs.Hosts.{fault_answered, step_answered}
 use Rattle.driver.specs.Driving.{AreRounds, CarriesOn, Drives, DroveAllBy, DroveSomeBy, IsRound, IsStepRound, Round}
@@ -27,7 +27,7 @@ use Rattle.driver.specs.declared.chore.Chore.{Chore}
 use Rattle.driver.specs.declared.chore.Chore.TheVariants.{Deliver, Flush, Notice, Release}
 use Rattle.driver.proofs.Rounds.{drives_each}
 use Rattle.driver.proofs.Told.{book_released_is_told}
-use Rattle.driven_shards.specs.Driving.{DrivenRun, ShardsDrive}
+use Rattle.shards.specs.Driven.{DrivenRun, ShardsDrive}
 
 -- ---- lists of which one element changes
 
@@ -58,11 +58,6 @@ none_carried Does None x = (refl, refl)
 none_carried Does (Some step) x = refl
 
 module _ {S : Type 0} (M : Meaning S) (deal : List ℕ → ℕ) where
-  -- a host's step with its round, and what is written of it
-  abbrev pub Tells : HostState S → Step → List ℕ → HostState S → Type 0
-  Tells old step answer new =
-      (round : Round) × IsStepRound (HostDoes M) step old round new × (answer ≡ round_text round)
-
   -- The driver's steps that a tenant's host does are done by it among all, and the others stay.
   drives_among : (tenant : List ℕ) (hosts : List (HostState S)) (h : HostState S) (steps : List (Step × Reply))
       (v : HostState S) → slice_get hosts (deal tenant) ≡ Some h → Drives (HostDoes M) tenant h steps v
@@ -105,7 +100,7 @@ module _ {S : Type 0} (M : Meaning S) (deal : List ℕ → ℕ) where
   -- ---- lines
 
   line_driven : (line : List ℕ) (read : Result Step LineFault) (old : List (HostState S)) (answer : List ℕ)
-      (new : List (HostState S)) → ReadingOf line read → AnswersBy (OneDoes Tells deal) read old answer new
+      (new : List (HostState S)) → ReadingOf line read → AnswersBy (OneDoes (Tells M true) deal) read old answer new
       → (round : Round) × IsRound (HostsDo M deal) line old round new × (answer ≡ round_text round)
   line_driven line (Ok step) old answer new is p =
       let round : Round = p.does.0 in
@@ -137,7 +132,7 @@ module _ {S : Type 0} (M : Meaning S) (deal : List ℕ → ℕ) where
 
   lines_driven : (lines : List (List ℕ)) (readings : List (Result Step LineFault)) (old : List (HostState S))
       (answers : List (List ℕ)) (new : List (HostState S)) → AreReadings lines readings
-      → AnswersEachBy (OneDoes Tells deal) readings old answers new → Driven lines old answers new
+      → AnswersEachBy (OneDoes (Tells M true) deal) readings old answers new → Driven lines old answers new
   lines_driven [] [] old answers new are p = ([], (refl, p.1), ap (flat_map whole) p.0)
   lines_driven [] (r ∷ readings) old answers new are p = absurd cc
   lines_driven (l ∷ lines) [] old answers new are p = absurd are
@@ -167,7 +162,7 @@ module _ {S : Type 0} (M : Meaning S) (old new : List (HostState S)) (same : len
 
   -- Where answering ended well, all lines were driven for each book that the hosts stood for.
   pub all_of : (r : Result ℕ ServeFault) (input out out' : Option (List ℕ))
-      → IfOk r (λ count. AnsweredAll (OneDoes (Tells M deal) deal) input out out' old new count)
+      → IfOk r (λ count. AnsweredAll (OneDoes (Tells M true) deal) input out out' old new count)
       → IfOk r (λ count. DroveAllBy (ShardsDrive M) input out out' old new count)
   all_of (Ok count) input out out' p =
       let s = lines_driven M deal p.0 p.3.0 old p.1 new p.3.1 p.3.2 in
@@ -176,7 +171,7 @@ module _ {S : Type 0} (M : Meaning S) (old new : List (HostState S)) (same : len
 
   -- Where it failed, the lines so far were.
   pub some_of : (r : Result ℕ ServeFault) (input input' out out' : Option (List ℕ))
-      → OnErr r (AnsweredSome (OneDoes (Tells M deal) deal) input input' out out' old new)
+      → OnErr r (AnsweredSome (OneDoes (Tells M true) deal) input input' out out' old new)
       → OnErr r (DroveSomeBy (ShardsDrive M) input input' out out' old new)
   some_of (Ok count) input input' out out' p = tt
   some_of (Err fault) input input' out out' p =

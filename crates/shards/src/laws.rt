@@ -1,6 +1,6 @@
 //! What a run of driven hosts is.
 
-ghost use Rattle.driven_shards.specs.Driving.{DrivenRun};
+ghost use Rattle.shards.specs.Driven.{DrivenRun};
 
 use handler::Handler;
 

@@ -1,5 +1,5 @@
-use Rattle.driven_shards.proofs.Among.{all_of, some_of}
-use Rattle.driven_shards.proofs.driving.drive_shards.Goals as goal
+use Rattle.shards.proofs.Among.{all_of, some_of}
+use Rattle.shards.proofs.serving.drive_shards.Goals as goal
 
 pub returns-clause-all : goal.returns-clause-all
 returns-clause-all g c =
