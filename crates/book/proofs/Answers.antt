@@ -2,7 +2,6 @@
 use Rattle.std.proofs.Common.{◌≡◌, ◌≤◌, ◌⊎◌, ◌+◌, inl, inr, ℕ, List, [], ◌∷◌, Bool, true, false, if◌then◌else◌, refl}
 use Rattle.std.proofs.Common.{sym, ap, subst}
 use Rattle.std.specs.Prelude.{Option, None, Some, Result, Ok, Err, IfOk, IfSome, IsOkAnd, IsSomeAnd, OnErr, bytes_eq}
-use Rattle.model.specs.Addresses.{addressed}
 use Rattle.model.specs.Alone.{step_open}
 use Rattle.model.specs.Handler.{Meaning}
 use Rattle.model.specs.Steps.{Outcome, can_open}
@@ -14,14 +13,13 @@ use Rattle.model.specs.declared.replies.End.TheVariants.{Device}
 use Rattle.model.specs.declared.replies.Reply.{Reply}
 use Rattle.model.specs.declared.replies.Reply.TheVariants.{Opened, Refused}
 use Rattle.model.specs.declared.replies.Said.{Said}
-use Rattle.model.specs.declared.steps.Step.{Step}
 use Rattle.model.specs.declared.steps.TenantStep.{TenantStep}
 use Rattle.model.specs.declared.steps.TenantStep.TheVariants.{Open}
 use Rattle.shared_log.specs.Logged.{Logged}
 use Rattle.tenant.specs.Outcomes.{done}
 use Rattle.tenant.specs.Answers.{Answer}
 use Rattle.tenant.specs.Stands.{TenantState, Stands, StandsAt, Did, IsOpened}
-use Rattle.book.specs.History.{DidAt, Holding, IsAnswered, KeepsOthers, LogsAt, StepsAt, named_if_opened, opened_by}
+use Rattle.book.specs.History.{DidAt, Holding, IsAnsweredAt, KeepsOthers, LogsAt, StepsAt, named_if_opened, opened_by}
 
 -- what follows from a clause on `Ok`
 pub if_ok : {A E : Type 0} {P Q : A → Type 0} (r : Result A E) → ((a : A) → P a → Q a) → IfOk r P → IfOk r Q
@@ -152,27 +150,26 @@ module _ {S : Type 0} (M : Meaning S) where
   keeps_others name before after keeps (Some k) (Some w) other apart stands = keeps k w other apart stands
 
   -- a step of a tenant that is not open was done, and the log stayed
-  pub answered_unopened : (step : Step) (said : Said)
+  pub answered_unopened : (tenant : List ℕ) (step : TenantStep) (said : Said)
       (answer : Reply) (at after : List ℕ → Option (TenantState S)) (names names_after : List (List ℕ)) (log : Logged)
       → let before : Holding (TenantState S) = record { at = at; names = names; log = log } in
       let later : Holding (TenantState S) = record { at = after; names = names_after; log = log } in
-      None ≡ at (addressed step).0
-      → DidAt M (addressed step).0 None (addressed step).1 said answer before later
-      → ((other : List ℕ) → bytes_eq other (addressed step).0 ≡ false → after other ≡ at other)
-      → IsAnswered M step said answer before later
-  answered_unopened step said answer at after names names_after log none did others = record {
+      None ≡ at tenant → DidAt M tenant None step said answer before later
+      → ((other : List ℕ) → bytes_eq other tenant ≡ false → after other ≡ at other)
+      → IsAnsweredAt M tenant step said answer before later
+  answered_unopened tenant step said answer at after names names_after log none did others = record {
     did = only_world;
     others = others;
     others_stand = λ k w other apart stands. stands;
     others_live = λ other u apart. refl;
   }
     where
-      only_world : (w : Option World) → StandsAt M (addressed step).0 (at (addressed step).0) w log.records
-          → DidAt M (addressed step).0 w (addressed step).1 said answer
+      only_world : (w : Option World) → StandsAt M tenant (at tenant) w log.records
+          → DidAt M tenant w step said answer
           (record { at = at; names = names; log = log }) (record { at = after; names = names_after; log = log })
       only_world None stands = did
       only_world (Some w) stands =
-          absurd (subst (λ t. StandsAt M (addressed step).0 t (Some w) log.records) (sym none) stands)
+          absurd (subst (λ t. StandsAt M tenant t (Some w) log.records) (sym none) stands)
 
   -- what holds of each world that an open tenant stands for holds of the one that it has
   pub of_open : (name : List ℕ)

@@ -232,24 +232,6 @@ texts_more old new name v is whole others kept =
 
 -- ---- no text is kept
 
--- where a tenant goes on so, and each other is as it was
-pub none_on : {S : Type 0} (old new : List ℕ → Option (TenantState S)) (name : List ℕ) (step : TenantStep)
-    (t v : TenantState S) → old name ≡ Some t → new name ≡ Some v
-    → ((other : List ℕ) → bytes_eq other name ≡ false → new other ≡ old other)
-    → (KeepsNoText t → KeepsNoTextBut step v) → KeepNoTexts old → KeepNoTextsBut name step new
-none_on old new name step t v was is others on none = record {
-  own = λ k there. subst (KeepsNoTextBut step) (same_Some v k (sym is ∙ there)) (on (none name t was));
-  others = λ other k apart there. none other k (sym (others other apart) ∙ there);
-}
-
--- where no unit keeps any
-pub none_but : {S : Type 0} (at : List ℕ → Option (TenantState S)) (name : List ℕ) (step : TenantStep)
-    → KeepNoTexts at → KeepNoTextsBut name step at
-none_but at name step none = record {
-  own = λ k there u texts kept. inl (none name k there u texts kept);
-  others = λ other k apart there. none other k there;
-}
-
 -- where one more is there, which keeps none
 pub none_more : {S : Type 0} (old new : List ℕ → Option (TenantState S)) (name : List ℕ) (v : Option (TenantState S))
     → new name ≡ v → IfSome v KeepsNoText

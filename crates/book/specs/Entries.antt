@@ -1,5 +1,6 @@
 -- How a step is entered in the history of a book.
-use Rattle.std.specs.Prelude.{◌≡◌, ◌≢◌, ◌⊎◌, ◌≤◌, ◌+◌, ◌-◌, ◌^◌, ℕ, List, [], ◌∷◌, ◌++◌, length}
+use Rattle.std.specs.Prelude.{◌≡◌, ◌≢◌, ◌⊎◌, ◌≤◌, ◌+◌, ◌-◌, ◌^◌, ℕ, List, [], ◌∷◌, ◌++◌, length, Bool, true}
+use Rattle.std.specs.Prelude.{false}
 use Rattle.std.specs.List.{filter}
 use Rattle.model.specs.declared.refusals.Refusal.TheVariants.{Memory}
 use Rattle.model.specs.declared.replies.Entry.{Entry}
@@ -33,6 +34,11 @@ memory_reply (Restart tenant unit) = Refused Memory
 memory_reply (Notice tenant unit) = Refused Memory
 memory_reply (Release tenant unit) = Refused Memory
 memory_reply (Status tenant unit) = Refused Memory
+
+-- that to a flush, or to another step
+abbrev pub memory_reply_to : Bool → Reply
+memory_reply_to true = Stopped 0 Memory
+memory_reply_to false = Refused Memory
 
 -- The step was entered at the end with this reply, which doesn't say that there was no memory for it. The device is
 -- said to have failed only where it did, and the count of its failures never falls.

@@ -143,16 +143,21 @@ KeepsOthers {S = S} M tenant before after =
     (k : Option (TenantState S)) (w : Option World) (other : List ℕ)
     → bytes_eq other tenant ≡ false → StandsAt M other k w before → StandsAt M other k w after
 
--- the step was done: whichever world its tenant stood for, this is the reply and what is left, and every other tenant
--- is as it was and stands for what it did
-pub record IsAnswered {S : Type 0} (M : Meaning S) (step : Step) (said : Said) (answer : Reply)
-    (before after : Holding (TenantState S)) : Type 0 where
+-- the step of the tenant of this name was done: whichever world the tenant stood for, this is the reply and what is
+-- left, and every other tenant is as it was and stands for what it did
+pub record IsAnsweredAt {S : Type 0} (M : Meaning S) (tenant : List ℕ) (step : TenantStep) (said : Said)
+    (answer : Reply) (before after : Holding (TenantState S)) : Type 0 where
   pub did : (w : Option World)
-      → StandsAt M (addressed step).0 (before.at (addressed step).0) w before.log.records
-      → DidAt M (addressed step).0 w (addressed step).1 said answer before after
-  pub others : (other : List ℕ) → bytes_eq other (addressed step).0 ≡ false → after.at other ≡ before.at other
-  pub others_stand : KeepsOthers M (addressed step).0 before.log.records after.log.records
-  pub others_live : OthersLive (addressed step).0 before.log.records after.log.records
+      → StandsAt M tenant (before.at tenant) w before.log.records → DidAt M tenant w step said answer before after
+  pub others : (other : List ℕ) → bytes_eq other tenant ≡ false → after.at other ≡ before.at other
+  pub others_stand : KeepsOthers M tenant before.log.records after.log.records
+  pub others_live : OthersLive tenant before.log.records after.log.records
+
+-- so was the step, of the tenant that it names
+abbrev pub IsAnswered : {S : Type 0} → Meaning S → Step → Said → Reply → Holding (TenantState S)
+    → Holding (TenantState S) → Type 0
+IsAnswered M step said answer before after =
+    IsAnsweredAt M (addressed step).0 (addressed step).1 said answer before after
 
 -- the tenants and the log's records are as they were, and so is the count of the device's failures
 pub record HoldsAsBefore {K : Type 0} (before after : Holding K) : Type 0 where

@@ -12,12 +12,12 @@ ghost use Rattle.tenant.specs.Outcomes.{IsPlain};
 ghost use Rattle.tenant.specs.Stands.{IsOpened, KeepsNoText, KeepsNoTextBut, KeepsTexts, StandsAt};
 ghost use Rattle.shared_log.specs.Logged.{Logged};
 ghost use Rattle.book.specs.Commits.{needs_at};
-ghost use Rattle.book.specs.Entries.{memory_reply as reply_of_memory};
+ghost use Rattle.book.specs.Entries.{memory_reply as reply_of_memory, memory_reply_to as reply_by_kind};
 ghost use Rattle.model.specs.Keeping.{Keeping};
 ghost use Rattle.book.specs.Past.{KeepsAt, KeepsJustAt, KeepsOnAt};
 ghost use Rattle.book.specs.Standing.{KeepNoTexts, KeepNoTextsBut, KeepTexts, Releases};
-ghost use Rattle.book.specs.History.{DidAt, IsAnswered, HoldsAsBefore, KeepsOthers, LogsAt, StepsAt, holding};
-ghost use Rattle.book.specs.History.{opened_by};
+ghost use Rattle.book.specs.History.{DidAt, IsAnswered, IsAnsweredAt, HoldsAsBefore, KeepsOthers, LogsAt, StepsAt};
+ghost use Rattle.book.specs.History.{holding, opened_by};
 
 use handler::{Ask, Done, Handler};
 use indexmap::IndexMap;
@@ -29,19 +29,37 @@ use tenant::{Answer, Tenant};
 /// The open tenants by their names, in the order of opening.
 pub(crate) type Tenants<H> = IndexMap<TenantName, Tenant<H>>;
 
+/// Whether the step is a flush.
+pub(crate) fn is_flush(step: &Step) -> bool
+    ensures { reply_of_memory step.now ≡ reply_by_kind result }
+{
+    match step {
+        Step::Flush { .. } => true,
+        _ => false,
+    }
+}
+
+/// The reply to a flush, or to another step, for which there was no memory.
+pub(crate) fn memory_reply_to(flush: bool) -> Reply
+    ensures { result ≡ reply_by_kind flush }
+{
+    if flush {
+        Reply::Stopped {
+            count: 0,
+            refusal: Refusal::Memory,
+        }
+    } else {
+        Reply::Refused {
+            refusal: Refusal::Memory,
+        }
+    }
+}
+
 /// The reply to a step for which there was no memory.
 pub(crate) fn memory_reply(step: &Step) -> Reply
     ensures { result ≡ reply_of_memory step.now }
 {
-    match step {
-        Step::Flush { .. } => Reply::Stopped {
-            count: 0,
-            refusal: Refusal::Memory,
-        },
-        _ => Reply::Refused {
-            refusal: Refusal::Memory,
-        },
-    }
+    memory_reply_to(is_flush(step))
 }
 
 /// The unit that the step releases, if it is a release.
@@ -187,7 +205,7 @@ fn answer_unopened<H: Handler>(
 }
 
 /// The step without the name of its tenant. `NoMemory` comes where its texts can't be copied, which a kill has none of.
-fn step_within(step: &Step) -> Result<TenantStep, NoMemory>
+pub(crate) fn step_within(step: &Step) -> Result<TenantStep, NoMemory>
     ensures same { IfOk result (λ s. s ≡ (addressed step.now).1) }
     ensures kill { (tenant : List ℕ) (unit : ℕ) → step.now ≡ Step.Kill tenant unit → IsOk result }
 {
@@ -197,28 +215,64 @@ fn step_within(step: &Step) -> Result<TenantStep, NoMemory>
     }
 }
 
-/// Does a step of any tenant. Where no memory was found nothing is changed; a kill takes none.
+/// The name of the step's tenant, and the step without it. Takes no memory.
+#[inline(always)]
+pub(crate) fn taken_apart(step: Step) -> (TenantName, TenantStep)
+    ensures name { result.0 ≡ (addressed step).0 }
+    ensures own { result.1 ≡ (addressed step).1 }
+{
+    match step {
+        Step::Open {
+            tenant,
+            kinds,
+            quota,
+            optimism,
+        } => (
+            tenant,
+            TenantStep::Open {
+                kinds,
+                quota,
+                optimism,
+            },
+        ),
+        Step::Join { tenant, kind } => (tenant, TenantStep::Join { kind }),
+        Step::Post {
+            tenant,
+            unit,
+            number,
+            text,
+        } => (tenant, TenantStep::Post { unit, number, text }),
+        Step::Deliver { tenant, letter } => (tenant, TenantStep::Deliver { letter }),
+        Step::Flush { tenant, unit } => (tenant, TenantStep::Flush { unit }),
+        Step::Checkpoint { tenant, unit } => (tenant, TenantStep::Checkpoint { unit }),
+        Step::Kill { tenant, unit } => (tenant, TenantStep::Kill { unit }),
+        Step::Restart { tenant, unit } => (tenant, TenantStep::Restart { unit }),
+        Step::Notice { tenant, unit } => (tenant, TenantStep::Notice { unit }),
+        Step::Release { tenant, unit } => (tenant, TenantStep::Release { unit }),
+        Step::Status { tenant, unit } => (tenant, TenantStep::Status { unit }),
+    }
+}
+
+/// Does a step of the tenant of this name. Where no memory was found nothing is changed; a kill takes none.
 pub(crate) fn answer<H: Handler, S: Store>(
     alloc: Global,
     handler: &H,
     tenants: &mut Tenants<H>,
     log: &mut SharedLog<S>,
-    step: &Step,
+    name: &TenantName,
+    step: TenantStep,
 ) -> Result<Answer, NoMemory>
-    ensures answered { IfOk result (λ a.
-        IsAnswered H.meaning step.now a.said a.reply (holding tenants.old log.old) (holding tenants.new log.new)) }
-    ensures kill { (tenant : List ℕ) (unit : ℕ) → step.now ≡ Step.Kill tenant unit → IsOk result }
+    ensures answered { IfOk result (λ a. IsAnsweredAt H.meaning name.now step a.said a.reply
+        (holding tenants.old log.old) (holding tenants.new log.new)) }
+    ensures kill { (unit : ℕ) → step ≡ TenantStep.Kill unit → IsOk result }
     ensures err { OnErr result (HoldsAsBefore (holding tenants.old log.old) (holding tenants.new log.new)) }
     ensures texts { KeepTexts (get bytes_eq tenants.old) → KeepTexts (get bytes_eq tenants.new) }
-    ensures none { KeepNoTexts (get bytes_eq tenants.old)
-        → KeepNoTextsBut (addressed step.now).0 (addressed step.now).1 (get bytes_eq tenants.new) }
+    ensures none { KeepNoTexts (get bytes_eq tenants.old) → KeepNoTextsBut name.now step (get bytes_eq tenants.new) }
 {
-    let own_step = step_within(step)?;
-    let name = step.tenant();
     if let Some(tenant) = tenants.get_mut(name) {
-        return answer_open(alloc, handler, tenant, name, own_step, log);
+        return answer_open(alloc, handler, tenant, name, step, log);
     }
-    answer_unopened(alloc, handler, tenants, name, own_step)
+    answer_unopened(alloc, handler, tenants, name, step)
 }
 
 /// Gives up the texts that a unit of the tenant of this name released, if both are there.

@@ -12,16 +12,19 @@ ghost use Rattle.model.specs.World.{World};
 ghost use Rattle.std.specs.Prelude.{Option};
 ghost use Rattle.book.specs.Commits.{needed, needs_at};
 ghost use Rattle.book.specs.Entries.{IsAdded};
-ghost use Rattle.book.specs.History.{HoldsAsBefore, IsAnswered, opened, receiver_at, world_of};
+ghost use Rattle.book.specs.History.{HoldsAsBefore, IsAnswered, IsAnsweredAt, opened, receiver_at, world_of};
 ghost use Rattle.book.specs.Past.{FootprintAfter, kept_after};
 ghost use Rattle.book.specs.Standing.{Carries, CommitsHonestly, EntersHonestly, HostReplays, IsHostOf, KeepNoTexts};
 ghost use Rattle.book.specs.Standing.{KeepNoTextsBut, KeepTexts, Releases, ReplaysAsWell, held_by};
 
-use crate::answer::{Tenants, answer, answer_with, ask, give_up, memory_reply, released_unit};
+use crate::answer::{
+    Tenants, answer, answer_with, ask, give_up, is_flush, memory_reply, memory_reply_to,
+    released_unit, step_within, taken_apart,
+};
 use crate::committed::Committed;
 use handler::{Ask, Done, Handler};
 use indexmap::IndexMap;
-use model::{Kept, Letter, NoMemory, Reply, Step, TenantName, Unit};
+use model::{Kept, Letter, NoMemory, Reply, Step, TenantName, TenantStep, Unit};
 use shared_log::{SharedLog, Store};
 use std::alloc::Global;
 use std::marker::Model;
@@ -107,7 +110,27 @@ impl<H: Handler, S: Store> Host<H, S> {
         &self.handler
     }
 
-    /// Does a step of any tenant. Where no memory was found nothing is changed.
+    /// Does a step of the tenant of this name. Where no memory was found nothing is changed.
+    #[inline(always)]
+    fn answer_own(&mut self, name: &TenantName, step: TenantStep) -> Result<Answer, NoMemory>
+        ensures answered { IfOk result (λ a. IsAnsweredAt H.meaning name.now step a.said a.reply
+            (held_by self.old) (held_by self.new)) }
+        ensures kill { (unit : ℕ) → step ≡ TenantStep.Kill unit → IsOk result }
+        ensures err { OnErr result (HoldsAsBefore (held_by self.old) (held_by self.new)) }
+        ensures texts { KeepTexts (held_by self.old).at → KeepTexts (held_by self.new).at }
+        ensures none { KeepNoTexts (held_by self.old).at → KeepNoTextsBut name.now step (held_by self.new).at }
+    {
+        answer(
+            self.alloc,
+            &self.handler,
+            &mut self.tenants,
+            &mut self.log,
+            name,
+            step,
+        )
+    }
+
+    /// Does a step of any tenant, which its giver keeps. Where no memory was found nothing is changed.
     #[inline(always)]
     pub(crate) fn answer(&mut self, step: &Step) -> Result<Answer, NoMemory>
         ensures answered { IfOk result (λ a. IsAnswered H.meaning step.now a.said a.reply
@@ -115,16 +138,9 @@ impl<H: Handler, S: Store> Host<H, S> {
         ensures kill { (tenant : List ℕ) (unit : ℕ) → step.now ≡ Step.Kill tenant unit → IsOk result }
         ensures err { OnErr result (HoldsAsBefore (held_by self.old) (held_by self.new)) }
         ensures texts { KeepTexts (held_by self.old).at → KeepTexts (held_by self.new).at }
-        ensures none { KeepNoTexts (held_by self.old).at
-            → KeepNoTextsBut (addressed step.now).0 (addressed step.now).1 (held_by self.new).at }
     {
-        answer(
-            self.alloc,
-            &self.handler,
-            &mut self.tenants,
-            &mut self.log,
-            step,
-        )
+        let own_step = step_within(step)?;
+        self.answer_own(step.tenant(), own_step)
     }
 
     /// Does a step of any tenant by a turn that was worked, if it needs no other. Where there is no
@@ -169,10 +185,13 @@ impl<H: Handler, S: Store> Host<H, S> {
         // Where it kept no text that was released, it keeps none.
         ensures none { KeepNoTexts (held_by self.old).at → KeepNoTexts (held_by self.new).at }
     {
-        match self.answer(&step) {
-            Err(_) => memory_reply(&step),
+        let flush = is_flush(&step);
+        let released = released_unit(&step);
+        let (name, own_step) = taken_apart(step);
+        match self.answer_own(&name, own_step) {
+            Err(_) => memory_reply_to(flush),
             Ok(answer) => {
-                self.give_up_after(step.tenant(), released_unit(&step));
+                self.give_up_after(&name, released);
                 answer.into_reply()
             }
         }

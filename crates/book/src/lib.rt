@@ -12,6 +12,7 @@
 //!   host stood for, the step is entered there with the reply that is given, or there was no memory
 //!   for it, and then nothing changed. `Host::prepare` and `step_with` are as those of a book, and
 //!   `Host::tenants` and `kept` read what follows from the history. `Book::host` lends a book's host.
+//!   A host keeps no text that was released (`KeepNoTexts`), since the replies have them.
 //! - `Book::step`, `step_as` and `run` do steps. A step is entered with the reply that is given,
 //!   or there was no memory for it, and then nothing changed. Both copies of a reply are made
 //!   before the step has any effect.

@@ -12,7 +12,8 @@ returns-clause-answered g c =
     let is = c.get_mut.follows.holds-at-none in
     let a = c.in_ok-answer.answer in
     answered_unopened g.H.Handler.meaning
-    c.args.step.now a.said a.reply (get bytes_eq old) (get bytes_eq new) (keys old) (keys new) c.args.log.now
+    (addressed c.args.step.now).0 (addressed c.args.step.now).1 a.said a.reply
+    (get bytes_eq old) (get bytes_eq new) (keys old) (keys new) c.args.log.now
     (rw c.tenant-name.ensures at c.in_default.ensures.value)
     (rw (c.tenant-name.ensures, c.in_ok-own_step.ensures.same, is) at (c.in_ok-answer.ensures.did c.args.log.now))
     (rw (c.tenant-name.ensures, is) at c.in_ok-answer.ensures.others)
