@@ -1,12 +1,12 @@
 -- A shard's answers, behind one another, and all of them in the order of the lines.
-use Rattle.std.proofs.Common.{◌≡◌, ◌<◌, ◌≤◌, ◌+◌, ℕ, List, [], ◌∷◌, ◌++◌, length, map, drop, take, get_or}
+use Rattle.std.proofs.Common.{◌≡◌, ◌<◌, ◌≤◌, ◌+◌, ◌-◌, ℕ, zero, suc, List, [], ◌∷◌, ◌++◌, length, map, drop, take, get_or}
 use Rattle.std.proofs.Common.{set, replicate, cond, Bool, true, false, refl, sym, ap, subst, ◌∙◌, inl, inr}
 use Rattle.std.proofs.Common.{arith, append_assoc, append-nil, length-append, length-drop}
 use Rattle.std.specs.Prelude.{Option, flat_map}
 use Rattle.std.specs.Io.KnownBytes.{Appends}
 use Rattle.std.proofs.KnownBytes.{Appends-nil, Appends-trans}
 use Rattle.std.proofs.Math.Seq.{drop-append_seam, take-append_seam}
-use Rattle.std.proofs.lemmas.List.{drop-drop, drop_more, map-append}
+use Rattle.std.proofs.lemmas.List.{drop-drop, drop_more, map-append, take-append-drop}
 use Rattle.std.proofs.lemmas.List.Concat.{flat_map-append, flat_map-cons}
 use Rattle.written.specs.Beginnings.{AppendsBeginning}
 use Rattle.std.specs.Prelude.{Result, Ok, Err, OnOk, OnErr, is_err}
@@ -97,6 +97,14 @@ told_from is_full answers bytes lens so = record {
   within = omega arith;
 }
 
+-- a beginning is one that is shorter, and what stands between
+take_split : (at end : ℕ) (bytes : List ℕ) → at ≤ end
+    → take end bytes ≡ take at bytes ++ take (end - at) (drop at bytes)
+take_split zero end bytes order = refl
+take_split (suc at) zero bytes order = absurd (omega arith)
+take_split (suc at) (suc end) [] order = refl
+take_split (suc at) (suc end) (x ∷ bytes) order = ap (λ l. x ∷ l) (take_split at end bytes (omega arith))
+
 -- ---- the next line
 
 -- the next line of a shard, and what stands behind it
@@ -170,6 +178,31 @@ first_begins out out' answers first others all begun = (
 -- nothing is a beginning of whatever was to be written
 pub none_begins : (out : Option (List ℕ)) (all : List ℕ) → AppendsBeginning out out all
 none_begins out all = ([], Appends-nil out, (all, refl))
+
+-- ---- line by line
+
+-- one piece more of some bytes is written
+pub wrote_piece : (out mid out' : Option (List ℕ)) (bytes : List ℕ) (at end : ℕ) → at ≤ end
+    → Appends out mid (take at bytes) → Appends mid out' (take (end - at) (drop at bytes))
+    → Appends out out' (take end bytes)
+wrote_piece out mid out' bytes at end order p q =
+    subst (Appends out out') (sym (take_split at end bytes order)) (Appends-trans _ _ _ _ _ p q)
+
+-- a beginning of the next piece begins them all
+pub wrote_beginning : (out mid out' : Option (List ℕ)) (bytes : List ℕ) (at end : ℕ) → at ≤ end
+    → Appends out mid (take at bytes) → AppendsBeginning mid out' (take (end - at) (drop at bytes))
+    → AppendsBeginning out out' bytes
+wrote_beginning out mid out' bytes at end order p q = (
+  take at bytes ++ q.0,
+  Appends-trans _ _ _ _ _ p q.1,
+  (
+    q.2.0 ++ drop end bytes,
+    sym (take-append-drop end bytes)
+        ∙ ap (λ l. l ++ drop end bytes) (take_split at end bytes order ∙ ap (λ l. take at bytes ++ l) q.2.1)
+        ∙ ap (λ l. l ++ drop end bytes) (sym (append_assoc (take at bytes) q.0 q.2.0))
+        ∙ append_assoc (take at bytes ++ q.0) q.2.0 (drop end bytes),
+  ),
+)
 
 -- ---- in the order of the lines
 

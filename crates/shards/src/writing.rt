@@ -1,7 +1,7 @@
 //! The answers of all shards, written in the order of the lines.
 
-ghost use Rattle.std.specs.Prelude.{◌≡◌, ◌≢◌, ◌<◌, ◌≤◌, ◌∷◌, ℕ, List, All, OnOk, OnErr, Err, IfOk, flat_map, length};
-ghost use Rattle.std.specs.Prelude.{slice_index_or, replicate};
+ghost use Rattle.std.specs.Prelude.{◌≡◌, ◌≢◌, ◌<◌, ◌≤◌, ◌∷◌, ℕ, List, All, OnOk, OnErr, Err, IfErr, IfOk, flat_map};
+ghost use Rattle.std.specs.Prelude.{length, replicate, slice_index_or};
 ghost use Rattle.std.specs.Io.KnownBytes.{Appends};
 ghost use Rattle.model.specs.Failures.{HasRisen};
 ghost use Rattle.written.specs.Beginnings.{AppendsBeginning};
@@ -12,6 +12,7 @@ use crate::place::Place;
 use crate::shard::Shard;
 use handler::Handler;
 use lines::{Counted, ServeFault, put_bytes};
+use memchr::memchr;
 use shared_log::Store;
 use std::alloc::Global;
 use std::io::Write;
@@ -142,5 +143,38 @@ fn put_next<W: Write>(
     let end = at + lens[next];
     cursor.at = end;
     cursor.next = next + 1;
-    put_bytes(writer, &bytes[at..end])
+    put_lines(writer, &bytes[at..end])
+}
+
+/// Where the line that begins at a place ends, behind its line feed.
+fn line_end(bytes: &[u8], at: usize) -> usize
+    requires { at < length bytes.now }
+    ensures above { at < result }
+    ensures within { result ≤ length bytes.now }
+{
+    match memchr(b'\n', &bytes[at..]) {
+        Some(place) => at + place + 1,
+        None => bytes.len(),
+    }
+}
+
+/// Writes these bytes, each line in one piece: whoever counts lines, or lets some of them not through, is behind the
+/// writer. `Write` comes only where the writer failed; a beginning of them may be written then.
+fn put_lines<W: Write>(writer: &mut Counted<W>, bytes: &[u8]) -> Result<(), ServeFault>
+    ensures ok { OnOk result (Appends (W.contents writer.old.inner) (W.contents writer.new.inner) bytes.now) }
+    ensures err { OnErr result
+        (AppendsBeginning (W.contents writer.old.inner) (W.contents writer.new.inner) bytes.now) }
+    ensures fault { IfErr result (λ e. (e ≡ ServeFault.Write) × HasRisen writer.old.failed writer.new.failed) }
+    ensures same { OnOk result (writer.new.failed ≡ writer.old.failed) }
+{
+    let mut at = 0;
+    while at < bytes.len() {
+        let end = line_end(bytes, at);
+        match put_bytes(writer, &bytes[at..end]) {
+            Ok(()) => {}
+            Err(fault) => return Err(fault),
+        }
+        at = end;
+    }
+    Ok(())
 }
