@@ -1,6 +1,6 @@
 -- A shard's answers, behind one another, and all of them in the order of the lines.
-use Rattle.std.proofs.Common.{◌≡◌, ◌<◌, ◌≤◌, ◌+◌, ◌-◌, ℕ, zero, suc, List, [], ◌∷◌, ◌++◌, length, map, drop, take, get_or}
-use Rattle.std.proofs.Common.{set, replicate, cond, Bool, true, false, refl, sym, ap, subst, ◌∙◌, inl, inr}
+use Rattle.std.proofs.Common.{◌≡◌, ◌<◌, ◌≤◌, ◌+◌, ◌-◌, ℕ, zero, suc, List, [], ◌∷◌, ◌++◌, length, map, drop, take}
+use Rattle.std.proofs.Common.{get_or, set, replicate, cond, Bool, true, false, refl, sym, ap, subst, ◌∙◌, inl, inr}
 use Rattle.std.proofs.Common.{arith, append_assoc, append-nil, length-append, length-drop}
 use Rattle.std.specs.Prelude.{Option, flat_map}
 use Rattle.std.specs.Io.KnownBytes.{Appends}
@@ -97,13 +97,20 @@ told_from is_full answers bytes lens so = record {
   within = omega arith;
 }
 
+-- nothing is taken of no bytes
+none_taken : (n : ℕ) (none : List ℕ) → none ≡ [] → take n none ≡ []
+none_taken zero none is = refl
+none_taken (suc n) none is = ap (take (suc n)) is
+
 -- a beginning is one that is shorter, and what stands between
 take_split : (at end : ℕ) (bytes : List ℕ) → at ≤ end
     → take end bytes ≡ take at bytes ++ take (end - at) (drop at bytes)
-take_split zero end bytes order = refl
+take_split zero end bytes order = let all : end ≡ end - 0 = omega arith in ap (λ n. take n bytes) all
 take_split (suc at) zero bytes order = absurd (omega arith)
-take_split (suc at) (suc end) [] order = refl
-take_split (suc at) (suc end) (x ∷ bytes) order = ap (λ l. x ∷ l) (take_split at end bytes (omega arith))
+take_split (suc at) (suc end) [] order = sym (none_taken (suc end - suc at) [] refl)
+take_split (suc at) (suc end) (x ∷ bytes) order =
+    let less : end - at ≡ suc end - suc at = omega arith in
+    ap (λ l. x ∷ l) (take_split at end bytes (omega arith) ∙ ap (λ n. take at bytes ++ take n (drop at bytes)) less)
 
 -- ---- the next line
 
