@@ -15,6 +15,7 @@ _recall() {
     'run --report') return ;;
     'drive --journal') COMPREPLY=($(compgen -f -- "$now")) && return ;;
     'drive --from') return ;;
+    'drive --cores') return ;;
     'drive --snapshot') return ;;
     'drive --report') return ;;
     'draw --tenant') return ;;
@@ -33,7 +34,7 @@ _recall() {
     esac
     case "$command" in
     run) COMPREPLY=($(compgen -W '--log --journal --from --cores --snapshot --adopt --accept-upgrade --explain --strict --report --programs --audit -q --quiet -v --verbose -h --help' -- "$now")) ;;
-    drive) COMPREPLY=($(compgen -W '--journal --from --snapshot --adopt --accept-upgrade --explain --strict --report --programs --audit -q --quiet -v --verbose -h --help' -- "$now")) ;;
+    drive) COMPREPLY=($(compgen -W '--journal --from --cores --snapshot --adopt --accept-upgrade --explain --strict --report --programs --audit -q --quiet -v --verbose -h --help' -- "$now")) ;;
     feeds) COMPREPLY=($(compgen -W '--programs --audit -q --quiet -v --verbose -h --help' -- "$now") $(compgen -f -- "$now")) ;;
     draw) COMPREPLY=($(compgen -W '--tenant --to --html --from --last --programs -h --help' -- "$now")) ;;
     journal) COMPREPLY=($(compgen -W '--json -h --help' -- "$now") $(compgen -f -- "$now")) ;;

@@ -18,6 +18,7 @@ complete -c recall -n '__fish_seen_subcommand_from run' -s h -l help -d 'Print h
 complete -c recall -n __fish_use_subcommand -a drive -d 'Reads step lines, delivers the letters and releases what is firm behind each, and writes its reply line and a line for each text that left'
 complete -c recall -n '__fish_seen_subcommand_from drive' -l journal -r -F -d 'Keeps each line in FILE before it is stepped, and begins with the lines that FILE has, without their replies'
 complete -c recall -n '__fish_seen_subcommand_from drive' -l from -x -d 'Leaves out the first N lines of all that the journal’s lines give, replies and outputs alike, and writes the others'
+complete -c recall -n '__fish_seen_subcommand_from drive' -l cores -x -d 'Steps tenants on N cores side by side; else on all, but on one where input or standard error is a terminal, or beside --log, --audit, --explain or a snapshot'
 complete -c recall -n '__fish_seen_subcommand_from drive' -l snapshot -x -d 'Keeps a snapshot of all tenants in FILE.snapshot behind each N lines: the next run steps only the lines behind it'
 complete -c recall -n '__fish_seen_subcommand_from drive' -l adopt -d 'Takes over a FILE that has bytes, and of which no page beside it tells whose it is'
 complete -c recall -n '__fish_seen_subcommand_from drive' -l accept-upgrade -d 'Goes on with a FILE of another handler, or of another version of it, steps its lines by this one, and notes in FILE.about at which line that was'
