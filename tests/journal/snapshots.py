@@ -21,7 +21,7 @@ KILLED, SCRIPTS = 20, 120
 EACH = "7"
 GOES_ON = b"a snapshot stands behind %d line"
 LEFT = b"is left aside: "
-FIRST = ("steps.jsonl", "replies.jsonl")
+EARLIER = ("steps.jsonl", "replies.jsonl")
 
 
 def killed_runs(program, room, seed):
@@ -392,18 +392,19 @@ def trims_that_fail(own):
     return count, None
 
 
-def first_form(own):
-    """A trimmed journal whose snapshot has the first form, in which forgotten letters had numbers (0.7.1 made it): a
-    run goes on from it, and the next one from the snapshot that the first left, which has the form of now."""
-    folder = os.path.join(os.path.dirname(os.path.abspath(__file__)), "..", "first-form")
-    steps, replies = (open(os.path.join(folder, name), "rb").read().splitlines(True) for name in FIRST)
+def earlier_form(own, name, gone, kept):
+    """A trimmed journal whose snapshot has an earlier form (0.7.1 made the first, 0.8.0 the second), behind so many
+    lines, with so many of them in the journal: a run goes on from it, and the next one from the snapshot that the first
+    left, which has the form of now."""
+    folder = os.path.join(os.path.dirname(os.path.abspath(__file__)), "..", "earlier-forms", name)
+    steps, replies = (open(os.path.join(folder, part), "rb").read().splitlines(True) for part in EARLIER)
     old = Kept.__new__(Kept)
-    old.program, old.words, old.journal = own.program, (), os.path.join(own.room, "first-form")
+    old.program, old.words, old.journal = own.program, (), os.path.join(own.room, f"{name}-form")
     for end in ("", ".about", ".snapshot", ".base"):
         shutil.copyfile(os.path.join(folder, "journal" + end), old.journal + end)
     before = open(old.snapshot, "rb").read()
     half = len(steps) // 2
-    for count, (start, end, behind) in enumerate(((0, half, 35), (half, len(steps), 38 + half))):
+    for count, (start, end, behind) in enumerate(((0, half, gone), (half, len(steps), gone + kept + half))):
         out, said, status = old.run(b"".join(steps[start:end]), "-v", "--snapshot", "1")
         if GOES_ON % behind not in said:
             return count, f"it does not go on behind {behind} lines: {said.decode()}"
@@ -431,7 +432,8 @@ def checks(program, room):
         ("memory of a snapshot that is refused", memory),
         ("journals that are trimmed", trimmed),
         ("trims that fail", trims_that_fail),
-        ("a snapshot of the first form", first_form),
+        ("a snapshot of the first form", lambda own: earlier_form(own, "first", 35, 3)),
+        ("a snapshot of the second form", lambda own: earlier_form(own, "second", 347, 0)),
     )
     killed = [
         (f"kills with snapshots of input {seed}", lambda seed=seed: killed_runs(program.path, room, seed))

@@ -1,16 +1,19 @@
 //! The letters of a tenant.
 
-ghost use Rattle.std.specs.Prelude.{◌≡◌, IfErr, IfOk, length};
-ghost use Rattle.codec.specs.Codes.{AllFit, Decodes, DecodesEach, Encodes, FitEach, Unless, UnlessEach, each_code};
-ghost use Rattle.codec.specs.Codes.{list_code};
-ghost use Rattle.codec.specs.Layers.{content_code, letter_code, FitsContent, FitsLetter};
+ghost use Rattle.std.specs.Prelude.{◌≡◌, ◌≤◌, ◌++◌, ℕ, IfErr, IfOk, List, drop, length};
+ghost use Rattle.codec.specs.Codes.{AllFit, Decodes, Encodes, FitEach, Unless, UnlessEach, each_code};
+ghost use Rattle.codec.specs.Layers.{content_code, letter_code, letters_code, FitsContent, FitsLetter};
+ghost use Rattle.compact.specs.Compact.{CompactLetter as LetterOf};
+ghost use Rattle.unit_steps.specs.SentLetters.{front as front_of};
 ghost use Rattle.codec.specs.declared.fault.DecodeFault.{DecodeFault as FaultOf};
 
 use crate::coded::Coded;
 use crate::fault::DecodeFault;
 use crate::input::Input;
+use crate::spent::{decode_spent, encode_spent};
 use depvector::SharedVector;
 use model::{NoMemory, Text, Unit};
+use spent_letters::SpentLetters;
 use std::alloc::Global;
 use unit_steps::{Content, LetterRef, SentLetter, SentLetters};
 
@@ -68,46 +71,85 @@ fn decode_letter(alloc: Global, input: &mut Input) -> Result<SentLetter, DecodeF
     })
 }
 
-/// Appends the bytes of each letter.
-fn encode_each(letters: &SentLetters, out: &mut Vec<u8>) -> Result<(), NoMemory>
-    ensures code { IfOk result (λ _. Encodes (each_code letter_code) letters.now.items out.old.items out.new.items) }
-    ensures fits { IfOk result (λ _. AllFit FitsLetter letters.now.items) }
+/// Appends the bytes of each letter from this number on.
+fn encode_each(letters: &SentLetters, from: usize, out: &mut Vec<u8>) -> Result<(), NoMemory>
+    requires { from ≤ length letters.now.items }
+    ensures code { IfOk result (λ _.
+        Encodes (each_code letter_code) (drop from letters.now.items) out.old.items out.new.items) }
+    ensures fits { IfOk result (λ _. AllFit FitsLetter (drop from letters.now.items)) }
 {
-    for number in 0..letters.len() {
+    for number in from..letters.len() {
         let letter = letters.at(number);
         encode_letter(&letter, out)?;
     }
     Ok(())
 }
 
-/// Appends the bytes of letters: how many there are, and each. One whose content is forgotten takes three.
-pub fn encode_letters(letters: &SentLetters, out: &mut Vec<u8>) -> Result<(), NoMemory>
-    ensures code { IfOk result (λ _. Encodes (list_code letter_code) letters.now.items out.old.items out.new.items) }
+/// Appends the bytes of letters, of which these are at the front and have no content.
+#[tactic(auto, using(crate::proofs::Fronts::all_fit))]
+fn encode_parts(
+    front: &SpentLetters,
+    letters: &SentLetters,
+    out: &mut Vec<u8>,
+) -> Result<(), NoMemory>
+    requires { front.now ≡ front_of letters.now.items }
+    ensures code { IfOk result (λ _. Encodes letters_code letters.now.items out.old.items out.new.items) }
     ensures fits { IfOk result (λ _. FitEach FitsLetter letters.now.items) }
 {
-    letters.len().encode(out)?;
-    encode_each(letters, out)
+    encode_spent(front, out)?;
+    (letters.len() - front.len()).encode(out)?;
+    encode_each(letters, front.len(), out)
 }
 
-/// Takes the bytes of so many letters off the input.
-fn decode_each(alloc: Global, input: &mut Input, count: usize) -> Result<SentLetters, DecodeFault>
-    ensures ok { IfOk result (λ s. DecodesEach letter_code FitsLetter count input.old s.items input.new) }
+/// Appends the bytes of letters: those at the front whose contents are forgotten, packed, how many others there are,
+/// and each of these. One of these whose content is forgotten takes three bytes.
+pub fn encode_letters(letters: &SentLetters, out: &mut Vec<u8>) -> Result<(), NoMemory>
+    ensures code { IfOk result (λ _. Encodes letters_code letters.now.items out.old.items out.new.items) }
+    ensures fits { IfOk result (λ _. FitEach FitsLetter letters.now.items) }
+{
+    match letters.packed_front() {
+        Some(front) => encode_parts(front, letters, out),
+        None => encode_packed(letters, out),
+    }
+}
+
+/// The same of letters of which some at the front had no memory to be packed.
+fn encode_packed(letters: &SentLetters, out: &mut Vec<u8>) -> Result<(), NoMemory>
+    ensures code { IfOk result (λ _. Encodes letters_code letters.now.items out.old.items out.new.items) }
+    ensures fits { IfOk result (λ _. FitEach FitsLetter letters.now.items) }
+{
+    let front = letters.pack_front(*out.allocator())?;
+    encode_parts(&front, letters, out)
+}
+
+/// Takes the bytes of so many letters off the input, and adds them.
+fn decode_each(
+    alloc: Global,
+    input: &mut Input,
+    count: usize,
+    letters: &mut SentLetters,
+) -> Result<(), DecodeFault>
+    ensures ok { IfOk result (λ _. (vs : List LetterOf) (rest : List ℕ) → length vs ≡ count → AllFit FitsLetter vs
+        → input.old ≡ each_code letter_code vs rest
+        → (letters.new.items ≡ letters.old.items ++ vs) × (rest ≡ input.new)) }
     ensures err { IfErr result (λ e. UnlessEach letter_code FitsLetter count input.old (e ≡ FaultOf.NoMemory)) }
 {
-    let mut letters = SentLetters::new(alloc);
     for _ in 0..count {
         let letter = decode_letter(alloc, input)?;
         letters.push(letter)?;
     }
-    Ok(letters)
+    Ok(())
 }
 
-/// Takes the bytes of letters off the input: how many there are, and each.
+/// Takes the bytes of letters off the input: those at the front whose contents are forgotten, how many others there
+/// are, and each of these.
 pub fn decode_letters(alloc: Global, input: &mut Input) -> Result<SentLetters, DecodeFault>
-    ensures ok { IfOk result (λ s. Decodes (list_code letter_code) (FitEach FitsLetter) input.old s.items input.new) }
-    ensures err { IfErr result (λ e.
-        Unless (list_code letter_code) (FitEach FitsLetter) input.old (e ≡ FaultOf.NoMemory)) }
+    ensures ok { IfOk result (λ s. Decodes letters_code (FitEach FitsLetter) input.old s.items input.new) }
+    ensures err { IfErr result (λ e. Unless letters_code (FitEach FitsLetter) input.old (e ≡ FaultOf.NoMemory)) }
 {
+    let front = decode_spent(alloc, input)?;
     let count = usize::decode(alloc, input)?;
-    decode_each(alloc, input, count)
+    let mut letters = SentLetters::of(alloc, front);
+    decode_each(alloc, input, count, &mut letters)?;
+    Ok(letters)
 }

@@ -22,6 +22,7 @@ mod outputs;
 mod portable;
 mod records;
 mod sample;
+mod spent;
 mod tables;
 mod texts;
 mod vectors;

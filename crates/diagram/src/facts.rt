@@ -4,7 +4,8 @@
 use crate::interval::{Interval, Removal};
 use crate::layout::Layout;
 use crate::picture::Picture;
-use model::{Mark, NoMemory, Unit};
+use crate::writer::Writer;
+use model::{Mark, Unit};
 use std::fmt;
 
 /// The mark of every unit's beginning.
@@ -20,13 +21,16 @@ pub(crate) struct View<'v, 'a> {
     pub layout: &'v Layout,
     /// The number of the line of each entry of the history.
     pub lines: &'v [u64],
+    /// For each interval, whether one that is drawn depends on it.
+    pub needed: &'v [bool],
 }
 
 impl<'v, 'a> View<'v, 'a> {
     /// The number of the line that a column shows, if it is known.
-    pub(crate) fn line(&self, column: usize) -> Option<u64> {
+    pub(crate) fn line(&self, column: usize) -> Option<usize> {
         let entry = *self.picture.entries.get(column)?;
-        self.lines.get(entry).copied()
+        let line = *self.lines.get(entry)?;
+        Some(line as usize)
     }
 
     /// Whether the interval is in a column that is drawn.
@@ -59,89 +63,66 @@ pub(crate) fn name_of(interval: &Interval<'_>) -> Name {
     Name(interval.unit, interval.mark)
 }
 
-/// Adds an attribute that has a number, where there is one.
-pub(crate) fn add_number(
-    page: &mut String,
-    name: &str,
-    number: Option<usize>,
-) -> Result<(), NoMemory> {
-    if let Some(number) = number {
-        write!(page, " data-{name}=\"{number}\"")?;
-    }
-    Ok(())
+/// Adds an attribute that names an interval.
+pub(crate) fn add_reference(page: &mut Writer, attribute: &str, interval: &Interval<'_>) {
+    write!(page, " data-{attribute}=\"{}\"", name_of(interval));
 }
 
 /// Adds where an event stands: its unit, its column and its line.
-pub(crate) fn add_place(
-    page: &mut String,
-    view: &View<'_, '_>,
-    unit: Unit,
-    column: usize,
-) -> Result<(), NoMemory> {
-    let unit = unit.number();
-    write!(page, " data-unit=\"{unit}\" data-column=\"{column}\"")?;
-    if let Some(line) = view.line(column) {
-        write!(page, " data-line=\"{line}\"")?;
-    }
-    Ok(())
+pub(crate) fn add_place(page: &mut Writer, view: &View<'_, '_>, unit: Unit, column: usize) {
+    page.add_number("unit", Some(usize::from(unit.number())));
+    page.add_number("column", Some(column));
+    page.add_number("line", view.line(column));
 }
 
 /// Adds what is known of an interval: its name, its mark, when it came to be, was logged, left and was undone, the
 /// interval before it, and the last interval of each unit in its past.
-pub(crate) fn add_facts<'a>(
-    page: &mut String,
-    view: &View<'_, 'a>,
-    interval: &Interval<'a>,
-) -> Result<(), NoMemory> {
+pub(crate) fn add_facts<'a>(page: &mut Writer, view: &View<'_, 'a>, interval: &Interval<'a>) {
     let Mark { incarnation, index } = interval.mark;
-    write!(
-        page,
-        " id=\"{}\" data-mark=\"{incarnation},{index}\"",
-        name_of(interval)
-    )?;
-    add_place(page, view, interval.unit, interval.column)?;
-    add_number(page, "logged", interval.logged)?;
+    let name = name_of(interval);
+    write!(page, " id=\"{name}\" data-mark=\"{incarnation},{index}\"");
+    add_place(page, view, interval.unit, interval.column);
+    add_fate(page, interval);
+    add_before(page, view, interval);
+    add_past(page, interval);
+}
+
+/// Adds when an interval was logged, left and was undone.
+fn add_fate(page: &mut Writer, interval: &Interval<'_>) {
+    page.add_number("logged", interval.logged);
     if !interval.outputs.is_empty() {
-        add_number(page, "released", interval.released)?;
+        page.add_number("released", interval.released);
     }
     match interval.removal {
-        Some(Removal::Kill { column }) => add_number(page, "lost", Some(column))?,
-        Some(Removal::Rollback { column }) => add_number(page, "cut", Some(column))?,
+        Some(Removal::Kill { column }) => page.add_number("lost", Some(column)),
+        Some(Removal::Rollback { column }) => page.add_number("cut", Some(column)),
         None => {}
     }
-    add_before(page, view, interval)?;
-    add_past(page, interval)
 }
 
 /// Adds the name of the interval before this one on its unit's path.
-fn add_before<'a>(
-    page: &mut String,
-    view: &View<'_, 'a>,
-    interval: &Interval<'a>,
-) -> Result<(), NoMemory> {
+fn add_before<'a>(page: &mut Writer, view: &View<'_, 'a>, interval: &Interval<'a>) {
     let Some(place) = interval.before else {
-        return Ok(());
+        return;
     };
     if let Some(before) = view.picture.intervals.get(place) {
-        write!(page, " data-before=\"{}\"", name_of(before))?;
+        add_reference(page, "before", before);
     }
-    Ok(())
 }
 
 /// Adds the names of the last interval of each unit in the interval's past. A beginning sends nothing, so that of
 /// another unit's alone no interval depends.
-fn add_past(page: &mut String, interval: &Interval<'_>) -> Result<(), NoMemory> {
-    page.push_str(" data-past=\"")?;
+fn add_past(page: &mut Writer, interval: &Interval<'_>) {
+    page.push(" data-past=\"");
     let mut separator = "";
-    for (number, mark) in interval.vector.as_slice().iter().enumerate() {
-        let is_own = number == usize::from(interval.unit.number());
-        if is_own || *mark != BEGINNING {
-            let incarnation = mark.incarnation;
-            let index = mark.index;
-            write!(page, "{separator}i{number}-{incarnation}-{index}")?;
+    let mut number = 0u8;
+    for mark in interval.vector.as_slice() {
+        let unit = Unit::new(number);
+        if unit == interval.unit || *mark != BEGINNING {
+            write!(page, "{separator}{}", Name(unit, *mark));
             separator = " ";
         }
+        number = number.wrapping_add(1);
     }
-    page.push_str("\"")?;
-    Ok(())
+    page.push("\"");
 }

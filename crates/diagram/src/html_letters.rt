@@ -1,34 +1,34 @@
 //! The letters of a page.
 
-use crate::escape::add_text;
-use crate::facts::{View, add_number, name_of};
+use crate::facts::{View, add_reference};
 use crate::interval::{Interval, Sent};
-use crate::letters::{add_course, add_short_course};
-use crate::notes::add_letter;
-use model::NoMemory;
-use std::alloc::Global;
+use crate::layout::Layout;
+use crate::letters::{ARROW, SHORT_ARROW, add_course, add_short_course, gone_class};
+use crate::notes::add_letter_note;
+use crate::writer::Writer;
+
+/// Up to the course of a path that is there to be hit.
+const HIT_PATH: &str = "<path class=\"hit\" d=\"";
+
+/// The end of a path, and of its group.
+const END_PATH: &str = "\"/></g>\n";
 
 /// Adds an arrow for each receipt of a letter, and a short one for each letter, which is seen while no interval on a
 /// path has received it.
-pub(crate) fn add_letters(
-    alloc: Global,
-    page: &mut String,
-    view: &View<'_, '_>,
-) -> Result<(), NoMemory> {
+pub(crate) fn add_letters(page: &mut Writer, view: &View<'_, '_>) {
     for receipt in &view.picture.intervals {
         if let Some(letter) = view.picture.letter(receipt.cause) {
-            add_arrow(alloc, page, view, letter, receipt)?;
+            add_arrow(page, view, letter, receipt);
         }
     }
     for letter in &view.picture.letters {
-        add_short_arrow(alloc, page, view, letter)?;
+        add_short_arrow(page, view, letter);
     }
-    Ok(())
 }
 
 /// The column in which the interval was undone, if it was.
 fn gone(interval: &Interval<'_>) -> Option<usize> {
-    interval.removal.map(|removal| removal.column())
+    Some(interval.removal?.column())
 }
 
 /// The first column in which either was undone, if one was.
@@ -41,99 +41,87 @@ fn first_gone(one: Option<usize>, other: Option<usize>) -> Option<usize> {
 }
 
 /// Adds the arrow of a letter to the interval that received it, where either end is drawn.
-fn add_arrow<'a>(
-    alloc: Global,
-    page: &mut String,
-    view: &View<'_, 'a>,
-    letter: &Sent,
-    receipt: &Interval<'a>,
-) -> Result<(), NoMemory> {
+fn add_arrow<'a>(page: &mut Writer, view: &View<'_, 'a>, letter: &Sent, receipt: &Interval<'a>) {
     let Some(sender) = view.picture.intervals.get(letter.sender) else {
-        return Ok(());
+        return;
     };
     if !view.draws(sender) && !view.draws(receipt) {
-        return Ok(());
+        return;
     }
     let undone = first_gone(gone(sender), gone(receipt));
-    page.push_str("<g class=\"send\"")?;
-    add_ends(page, letter, sender, undone)?;
-    write!(page, " data-to=\"{}\"", name_of(receipt))?;
-    add_number(page, "column", Some(receipt.column))?;
-    add_number(page, "until", gone(receipt))?;
-    add_note(alloc, page, view, letter)?;
-    page.push_str("<path class=\"hit\" d=\"")?;
-    add_course(page, view.layout, sender, receipt)?;
-    let class = if undone.is_some() { " gone" } else { "" };
-    write!(
-        page,
-        "\"/><path class=\"letter{class}\" marker-end=\"url(#head)\" d=\""
-    )?;
-    add_course(page, view.layout, sender, receipt)?;
-    page.push_str("\"/></g>\n")?;
-    Ok(())
+    page.push("<g class=\"send\"");
+    add_ends(page, letter, sender, undone);
+    add_receipt(page, receipt);
+    add_note(page, view, letter);
+    add_paths(page, view.layout, sender, receipt, undone.is_some());
+}
+
+/// Adds which interval received a letter, when, and when that was undone.
+fn add_receipt(page: &mut Writer, receipt: &Interval<'_>) {
+    add_reference(page, "to", receipt);
+    page.add_number("column", Some(receipt.column));
+    page.add_number("until", gone(receipt));
+}
+
+/// Adds the course of an arrow, wide to be hit and as it is seen, and ends its group.
+fn add_paths(
+    page: &mut Writer,
+    layout: &Layout,
+    sender: &Interval<'_>,
+    receipt: &Interval<'_>,
+    is_gone: bool,
+) {
+    page.push(HIT_PATH);
+    add_course(page, layout, sender, receipt);
+    page.push("\"/><path class=\"letter");
+    page.push(gone_class(is_gone));
+    page.push(ARROW);
+    add_course(page, layout, sender, receipt);
+    page.push(END_PATH);
 }
 
 /// Adds the short arrow of a letter, where its sender is drawn.
-fn add_short_arrow(
-    alloc: Global,
-    page: &mut String,
-    view: &View<'_, '_>,
-    letter: &Sent,
-) -> Result<(), NoMemory> {
+fn add_short_arrow(page: &mut Writer, view: &View<'_, '_>, letter: &Sent) {
     let Some(sender) = view.picture.intervals.get(letter.sender) else {
-        return Ok(());
+        return;
     };
     if !view.draws(sender) {
-        return Ok(());
+        return;
     }
     let off = if letter.is_received { " off" } else { "" };
-    write!(page, "<g class=\"send{off}\"")?;
-    add_ends(page, letter, sender, gone(sender))?;
-    add_number(page, "column", Some(sender.column))?;
-    add_note(alloc, page, view, letter)?;
-    page.push_str("<path class=\"hit\" d=\"")?;
-    add_short_course(page, view.layout, letter, sender)?;
-    let class = if sender.removal.is_some() {
-        " gone"
-    } else {
-        ""
-    };
-    write!(
-        page,
-        "\"/><path class=\"letter undelivered{class}\" marker-end=\"url(#tip)\" d=\"",
-    )?;
-    add_short_course(page, view.layout, letter, sender)?;
-    page.push_str("\"/></g>\n")?;
-    Ok(())
+    page.push("<g class=\"send");
+    page.push(off);
+    page.push("\"");
+    add_ends(page, letter, sender, gone(sender));
+    page.add_number("column", Some(sender.column));
+    add_note(page, view, letter);
+    add_short_paths(page, view.layout, letter, sender);
+}
+
+/// Adds the course of a short arrow, wide to be hit and as it is seen, and ends its group.
+fn add_short_paths(page: &mut Writer, layout: &Layout, letter: &Sent, sender: &Interval<'_>) {
+    let class = gone_class(sender.removal.is_some());
+    page.push(HIT_PATH);
+    add_short_course(page, layout, letter, sender);
+    page.push("\"/><path class=\"letter undelivered");
+    page.push(class);
+    page.push(SHORT_ARROW);
+    add_short_course(page, layout, letter, sender);
+    page.push(END_PATH);
 }
 
 /// Adds the letter's number, its sender, its receiver, and in which column one of its ends was undone.
-fn add_ends(
-    page: &mut String,
-    letter: &Sent,
-    sender: &Interval<'_>,
-    undone: Option<usize>,
-) -> Result<(), NoMemory> {
+fn add_ends(page: &mut Writer, letter: &Sent, sender: &Interval<'_>, undone: Option<usize>) {
     let (number, receiver) = (letter.number.number(), letter.receiver.number());
-    write!(
-        page,
-        " role=\"img\" data-letter=\"{number}\" data-from=\"{}\" data-receiver=\"{receiver}\"",
-        name_of(sender),
-    )?;
-    add_number(page, "gone", undone)
+    page.push(" role=\"img\"");
+    page.add_number("letter", Some(number as usize));
+    add_reference(page, "from", sender);
+    page.add_number("receiver", Some(usize::from(receiver)));
+    page.add_number("gone", undone);
 }
 
-/// Ends the tag, and adds the letter's number, sender, receiver and text.
-fn add_note(
-    alloc: Global,
-    page: &mut String,
-    view: &View<'_, '_>,
-    letter: &Sent,
-) -> Result<(), NoMemory> {
-    page.push_str("><title>")?;
-    add_letter(page, view.picture, letter)?;
-    write!(page, " to unit {}\n", letter.receiver.number())?;
-    add_text(alloc, page, letter.text.as_str())?;
-    page.push_str("</title>")?;
-    Ok(())
+/// Ends the tag, and adds the title of the letter.
+fn add_note(page: &mut Writer, view: &View<'_, '_>, letter: &Sent) {
+    page.push(">");
+    add_letter_note(page, view.picture, letter, "\n");
 }

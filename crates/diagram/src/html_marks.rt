@@ -1,33 +1,29 @@
 //! The intervals, outputs and signs of a page.
 
-use crate::escape::add_text;
-use crate::facts::{View, add_facts, add_place, name_of};
-use crate::interval::{Event, Interval, Sign};
-use crate::marks::{add_row_label, shape, sign_shape};
+use crate::facts::{View, add_facts, add_place, add_reference};
+use crate::interval::{Interval, Sign};
+use crate::layout::Layout;
+use crate::marks::{add_mark_label, add_sign_shape, shape};
 use crate::notes::{Shown, add_sign_note, add_source, status_name};
+use crate::picture::Picture;
 use crate::style::{BADGE_HIT, HELD, HIT, RELEASED};
+use crate::writer::Writer;
 use model::NoMemory;
 use std::alloc::Global;
 
 /// Adds a mark for each interval in a column that is drawn, and a badge for what it put out; of others that one of
 /// these depends on, what is known of them, where that isn't settled before the first column that is drawn.
-pub(crate) fn add_intervals(
-    alloc: Global,
-    page: &mut String,
-    view: &View<'_, '_>,
-) -> Result<(), NoMemory> {
-    let needed = needed(alloc, view)?;
+pub(crate) fn add_intervals(page: &mut Writer, view: &View<'_, '_>) {
     for (place, interval) in view.picture.intervals.iter().enumerate() {
         if view.draws(interval) {
-            add_interval(alloc, page, view, interval)?;
-            add_outputs(alloc, page, view, interval)?;
-        } else if is_set(needed.as_slice(), place) && !view.is_settled(interval) {
-            page.push_str("<g class=\"interval undrawn\"")?;
-            add_facts(page, view, interval)?;
-            page.push_str("/>\n")?;
+            add_interval(page, view, interval);
+            add_outputs(page, view, interval);
+        } else if is_set(view.needed, place) && !view.is_settled(interval) {
+            page.push("<g class=\"interval undrawn\"");
+            add_facts(page, view, interval);
+            page.push("/>\n");
         }
     }
-    Ok(())
 }
 
 /// Whether it is set for this place.
@@ -36,24 +32,31 @@ fn is_set(flags: &[bool], place: usize) -> bool {
 }
 
 /// For each interval, whether one that is drawn depends on it.
-fn needed(alloc: Global, view: &View<'_, '_>) -> Result<Vec<bool>, NoMemory> {
-    let intervals = &view.picture.intervals;
+pub(crate) fn needed(
+    alloc: Global,
+    picture: &Picture<'_>,
+    layout: &Layout,
+) -> Result<Vec<bool>, NoMemory> {
     let mut needed = Vec::new(alloc);
-    for interval in intervals {
-        needed.push(view.draws(interval))?;
+    for interval in &picture.intervals {
+        needed.push(layout.columns.has(interval.column))?;
     }
-    for place in (0..intervals.len()).rev() {
-        if let (true, Some(interval)) = (is_set(needed.as_slice(), place), intervals.get(place)) {
-            set(&mut needed, interval.before);
-            let letter = view.picture.letter(interval.cause);
-            set(&mut needed, letter.map(|letter| letter.sender));
-        }
-    }
+    need_causes(&mut needed, picture);
     Ok(needed)
 }
 
+/// Needs also what a needed interval came behind, and what sent it its letter.
+fn need_causes(needed: &mut [bool], picture: &Picture<'_>) {
+    for place in (0..picture.intervals.len()).rev() {
+        if let (true, Some(interval)) = (is_set(needed, place), picture.intervals.get(place)) {
+            set(needed, interval.before);
+            set(needed, picture.sender(interval.cause));
+        }
+    }
+}
+
 /// Sets it for this place, if there is one.
-fn set(flags: &mut Vec<bool>, place: Option<usize>) {
+fn set(flags: &mut [bool], place: Option<usize>) {
     if let Some(place) = place {
         if let Some(flag) = flags.get_mut(place) {
             *flag = true;
@@ -61,109 +64,87 @@ fn set(flags: &mut Vec<bool>, place: Option<usize>) {
     }
 }
 
-fn add_interval<'a>(
-    alloc: Global,
-    page: &mut String,
-    view: &View<'_, 'a>,
-    interval: &Interval<'a>,
-) -> Result<(), NoMemory> {
+fn add_interval<'a>(page: &mut Writer, view: &View<'_, 'a>, interval: &Interval<'a>) {
     let status = view.picture.status(interval);
-    let name = status_name(status);
-    write!(page, "<g class=\"interval {name}\" role=\"img\"")?;
-    add_facts(page, view, interval)?;
-    add_position(page, view, interval)?;
-    write!(
-        page,
-        "<title>unit {} {}\n",
-        interval.unit.number(),
-        Shown(interval.mark)
-    )?;
-    add_source(alloc, page, view.picture, interval)?;
-    page.push_str("</title>")?;
-    page.push_str(HIT)?;
-    page.push_str(shape(status))?;
-    let (incarnation, index) = (interval.mark.incarnation, interval.mark.index);
-    write!(
-        page,
-        "<text class=\"mark\" y=\"24\">{incarnation},{index}</text></g>\n",
-    )?;
-    Ok(())
+    page.push("<g class=\"interval ");
+    page.push(status_name(status));
+    page.push("\" role=\"img\"");
+    add_facts(page, view, interval);
+    page.add_position(view.layout.point(interval.column, interval.unit));
+    add_title(page, view, interval);
+    page.push(HIT);
+    page.push(shape(status));
+    add_mark_label(page, interval.mark);
 }
 
-/// Adds where an interval stands, and ends the tag.
-fn add_position<'a>(
-    page: &mut String,
-    view: &View<'_, 'a>,
-    interval: &Interval<'a>,
-) -> Result<(), NoMemory> {
-    let (x, y) = (view.layout.x(interval.column), view.layout.y(interval.unit));
-    write!(page, " transform=\"translate({x} {y})\">")?;
-    Ok(())
+/// Adds the title of an interval: its unit, its mark, and what it received.
+fn add_title<'a>(page: &mut Writer, view: &View<'_, 'a>, interval: &Interval<'a>) {
+    let (unit, mark) = (interval.unit.number(), Shown(interval.mark));
+    write!(page, "<title>unit {unit} {mark}\n");
+    add_source(page, view.picture, interval);
+    page.push("</title>");
 }
 
 /// Adds the badge of an interval that put something out, with the texts. It isn't seen where the interval is undone.
-fn add_outputs<'a>(
-    alloc: Global,
-    page: &mut String,
-    view: &View<'_, 'a>,
-    interval: &Interval<'a>,
-) -> Result<(), NoMemory> {
+fn add_outputs<'a>(page: &mut Writer, view: &View<'_, 'a>, interval: &Interval<'a>) {
     if interval.outputs.is_empty() {
-        return Ok(());
+        return;
     }
-    let off = if interval.removal.is_some() {
+    let (off, badge) = (off_class(interval), badge(interval));
+    page.push("<g class=\"outputs");
+    page.push(off);
+    page.push("\" role=\"img\"");
+    add_reference(page, "of", interval);
+    page.add_position(view.layout.point(interval.column, interval.unit));
+    add_texts(page, interval);
+    page.push(BADGE_HIT);
+    page.push(badge);
+    page.push("</g>\n");
+}
+
+/// What the class of a badge has besides where its interval is undone.
+fn off_class(interval: &Interval<'_>) -> &'static str {
+    if interval.removal.is_some() {
         " off"
     } else {
         ""
-    };
-    let name = name_of(interval);
-    write!(
-        page,
-        "<g class=\"outputs{off}\" role=\"img\" data-of=\"{name}\""
-    )?;
-    add_position(page, view, interval)?;
-    write!(
-        page,
-        "<title>outputs of unit {} {}",
-        interval.unit.number(),
-        Shown(interval.mark)
-    )?;
-    for output in &interval.outputs {
-        page.push_str("\n")?;
-        add_text(alloc, page, output.as_str())?;
     }
-    page.push_str("</title>")?;
-    page.push_str(BADGE_HIT)?;
-    page.push_str(if interval.released.is_some() {
+}
+
+/// The badge of an interval that put something out.
+fn badge(interval: &Interval<'_>) -> &'static str {
+    if interval.released.is_some() {
         RELEASED
     } else {
         HELD
-    })?;
-    page.push_str("</g>\n")?;
-    Ok(())
+    }
+}
+
+/// Adds the title of a badge: what the interval put out.
+fn add_texts(page: &mut Writer, interval: &Interval<'_>) {
+    let (unit, mark) = (interval.unit.number(), Shown(interval.mark));
+    write!(page, "<title>outputs of unit {unit} {mark}");
+    for output in &interval.outputs {
+        page.push("\n");
+        page.add_text(output.as_str());
+    }
+    page.push("</title>");
 }
 
 /// Adds each sign in a column that is drawn.
-pub(crate) fn add_signs(page: &mut String, view: &View<'_, '_>) -> Result<(), NoMemory> {
+pub(crate) fn add_signs(page: &mut Writer, view: &View<'_, '_>) {
     for sign in &view.picture.signs {
         if view.layout.columns.has(sign.column) {
-            add_sign(page, view, sign)?;
+            add_sign(page, view, sign);
         }
     }
-    Ok(())
 }
 
-fn add_sign(page: &mut String, view: &View<'_, '_>, sign: &Sign) -> Result<(), NoMemory> {
-    let (x, y) = (view.layout.x(sign.column), view.layout.y(sign.unit));
-    page.push_str("<g class=\"event\" role=\"img\"")?;
-    add_place(page, view, sign.unit, sign.column)?;
-    write!(page, " transform=\"translate({x} {y})\">")?;
-    add_sign_note(page, sign)?;
-    page.push_str(HIT)?;
-    page.push_str(sign_shape(sign.event))?;
-    if let Event::Restart { row } | Event::Rollback { row } = sign.event {
-        add_row_label(page, row)?;
-    }
-    page.push_str("</g>\n")?;
-    Ok(())
+fn add_sign(page: &mut Writer, view: &View<'_, '_>, sign: &Sign) {
+    page.push("<g class=\"event\" role=\"img\"");
+    add_place(page, view, sign.unit, sign.column);
+    page.add_position(view.layout.point(sign.column, sign.unit));
+    add_sign_note(page, sign);
+    page.push(HIT);
+    add_sign_shape(page, sign.event);
 }

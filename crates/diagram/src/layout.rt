@@ -3,6 +3,7 @@
 use crate::picture::Picture;
 use crate::window::{Columns, Window};
 use model::{Mark, Unit};
+use std::fmt;
 
 /// Left of the first column stand the labels of the units.
 pub(crate) const LEFT: usize = 112;
@@ -35,6 +36,19 @@ const FEW: usize = 60;
 const DIGIT: usize = 7;
 
 const GAP: usize = 10;
+
+/// A point of the page.
+#[derive(Clone, Copy)]
+pub(crate) struct Point {
+    pub x: usize,
+    pub y: usize,
+}
+
+impl fmt::Display for Point {
+    fn fmt<W: fmt::Write>(&self, f: &mut fmt::Formatter<W>) -> fmt::Result {
+        write!(f, "{} {}", self.x, self.y)
+    }
+}
 
 /// Where things stand.
 #[derive(Clone, Copy)]
@@ -100,6 +114,22 @@ impl Layout {
         usize::from(unit.number())
             .saturating_mul(LANE)
             .saturating_add(TOP)
+    }
+
+    /// Where the column meets the line of the unit.
+    pub(crate) fn point(&self, column: usize, unit: Unit) -> Point {
+        Point {
+            x: self.x(column),
+            y: self.y(unit),
+        }
+    }
+
+    /// Where the label of the unit stands.
+    pub(crate) fn label(&self, unit: Unit) -> Point {
+        Point {
+            x: 24,
+            y: self.y(unit),
+        }
     }
 
     /// The end of the units' lines.

@@ -15,8 +15,8 @@
 //! `interval` and `picture` have what it then knows, as plain values, and `page`, `marks`, `letters`
 //! and `notes` write that as SVG. `html`, `html_marks` and `html_letters` write the page, whose elements have as
 //! attributes what its script asks for (`facts`); the script (`page_script`), the style and the page's frame
-//! (`template`) are made of the files in `page/` by `page/make`. `escape` carries a contract: no text from a step can
-//! end or open an element.
+//! (`template`) are made of the files in `page/` by `page/make`. All are written to a `Writer`, which tells at the end
+//! whether there was memory. `escape` carries a contract: no text from a step can end or open an element.
 #![tactic(auto)]
 
 mod escape;
@@ -40,6 +40,7 @@ mod situation;
 mod style;
 mod template;
 mod window;
+mod writer;
 
 pub use html::draw_page;
 pub use missing_notice::{MissingNotice, why_waits};

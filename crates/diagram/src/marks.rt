@@ -8,47 +8,42 @@ use crate::style::{
     CHECKPOINT, CUT, FIRM, FLUSH, HELD, KILL, LOST, NOTICE, RELEASE, RELEASED, RESTART, ROLLBACK,
     STABLE, VOLATILE,
 };
-use model::{NoMemory, Start};
-use std::alloc::Global;
+use crate::writer::Writer;
+use model::{Mark, Start};
 
 /// Adds a mark for each interval in a column that is drawn.
-pub(crate) fn add_intervals(
-    alloc: Global,
-    svg: &mut String,
-    picture: &Picture<'_>,
-    layout: &Layout,
-) -> Result<(), NoMemory> {
+pub(crate) fn add_intervals(svg: &mut Writer, picture: &Picture<'_>, layout: &Layout) {
     for interval in &picture.intervals {
         if layout.columns.has(interval.column) {
-            add_interval(alloc, svg, picture, layout, interval)?;
+            add_interval(svg, picture, layout, interval);
         }
     }
-    Ok(())
 }
 
 fn add_interval<'a>(
-    alloc: Global,
-    svg: &mut String,
+    svg: &mut Writer,
     picture: &Picture<'a>,
     layout: &Layout,
     interval: &Interval<'a>,
-) -> Result<(), NoMemory> {
+) {
     let status = picture.status(interval);
-    let name = status_name(status);
-    let (x, y) = (layout.x(interval.column), layout.y(interval.unit));
-    write!(
-        svg,
-        "<g class=\"interval {name}\" transform=\"translate({x} {y})\">",
-    )?;
-    add_interval_note(alloc, svg, picture, interval, status)?;
-    svg.push_str(shape(status))?;
-    svg.push_str(badge(picture, interval))?;
-    let (incarnation, index) = (interval.mark.incarnation, interval.mark.index);
+    svg.push("<g class=\"interval ");
+    svg.push(status_name(status));
+    svg.push("\"");
+    svg.add_position(layout.point(interval.column, interval.unit));
+    add_interval_note(svg, picture, interval, status);
+    svg.push(shape(status));
+    svg.push(badge(picture, interval));
+    add_mark_label(svg, interval.mark);
+}
+
+/// Adds the mark below an interval, and ends its group.
+pub(crate) fn add_mark_label(svg: &mut Writer, mark: Mark) {
+    let Mark { incarnation, index } = mark;
     write!(
         svg,
         "<text class=\"mark\" y=\"24\">{incarnation},{index}</text></g>\n",
-    )?;
-    Ok(())
+    );
 }
 
 /// The shape of an interval's mark.
@@ -74,43 +69,41 @@ fn badge<'a>(picture: &Picture<'a>, interval: &Interval<'a>) -> &'static str {
 }
 
 /// Adds each sign in a column that is drawn.
-pub(crate) fn add_signs(
-    svg: &mut String,
-    picture: &Picture<'_>,
-    layout: &Layout,
-) -> Result<(), NoMemory> {
+pub(crate) fn add_signs(svg: &mut Writer, picture: &Picture<'_>, layout: &Layout) {
     for sign in &picture.signs {
         if layout.columns.has(sign.column) {
-            add_sign(svg, layout, sign)?;
+            add_sign(svg, layout, sign);
         }
     }
-    Ok(())
 }
 
-fn add_sign(svg: &mut String, layout: &Layout, sign: &Sign) -> Result<(), NoMemory> {
-    let (x, y) = (layout.x(sign.column), layout.y(sign.unit));
-    write!(svg, "<g transform=\"translate({x} {y})\">")?;
-    add_sign_note(svg, sign)?;
-    svg.push_str(sign_shape(sign.event))?;
-    if let Event::Restart { row } | Event::Rollback { row } = sign.event {
-        add_row_label(svg, row)?;
+fn add_sign(svg: &mut Writer, layout: &Layout, sign: &Sign) {
+    svg.push("<g");
+    svg.add_position(layout.point(sign.column, sign.unit));
+    add_sign_note(svg, sign);
+    add_sign_shape(svg, sign.event);
+}
+
+/// Adds the shape of a sign, with a row below it where it began one, and ends its group.
+pub(crate) fn add_sign_shape(svg: &mut Writer, event: Event) {
+    svg.push(sign_shape(event));
+    if let Event::Restart { row } | Event::Rollback { row } = event {
+        add_row_label(svg, row);
     }
-    svg.push_str("</g>\n")?;
-    Ok(())
+    svg.push("</g>\n");
 }
 
 /// Adds the row below a sign.
-pub(crate) fn add_row_label(svg: &mut String, row: Start) -> Result<(), NoMemory> {
+fn add_row_label(svg: &mut Writer, row: Start) {
     let Start { incarnation, index } = row;
     write!(
         svg,
         "<text class=\"row\" y=\"24\">{incarnation}:{index}</text>",
-    )?;
-    Ok(())
+    );
 }
 
 /// The shape of a sign.
-pub(crate) fn sign_shape(event: Event) -> &'static str {
+fn sign_shape(event: Event) -> &'static str {
     match event {
         Event::Flush { .. } => FLUSH,
         Event::Release { .. } => RELEASE,

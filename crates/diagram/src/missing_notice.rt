@@ -60,6 +60,10 @@ fn first_unnoticed(vector: &[Mark], told: &[Row]) -> Option<Unit> {
 
 /// Whether a row begins this incarnation of the unit.
 fn is_told(told: &[Row], unit: Unit, incarnation: u32) -> bool {
-    told.iter()
-        .any(|row| row.unit == unit && row.incarnation == incarnation)
+    for row in told {
+        if row.unit == unit && row.incarnation == incarnation {
+            return true;
+        }
+    }
+    false
 }

@@ -1,7 +1,7 @@
 //! The picture of one tenant as a plain value, and what can be read off it.
 
 use crate::interval::{Cause, Downtime, Interval, Lane, Removal, Sent, Sign, Status};
-use model::{Letter, Mark, NoMemory, Seat, Source, Unit};
+use model::{Letter, Mark, NoMemory, Seat, Source, Text, Unit};
 use std::alloc::Global;
 
 /// All that is drawn of one tenant.
@@ -70,6 +70,26 @@ impl<'a> Picture<'a> {
         Ok(())
     }
 
+    /// Adds a letter that the next interval sends.
+    pub(crate) fn add_letter(
+        &mut self,
+        number: Letter,
+        source: Unit,
+        receiver: Unit,
+        text: Text,
+    ) -> Result<(), NoMemory> {
+        let sender = self.intervals.len();
+        self.letters.push(Sent {
+            number,
+            sender,
+            source,
+            receiver,
+            text,
+            is_received: false,
+        })?;
+        Ok(())
+    }
+
     /// The unit, if the tenant has it.
     pub(crate) fn lane(&self, unit: Unit) -> Option<&Lane<'a>> {
         self.lanes.get(usize::from(unit.number()))
@@ -101,6 +121,11 @@ impl<'a> Picture<'a> {
             Cause::Letter { place } => self.letters.get(place),
             _ => None,
         }
+    }
+
+    /// The place of the interval that sent what an interval received, if that is a letter.
+    pub(crate) fn sender(&self, cause: Cause<'a>) -> Option<usize> {
+        Some(self.letter(cause)?.sender)
     }
 
     /// From whom an interval received which text. A beginning received none.
@@ -183,18 +208,24 @@ impl<'a> Picture<'a> {
 
     /// How many intervals have come to this.
     pub(crate) fn count(&self, status: Status) -> usize {
-        self.intervals
-            .iter()
-            .filter(|interval| self.status(*interval) == status)
-            .count()
+        let mut count = 0usize;
+        for interval in &self.intervals {
+            if self.status(interval) == status {
+                count = count.saturating_add(1);
+            }
+        }
+        count
     }
 
     /// How many letters no interval on a path received.
     pub(crate) fn undelivered(&self) -> usize {
-        self.letters
-            .iter()
-            .filter(|letter| !letter.is_received)
-            .count()
+        let mut count = 0usize;
+        for letter in &self.letters {
+            if !letter.is_received {
+                count = count.saturating_add(1);
+            }
+        }
+        count
     }
 
     /// How many outputs were released.

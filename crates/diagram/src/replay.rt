@@ -1,6 +1,6 @@
 //! The picture of a tenant from the entries of a history.
 
-use crate::interval::{Cause, Interval, Sent};
+use crate::interval::{Cause, Interval};
 use crate::picture::Picture;
 use depvector::DepVector;
 use handler::{Handler, Turn};
@@ -34,11 +34,7 @@ pub(crate) fn picture_of<'a, H: Handler>(
     tenant: &TenantName,
 ) -> Result<Picture<'a>, NoMemory> {
     let mut replay = Replay::new(alloc, handler);
-    for (place, entry) in history.iter().enumerate() {
-        if *tenant == *entry.step.tenant() {
-            replay.enter_at(place, entry)?;
-        }
-    }
+    replay.follow(history, tenant)?;
     Ok(replay.into_picture())
 }
 
@@ -50,11 +46,7 @@ pub(crate) fn picture_at<'a, H: Handler>(
     places: &[usize],
 ) -> Result<Picture<'a>, NoMemory> {
     let mut replay = Replay::new(alloc, handler);
-    for place in places {
-        if let Some(entry) = history.get(*place) {
-            replay.enter_at(*place, entry)?;
-        }
-    }
+    replay.follow_places(history, places)?;
     Ok(replay.into_picture())
 }
 
@@ -85,6 +77,26 @@ impl<'h, 'a, H: Handler> Replay<'h, 'a, H> {
         let Replay { mut picture, .. } = self;
         mark_received(&mut picture);
         picture
+    }
+
+    /// Follows the tenant's entries.
+    fn follow(&mut self, history: &'a [Entry], tenant: &TenantName) -> Result<(), NoMemory> {
+        for (place, entry) in history.iter().enumerate() {
+            if *tenant == *entry.step.tenant() {
+                self.enter_at(place, entry)?;
+            }
+        }
+        Ok(())
+    }
+
+    /// Follows the entries at these places of the history.
+    fn follow_places(&mut self, history: &'a [Entry], places: &[usize]) -> Result<(), NoMemory> {
+        for place in places {
+            if let Some(entry) = history.get(*place) {
+                self.enter_at(*place, entry)?;
+            }
+        }
+        Ok(())
     }
 
     /// Follows the entry at this place of the history.
@@ -244,8 +256,7 @@ impl<'h, 'a, H: Handler> Replay<'h, 'a, H> {
 
     /// The interval that sent what is received, if it is a letter.
     fn sender(&self, cause: Cause<'a>) -> Option<&Interval<'a>> {
-        let letter = self.picture.letter(cause)?;
-        self.picture.intervals.get(letter.sender)
+        self.picture.intervals.get(self.picture.sender(cause)?)
     }
 
     /// Adds the letters that the next interval sends. A send to a unit that the tenant doesn't have
@@ -256,19 +267,11 @@ impl<'h, 'a, H: Handler> Replay<'h, 'a, H> {
         sends: Vec<(Unit, Text)>,
         numbers: &[Letter],
     ) -> Result<(), NoMemory> {
-        let sender = self.picture.intervals.len();
         let mut left = numbers.iter();
         for (receiver, text) in sends {
             if self.picture.lane(receiver).is_some() {
                 if let Some(number) = left.next() {
-                    self.picture.letters.push(Sent {
-                        number: *number,
-                        sender,
-                        source: unit,
-                        receiver,
-                        text,
-                        is_received: false,
-                    })?;
+                    self.picture.add_letter(*number, unit, receiver, text)?;
                 }
             }
         }

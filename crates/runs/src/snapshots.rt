@@ -10,7 +10,7 @@ use files::{
 };
 use log::{Log, error, info, warn};
 use shared_log::MemoryStore;
-use snapshot::{LoadFault, load, load_first, save};
+use snapshot::{LoadFault, load, load_earlier, save};
 use std::alloc::Global;
 use std::fmt::Display;
 use std::fs::{File, Files};
@@ -184,7 +184,7 @@ fn loaded<H: Portable + Copy>(
     bytes: &[u8],
 ) -> Result<Host<H, MemoryStore>, LoadFault> {
     match load(alloc, handler, about, bytes) {
-        Err(LoadFault::AnotherVersion) => load_first(alloc, handler, about, bytes),
+        Err(LoadFault::AnotherVersion) => load_earlier(alloc, handler, about, bytes),
         loaded => loaded,
     }
 }

@@ -31,7 +31,7 @@ FitEntries fits entries = FitEach (FitsEntry fits) entries × IsDistinct bytes_e
 
 -- RECALLSN, and the version of the form
 abbrev pub head_code : List ℕ → List ℕ
-head_code rest = 82 ∷ 69 ∷ 67 ∷ 65 ∷ 76 ∷ 76 ∷ 83 ∷ 78 ∷ 2 ∷ rest
+head_code rest = 82 ∷ 69 ∷ 67 ∷ 65 ∷ 76 ∷ 76 ∷ 83 ∷ 78 ∷ 3 ∷ rest
 
 -- which handler it is about, the tenants, and the log with its live records
 abbrev pub body_code : {S : Type 0} → Code S → List ℕ → List (List ℕ × TenantState S) → ℕ × List (ℕ × Record) → List ℕ

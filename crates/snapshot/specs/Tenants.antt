@@ -2,7 +2,7 @@
 use Rattle.std.specs.Prelude.{◌≡◌, ℕ, ◌<◌, ◌^◌, List, [], ◌∷◌, length}
 use Rattle.tenant.specs.Kept.{Member, TenantState}
 use Rattle.codec.specs.Codes.{Code, FitEach, FitsQuota, bool_code, list_code, number_code, quota_code, row_code}
-use Rattle.codec.specs.Layers.{FitsLetter, FitsTable, letter_code}
+use Rattle.codec.specs.Layers.{FitsLetter, FitsTable, letters_code}
 use Rattle.snapshot.specs.Parts.{FitsHold, FitsLine, FitsUnit, hold_code, line_code}
 use Rattle.snapshot.specs.Parts.{unit_code}
 
@@ -37,7 +37,7 @@ abbrev pub tenant_code : {S : Type 0} → Code S → Code (TenantState S)
 tenant_code state t rest =
     quota_code t.quota (number_code t.optimism (list_code row_code t.table (list_code (member_code state) t.members
     (list_code number_code t.stable_lengths (list_code number_code t.frontiers (outlet_code (t.gone, t.released)
-    (list_code letter_code t.letters rest)))))))
+    (letters_code t.letters rest)))))))
 
 pub record FitsTenant {S : Type 0} (fits : S → Type 0) (t : TenantState S) : Type 0 where
   pub quota : FitsQuota t.quota

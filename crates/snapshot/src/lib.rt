@@ -2,7 +2,7 @@
 //!
 //! - `save`, `load`: a host with its records in memory as bytes, and the host of such bytes, which is an equal one and
 //!   so the replay of the same histories.
-//! - `load_first`: the host of bytes of the form's first version, by no law.
+//! - `load_earlier`: the host of bytes of an earlier version of the form, by no law.
 //! - `LoadFault`: why bytes aren't those of a host.
 //!
 //! The bytes are `RECALLSN`, the version of the form, a SHA-256 digest of all that follows it, a name of the handler
@@ -10,8 +10,8 @@
 //! `codec`. `specs/Hosts` says what a snapshot of a host is.
 #![tactic(auto)]
 
+mod earlier_forms;
 mod entries;
-mod first_form;
 mod holds;
 mod load_fault;
 mod log;
@@ -23,6 +23,6 @@ mod sealing;
 mod tenants;
 mod unit;
 
-pub use first_form::load_first;
+pub use earlier_forms::load_earlier;
 pub use load_fault::LoadFault;
 pub use saved::{load, save};

@@ -14,7 +14,7 @@ use sha2::{Digest, Sha256};
 use std::alloc::Global;
 
 /// The version of the form.
-const VERSION: u8 = 2;
+const VERSION: u8 = 3;
 
 /// Appends the head.
 fn encode_head(out: &mut Vec<u8>) -> Result<(), NoMemory>

@@ -1,15 +1,15 @@
 -- What is left of letters whose contents are forgotten.
-use Rattle.std.proofs.Common.{◌≡◌, refl, ◌∙◌, ap, ℕ, zero, suc, ◌+◌, ◌-◌, ◌<◌, ◌≤◌, List, [], inl, inr}
+use Rattle.std.proofs.Common.{◌≡◌, refl, ◌∙◌, sym, ap, ℕ, zero, suc, ◌+◌, ◌-◌, ◌<◌, ◌≤◌, List, [], inl, inr}
 use Rattle.std.proofs.Common.{◌∷◌, ◌++◌, length, map, arith}
 use Rattle.std.proofs.lemmas.List.{length-map, set-append_right}
 use Rattle.std.specs.List.{filter}
 use Rattle.theory.proofs.ListLaws.{bool_cases}
-use Rattle.std.specs.Prelude.{◌==◌, Some, slice_get, slice_set}
+use Rattle.std.specs.Prelude.{◌==◌, None, Option, Some, cond, drop, false, is_none, is_some, slice_get, slice_set, true}
 use Rattle.std.proofs.lemmas.Option.{same_Some}
-use Rattle.compact.specs.Compact.{CompactLetter}
+use Rattle.compact.specs.Compact.{CompactLetter, Content}
 use Rattle.compact.specs.Forgetting.{without_content}
-use Rattle.unit_steps.specs.SentLetters.{is_spent_to, is_whole_to, spent_letter}
-use Rattle.unit_steps.specs.declared.sent_letters.SpentLetter.{SpentLetter}
+use Rattle.unit_steps.specs.SentLetters.{front, is_spent_to, is_whole_to, spent_letter, spent_of}
+use Rattle.spent_letters.specs.declared.letter.SpentLetter.{SpentLetter}
 
 -- One of them has no content to give up.
 pub front_stays : (xs : List SpentLetter) (rest : List CompactLetter) (n : ℕ) (c : CompactLetter) → n < length xs
@@ -54,3 +54,89 @@ whole_counted u (x ∷ xs) rest = elim (bool_cases (x.receiver == u)) [
   | inl e ↦ rw e (whole_counted u xs rest)
   | inr e ↦ rw e (whole_counted u xs rest)
 ]
+
+-- ---- the letters at the front whose contents are forgotten
+
+-- They are those that are packed, where none follows them.
+pub front_is : (xs : List SpentLetter) (rest : List CompactLetter) → front rest ≡ []
+    → xs ≡ front (map spent_letter xs ++ rest)
+unfolding front
+front_is [] rest e = sym e
+front_is (x ∷ xs) rest e = ap (λ (l : List SpentLetter). x ∷ l) (front_is xs rest e)
+
+-- A letter to stand where there is none.
+pub blank : CompactLetter
+blank = record { source = 0; receiver = 0; content = None }
+
+dropped : {X : Type 0} (xs : List X) (n : ℕ) (x : X) → slice_get xs n ≡ Some x → drop n xs ≡ x ∷ drop (suc n) xs
+dropped [] n x e = cc
+dropped (z ∷ xs) zero x e = cc
+dropped (z ∷ xs) (suc n) x e = dropped xs n x e
+
+-- what is kept of it
+abbrev kept : CompactLetter → SpentLetter
+kept c = record { source = c.source; receiver = c.receiver }
+
+ended : (c : CompactLetter) (l : List SpentLetter) → None ≡ spent_of c → cond (is_none c.content) (kept c ∷ l) [] ≡ []
+ended c l is = elim (bool_cases (is_none c.content)) [
+  | inl e ↦ let t : None ≡ Some (kept c) = is ∙ ap (λ b. cond b (Some (kept c)) None) e in cc
+  | inr e ↦ rw e refl
+]
+
+added : (c : CompactLetter) (s : SpentLetter) (l : List SpentLetter) → Some s ≡ spent_of c
+    → cond (is_none c.content) (kept c ∷ l) [] ≡ s ∷ l
+added c s l is = elim (bool_cases (is_none c.content)) [
+  | inl e ↦
+      let t : Some s ≡ Some (kept c) = is ∙ ap (λ b. cond b (Some (kept c)) None) e in
+      rw e (ap (λ (x : SpentLetter). x ∷ l) (sym (same_Some s (kept c) t)))
+  | inr e ↦ let t : Some s ≡ None = is ∙ ap (λ b. cond b (Some (kept c)) None) e in cc
+]
+
+whole : (o : Option Content) (l : List SpentLetter) → is_some o ≡ true → cond (is_none o) l [] ≡ []
+whole None l e = cc
+whole (Some x) l e = refl
+
+-- One that has its content ends them.
+pub front_ends : (cs : List CompactLetter) (n : ℕ) (c : CompactLetter) → slice_get cs n ≡ Some c → None ≡ spent_of c
+    → front (drop n cs) ≡ []
+unfolding front
+front_ends cs n c at is = ap front (dropped cs n c at) ∙ ended c (front (drop (suc n) cs)) is
+
+-- One that has none is the next of them.
+pub front_more : (cs : List CompactLetter) (n : ℕ) (c : CompactLetter) (s : SpentLetter) → slice_get cs n ≡ Some c
+    → Some s ≡ spent_of c → front (drop n cs) ≡ s ∷ front (drop (n + 1) cs)
+unfolding front
+front_more cs n c s at is =
+    ap front (dropped cs n c at)
+    ∙ added c s (front (drop (suc n) cs)) is
+    ∙ ap (λ k. s ∷ front (drop k cs)) (let k : suc n ≡ n + 1 = omega (arith) in k)
+
+-- There is none where the first letter has its content, or there is no letter.
+pub front_none : (cs : List CompactLetter)
+    → ((c : CompactLetter) → slice_get cs 0 ≡ Some c → is_some c.content ≡ true) → front cs ≡ []
+unfolding front
+front_none [] h = refl
+front_none (c ∷ cs) h = whole c.content (kept c ∷ front cs) (h c refl)
+
+pub none_left : (cs : List CompactLetter) → (0 < length cs → false ≡ true) → front cs ≡ []
+unfolding front
+none_left [] h = refl
+none_left (c ∷ cs) h = let t = h (omega (arith)) in cc
+
+-- ---- how many are to a unit
+
+pub counted_more : (u : ℕ) (xs : List SpentLetter) (n : ℕ) (x : SpentLetter) → slice_get xs n ≡ Some x
+    → is_spent_to u (spent_letter x) ≡ true
+    → 1 + length (filter (λ s. is_spent_to u (spent_letter s)) (drop (n + 1) xs))
+    ≡ length (filter (λ s. is_spent_to u (spent_letter s)) (drop n xs))
+counted_more u xs n x at is =
+    let step : n + 1 ≡ suc n = omega (arith) in
+    rw step (rw (dropped xs n x at) (rw is (let e : (k : ℕ) → 1 + k ≡ suc k = λ k. omega (arith) in e _)))
+
+pub counted_same : (u : ℕ) (xs : List SpentLetter) (n : ℕ) (x : SpentLetter) → slice_get xs n ≡ Some x
+    → is_spent_to u (spent_letter x) ≡ false
+    → length (filter (λ s. is_spent_to u (spent_letter s)) (drop (n + 1) xs))
+    ≡ length (filter (λ s. is_spent_to u (spent_letter s)) (drop n xs))
+counted_same u xs n x at is =
+    let step : n + 1 ≡ suc n = omega (arith) in
+    rw step (rw (dropped xs n x at) (rw is refl))

@@ -3,7 +3,7 @@
 //! - `refusals`: the tests of a receipt, before its turn and after it.
 //! - `receipt`: the mark, vector and record of the interval that a receipt makes.
 //! - `letters`: letters, with text and vector as long as they may be needed, and those that a receipt sends.
-//! - `sent_letters`: all letters of a tenant, of which those that are forgotten take two bytes.
+//! - `sent_letters`: all letters of a tenant, of which those at the front that are forgotten are kept packed.
 //! - `frontier`: how far a path is firm.
 //!
 //! The definitions by lists stand in `specs/Receipts`. That these are what the steps of a tenant's compact state
@@ -22,4 +22,4 @@ pub use letters::{Content, SentLetter, letters_by};
 pub use new_letters::NewLetters;
 pub use receipt::{mark_upon, record_upon, vector_upon};
 pub use refusals::{TenantView, letter_refusal, post_refusal, turn_refusal};
-pub use sent_letters::{LetterRef, SentLetters, SpentLetter};
+pub use sent_letters::{LetterRef, SentLetters};

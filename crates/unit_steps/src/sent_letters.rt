@@ -1,26 +1,21 @@
 //! All letters that a tenant's units sent.
 
-ghost use Rattle.std.specs.Prelude.{◌≡◌, ◌<◌, ◌≤◌, [], ◌∷◌, ◌++◌, ℕ, MatchOption, None, OnOk, Some, length, slice_get};
-ghost use Rattle.std.specs.Prelude.{slice_set};
+ghost use Rattle.std.specs.Prelude.{◌≡◌, ◌<◌, ◌≤◌, [], ◌∷◌, ◌++◌, ℕ, IfOk, IfSome, MatchOption, None, OnOk, Some};
+ghost use Rattle.std.specs.Prelude.{length, map, slice_get, slice_set, true};
 ghost use Rattle.std.specs.List.{filter};
 ghost use Rattle.std.specs.VecDeque.{deque_len};
 ghost use Rattle.compact.specs.Compact.{CompactLetter};
 ghost use Rattle.compact.specs.Forgetting.{without_content};
-ghost use Rattle.unit_steps.specs.SentLetters.{is_spent_to, is_whole_to, spent_letter};
+ghost use Rattle.spent_letters.specs.declared.spent_letters.TheConstants.{MOST};
+ghost use Rattle.unit_steps.specs.SentLetters.{front, is_spent_to, is_whole_to, spent_letter, spent_of};
 
 use crate::letters::{Content, SentLetter};
 use crate::new_letters::NewLetters;
 use model::{NoMemory, Unit};
+use spent_letters::{SpentLetter, SpentLetters};
 use std::alloc::Global;
 use std::collections::VecDeque;
 use std::marker::Model;
-
-/// What is left of a letter whose content is forgotten: from whom it was, and to whom. Two bytes.
-#[derive(Clone, Copy, Debug, PartialEq, Eq)]
-pub struct SpentLetter {
-    pub source: Unit,
-    pub receiver: Unit,
-}
 
 /// A letter, by reference: from whom it is, to whom, and its content where that is not forgotten.
 #[derive(Drop)]
@@ -40,10 +35,11 @@ impl<'a> Model for LetterRef<'a> {
 }
 
 /// All letters that the units of a tenant sent, by their numbers. Those at the front whose contents are forgotten take
-/// two bytes each, the others 16 and their contents.
+/// no room where they go the same way again and again, and two bytes each where they don't. The others take 16 and
+/// their contents.
 #[derive(Drop)]
 pub struct SentLetters {
-    spent: Vec<SpentLetter>,
+    spent: SpentLetters,
     rest: VecDeque<SentLetter>,
 }
 
@@ -55,7 +51,7 @@ impl Model for SentLetters {
     ghost Value = { SentOf };
 
     ghost view = { λ s. record {
-      items = map spent_letter s.spent.items ++ s.rest.items;
+      items = map spent_letter s.spent ++ s.rest.items;
       room = deque_capacity s.rest - deque_len s.rest;
     } };
 }
@@ -66,7 +62,17 @@ impl SentLetters {
         ensures { result.items ≡ [] }
     {
         SentLetters {
-            spent: Vec::new(alloc),
+            spent: SpentLetters::new(alloc),
+            rest: VecDeque::new(alloc),
+        }
+    }
+
+    /// Letters whose contents are forgotten.
+    pub fn of(alloc: Global, spent: SpentLetters) -> SentLetters
+        ensures { result.items ≡ map spent_letter spent }
+    {
+        SentLetters {
+            spent,
             rest: VecDeque::new(alloc),
         }
     }
@@ -96,7 +102,7 @@ impl SentLetters {
         ensures { slice_get self.now.items number ≡ Some result }
     {
         if number < self.spent.len() {
-            let spent = self.spent[number];
+            let spent = self.spent.at(number);
             return LetterRef {
                 source: spent.source,
                 receiver: spent.receiver,
@@ -116,7 +122,7 @@ impl SentLetters {
     pub fn count_spent_to(&self, unit: Unit) -> usize
         ensures { result ≡ length (filter (is_spent_to unit) self.now.items) }
     {
-        count_front(self.spent.as_slice(), unit) + count_spent(&self.rest, unit)
+        count_front(&self.spent, unit) + count_spent(&self.rest, unit)
     }
 
     /// How many are to this unit, and have their contents. Takes time by the number of letters that are not at the
@@ -149,6 +155,49 @@ impl SentLetters {
         made.move_behind(&mut self.rest);
     }
 
+    /// The letters at the front whose contents are forgotten, where all of them are kept packed.
+    pub fn packed_front(&self) -> Option<&SpentLetters>
+        ensures { IfSome result (λ f. f.now ≡ front self.now.items) }
+    {
+        if begins_whole(&self.rest) {
+            return Some(&self.spent);
+        }
+        None
+    }
+
+    /// Packs the letters at the front whose contents are forgotten. Takes time by their number.
+    ///
+    /// # Errors
+    ///
+    /// `NoMemory` where they find none.
+    pub fn pack_front(&self, alloc: Global) -> Result<SpentLetters, NoMemory>
+        ensures { IfOk result (λ f. f ≡ front self.now.items) }
+    {
+        let mut spent = SpentLetters::new(alloc);
+        for number in 0..self.len() {
+            match self.spent_at(number) {
+                Some(letter) => spent.push(letter)?,
+                None => return Ok(spent),
+            }
+        }
+        Ok(spent)
+    }
+
+    /// What is left of the letter of this number, which is there, where its content is forgotten.
+    fn spent_at(&self, number: usize) -> Option<SpentLetter>
+        requires { number < length self.now.items }
+        ensures { (c : CompactLetter) → slice_get self.now.items number ≡ Some c → result ≡ spent_of c }
+    {
+        let letter = self.at(number);
+        if letter.content.is_some() {
+            return None;
+        }
+        Some(SpentLetter {
+            source: letter.source,
+            receiver: letter.receiver,
+        })
+    }
+
     /// Adds one letter.
     ///
     /// # Errors
@@ -169,7 +218,7 @@ impl SentLetters {
     }
 
     /// Forgets the content of the letter of this number, if there is one. Asks for no memory that it needs: where there
-    /// is none for the two bytes of a letter at the front, that one goes on taking what it took.
+    /// is none to keep a letter at the front packed, that one goes on taking what it took.
     pub fn forget(&mut self, number: usize)
         ensures there { (c : CompactLetter) → slice_get self.old.items number ≡ Some c
             → self.new.items ≡ slice_set self.old.items number (without_content c) }
@@ -190,7 +239,7 @@ impl SentLetters {
         }
     }
 
-    /// Keeps in two bytes what is left of the letters at the front that have no content.
+    /// Packs what is left of the letters at the front that have no content.
     fn sweep(&mut self)
         ensures { self.new.items ≡ self.old.items }
     {
@@ -201,7 +250,7 @@ impl SentLetters {
         }
     }
 
-    /// So of the first one that is not kept so, if it has no content, and there is memory. Tells whether it did.
+    /// So of the first one that is not packed, if it has no content, and there is memory. Tells whether it did.
     fn shift(&mut self) -> bool
         ensures { self.new.items ≡ self.old.items }
     {
@@ -228,11 +277,17 @@ fn was_to(spent: &SpentLetter, unit: Unit) -> bool
 }
 
 /// How many of these were to this unit.
-fn count_front(spent: &[SpentLetter], unit: Unit) -> usize
+fn count_front(spent: &SpentLetters, unit: Unit) -> usize
     ensures count { result ≡ length (filter (λ s. is_spent_to unit (spent_letter s)) spent.now) }
-    ensures bound { result ≤ length spent.now }
+    ensures bound { result ≤ MOST }
 {
-    spent.iter().filter(|s| was_to(s, unit)).count()
+    let mut count = 0;
+    for number in 0..spent.len() {
+        if was_to(&spent.at(number), unit) {
+            count += 1;
+        }
+    }
+    count
 }
 
 /// How many of these letters are to this unit, and have no content.
@@ -248,6 +303,16 @@ fn count_whole(letters: &VecDeque<SentLetter>, unit: Unit) -> usize
     ensures { result ≡ length (filter (is_whole_to unit) letters.now.items) }
 {
     letters.iter().filter(|l| is_whole(l, unit)).count()
+}
+
+/// Whether the first of these letters has its content, or there is none.
+fn begins_whole(letters: &VecDeque<SentLetter>) -> bool
+    ensures { result ≡ true → front letters.now.items ≡ [] }
+{
+    match letters.front() {
+        Some(letter) => letter.content.is_some(),
+        None => true,
+    }
 }
 
 /// Whether the letter is to this unit, and has no content.

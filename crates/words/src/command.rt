@@ -87,6 +87,34 @@ const CORES: &str = "cores";
 /// On how many cores tenants are stepped at most.
 const MAX_CORES: i64 = 256;
 
+/// What `--audit` asks for.
+const AUDIT_HELP: &str =
+    "After the last reply, writes a line for each open tenant that tells whether a run without failures puts out what was released";
+
+/// What `--explain` asks for.
+const EXPLAIN_HELP: &str =
+    "Writes to standard error why each line was refused, and what would help; always, where that is a terminal";
+
+/// What `--strict` asks for.
+const STRICT_HELP: &str =
+    "Ends with status 3 where a line was refused; each line is answered all the same";
+
+/// What `--adopt` asks for.
+const ADOPT_HELP: &str =
+    "Takes over a FILE that has bytes, and of which no page beside it tells whose it is";
+
+/// What `--accept-upgrade` asks for.
+const ACCEPT_UPGRADE_HELP: &str =
+    "Goes on with a FILE of another handler, or of another version of it, steps its lines by this one, and notes in FILE.about at which line that was";
+
+/// What `--log` names.
+const LOG_HELP: &str =
+    "Makes FILE anew, for its owner alone, and writes a line to it for each record that is logged";
+
+/// What `--journal` names for `run` and `drive`.
+const JOURNAL_HELP: &str =
+    "Keeps each line in FILE before it is stepped, and begins with the lines that FILE has, without their replies";
+
 /// What `--from` asks of `run`.
 const RUN_FROM: &str = "Writes the replies to the lines of the journal from N on (from 0)";
 
@@ -124,33 +152,39 @@ fn status_of(error: &Error) -> u8 {
     }
 }
 
-/// The flag that asks for audit lines.
-fn audit_flag<'a>(alloc: Global) -> Arg<'a> {
-    Arg::new(alloc, AUDIT)
-        .long(AUDIT)
+/// A flag.
+fn flag<'a>(alloc: Global, name: &'a str, help: &'a str) -> Arg<'a> {
+    Arg::new(alloc, name)
+        .long(name)
         .action(ArgAction::SetTrue)
-        .help(
-            "After the last reply, writes a line for each open tenant that tells whether a run without failures puts out what was released",
-        )
+        .help(help)
+}
+
+/// A flag that is for a journal alone.
+fn journal_flag<'a>(alloc: Global, name: &'a str, help: &'a str) -> Result<Arg<'a>, Error> {
+    let flag = flag(alloc, name, help).requires_arg(JOURNAL)?;
+    Ok(flag)
+}
+
+/// An option that has a name of this sort.
+fn name_option<'a>(alloc: Global, name: &'a str, sort: &'a str, help: &'a str) -> Arg<'a> {
+    Arg::new(alloc, name).long(name).value_name(sort).help(help)
 }
 
 /// The flag that asks for no bar, and for faults alone.
 fn quiet_flag<'a>(alloc: Global) -> Arg<'a> {
-    Arg::new(alloc, QUIET)
-        .long(QUIET)
-        .short('q')
-        .action(ArgAction::SetTrue)
-        .help("Tells faults alone on standard error, and draws no bar")
+    flag(
+        alloc,
+        QUIET,
+        "Tells faults alone on standard error, and draws no bar",
+    )
+    .short('q')
 }
 
 /// The flag that asks for what was done.
 fn verbose_flag<'a>(alloc: Global) -> Result<Arg<'a>, Error> {
-    let verbose = Arg::new(alloc, VERBOSE)
-        .long(VERBOSE)
-        .short('v')
-        .action(ArgAction::SetTrue)
-        .conflicts_with(QUIET)?
-        .help("Tells on standard error also what was done");
+    let help = "Tells on standard error also what was done";
+    let verbose = flag(alloc, VERBOSE, help).short('v').conflicts_with(QUIET)?;
     Ok(verbose)
 }
 
@@ -190,26 +224,9 @@ fn with_command<'a>(
     }
 }
 
-/// The option of `run` that names the log's file.
-fn log_option<'a>(alloc: Global) -> Arg<'a> {
-    Arg::new(alloc, LOG).long(LOG).value_name("FILE").help(
-        "Makes FILE anew, for its owner alone, and writes a line to it for each record that is logged",
-    )
-}
-
-/// The option that names the journal.
-fn journal_option<'a>(alloc: Global) -> Arg<'a> {
-    Arg::new(alloc, JOURNAL)
-        .long(JOURNAL)
-        .value_name("FILE")
-        .help(
-            "Keeps each line in FILE before it is stepped, and begins with the lines that FILE has, without their replies",
-        )
-}
-
 /// The option of `run` that names the journal.
 fn run_journal_option<'a>(alloc: Global) -> Result<Arg<'a>, Error> {
-    let journal = journal_option(alloc).conflicts_with(LOG)?;
+    let journal = name_option(alloc, JOURNAL, "FILE", JOURNAL_HELP).conflicts_with(LOG)?;
     Ok(journal)
 }
 
@@ -230,38 +247,6 @@ fn snapshot_option<'a>(alloc: Global) -> Result<Arg<'a>, Error> {
     Ok(snapshot)
 }
 
-/// The flag that takes over a journal.
-fn adopt_flag<'a>(alloc: Global) -> Result<Arg<'a>, Error> {
-    let adopt = Arg::new(alloc, ADOPT)
-        .long(ADOPT)
-        .action(ArgAction::SetTrue)
-        .requires_arg(JOURNAL)?
-        .help("Takes over a FILE that has bytes, and of which no page beside it tells whose it is");
-    Ok(adopt)
-}
-
-/// The flag that goes on with a journal of another handler.
-fn accept_upgrade_flag<'a>(alloc: Global) -> Result<Arg<'a>, Error> {
-    let accept = Arg::new(alloc, ACCEPT_UPGRADE)
-        .long(ACCEPT_UPGRADE)
-        .action(ArgAction::SetTrue)
-        .requires_arg(JOURNAL)?
-        .help(
-            "Goes on with a FILE of another handler, or of another version of it, steps its lines by this one, and notes in FILE.about at which line that was",
-        );
-    Ok(accept)
-}
-
-/// The flag that asks for reasons.
-fn explain_flag<'a>(alloc: Global) -> Arg<'a> {
-    Arg::new(alloc, EXPLAIN)
-        .long(EXPLAIN)
-        .action(ArgAction::SetTrue)
-        .help(
-            "Writes to standard error why each line was refused, and what would help; always, where that is a terminal",
-        )
-}
-
 /// The option that has after how many seconds each progress is told.
 fn report_option<'a>(alloc: Global) -> Arg<'a> {
     whole_number(alloc, REPORT)
@@ -280,14 +265,6 @@ fn cores_option<'a>(alloc: Global) -> Arg<'a> {
         )
 }
 
-/// The flag that asks for another status where a line was refused.
-fn strict_flag<'a>(alloc: Global) -> Arg<'a> {
-    Arg::new(alloc, STRICT)
-        .long(STRICT)
-        .action(ArgAction::SetTrue)
-        .help("Ends with status 3 where a line was refused; each line is answered all the same")
-}
-
 /// The command with the flag that asks for the second handler, where there is one.
 fn with_programs<'a>(
     alloc: Global,
@@ -297,11 +274,8 @@ fn with_programs<'a>(
     if !pages.has_programs {
         return command;
     }
-    let flag = Arg::new(alloc, PROGRAMS)
-        .long(PROGRAMS)
-        .action(ArgAction::SetTrue)
-        .help("Hosts units that run programs of RV32IM too (kind rv32-1): see `load`");
-    with(command, Ok(flag))
+    let help = "Hosts units that run programs of RV32IM too (kind rv32-1): see `load`";
+    with(command, Ok(flag(alloc, PROGRAMS, help)))
 }
 
 /// The command `run`.
@@ -309,7 +283,7 @@ fn run_command<'a>(alloc: Global, pages: &'a Pages) -> Result<Command<'a>, Error
     let run = Command::new(alloc, "run")
         .about("Reads step lines from standard input and writes a reply line for each")
         .after_help(pages.run.as_str());
-    let run = with(Ok(run), Ok(log_option(alloc)));
+    let run = with(Ok(run), Ok(name_option(alloc, LOG, "FILE", LOG_HELP)));
     let run = with(run, run_journal_option(alloc));
     let run = with(run, from_option(alloc, RUN_FROM));
     let run = with(run, Ok(cores_option(alloc)));
@@ -323,7 +297,8 @@ fn drive_command<'a>(alloc: Global, pages: &'a Pages) -> Result<Command<'a>, Err
             "Reads step lines, delivers the letters and releases what is firm behind each, and writes its reply line and a line for each text that left",
         )
         .after_help(pages.drive.as_str());
-    let drive = with(Ok(drive), Ok(journal_option(alloc)));
+    let journal = name_option(alloc, JOURNAL, "FILE", JOURNAL_HELP);
+    let drive = with(Ok(drive), Ok(journal));
     let drive = with(drive, from_option(alloc, DRIVE_FROM));
     let drive = with(drive, Ok(cores_option(alloc)));
     with_running(alloc, pages, drive)
@@ -336,10 +311,13 @@ fn with_running<'a>(
     command: Result<Command<'a>, Error>,
 ) -> Result<Command<'a>, Error> {
     let command = with(command, snapshot_option(alloc));
-    let command = with(command, adopt_flag(alloc));
-    let command = with(command, accept_upgrade_flag(alloc));
-    let command = with(command, Ok(explain_flag(alloc)));
-    let command = with(command, Ok(strict_flag(alloc)));
+    let command = with(command, journal_flag(alloc, ADOPT, ADOPT_HELP));
+    let command = with(
+        command,
+        journal_flag(alloc, ACCEPT_UPGRADE, ACCEPT_UPGRADE_HELP),
+    );
+    let command = with(command, Ok(flag(alloc, EXPLAIN, EXPLAIN_HELP)));
+    let command = with(command, Ok(flag(alloc, STRICT, STRICT_HELP)));
     let command = with(command, Ok(report_option(alloc)));
     with_common(alloc, with_programs(alloc, pages, command))
 }
@@ -349,7 +327,7 @@ fn with_common<'a>(
     alloc: Global,
     command: Result<Command<'a>, Error>,
 ) -> Result<Command<'a>, Error> {
-    let command = with(command, Ok(audit_flag(alloc)));
+    let command = with(command, Ok(flag(alloc, AUDIT, AUDIT_HELP)));
     let command = with(command, Ok(quiet_flag(alloc)));
     with(command, verbose_flag(alloc))
 }
@@ -369,19 +347,13 @@ fn trim_command<'a>(alloc: Global, pages: &'a Pages) -> Result<Command<'a>, Erro
         "Takes the lines of a journal away that its snapshot stands behind: they can't be audited, nor answered again",
     );
     let file = Arg::new(alloc, FILE).required(true).help("The journal");
-    let drive = Arg::new(alloc, DRIVE)
-        .long(DRIVE)
-        .action(ArgAction::SetTrue)
-        .help("The journal is one of `drive`");
+    let drive = flag(alloc, DRIVE, "The journal is one of `drive`");
     with_programs(alloc, pages, with(with(Ok(trim), Ok(file)), Ok(drive)))
 }
 
 /// The flag that asks for JSON.
 fn json_flag<'a>(alloc: Global) -> Arg<'a> {
-    Arg::new(alloc, JSON)
-        .long(JSON)
-        .action(ArgAction::SetTrue)
-        .help("Writes one JSON object a line")
+    flag(alloc, JSON, "Writes one JSON object a line")
 }
 
 /// The command `why`.
@@ -389,11 +361,7 @@ fn why_command<'a>(alloc: Global, pages: &'a Pages) -> Result<Command<'a>, Error
     let why = Command::new(alloc, "why").about(
         "Tells of each output that a unit holds what it waits for, and which steps would let it go or lose it",
     );
-    let tenant = Arg::new(alloc, TENANT)
-        .long(TENANT)
-        .value_name("NAME")
-        .required(true)
-        .help("The tenant");
+    let tenant = name_option(alloc, TENANT, "NAME", "The tenant").required(true);
     let unit = whole_number(alloc, UNIT)
         .required(true)
         .help("The unit's number, from 0");
@@ -414,14 +382,17 @@ fn with_view<'a>(
     pages: &'a Pages,
     command: Result<Command<'a>, Error>,
 ) -> Result<Command<'a>, Error> {
-    let journal = Arg::new(alloc, JOURNAL)
-        .long(JOURNAL)
-        .value_name("FILE")
-        .help("Steps the lines that the journal FILE has; without it those of standard input");
-    let drive = Arg::new(alloc, DRIVE)
-        .long(DRIVE)
-        .action(ArgAction::SetTrue)
-        .help("Steps them as `drive` does; without it as `run`");
+    let journal = name_option(
+        alloc,
+        JOURNAL,
+        "FILE",
+        "Steps the lines that the journal FILE has; without it those of standard input",
+    );
+    let drive = flag(
+        alloc,
+        DRIVE,
+        "Steps them as `drive` does; without it as `run`",
+    );
     let command = with(with(command, Ok(journal)), Ok(drive));
     with_programs(alloc, pages, with(command, Ok(json_flag(alloc))))
 }
@@ -446,9 +417,25 @@ fn draw_command<'a>(alloc: Global, pages: &'a Pages) -> Result<Command<'a>, Erro
     let draw = Command::new(alloc, "draw").about(
         "Runs the step lines of standard input, and draws a tenant's space-time diagram as SVG",
     );
-    let draw = with(Ok(draw), Ok(tenant_option(alloc)));
-    let draw = with(draw, Ok(to_option(alloc)));
-    let draw = with(draw, Ok(html_flag(alloc)));
+    let tenant = name_option(
+        alloc,
+        TENANT,
+        "NAME",
+        "The tenant; without it the first one that is opened",
+    );
+    let to = name_option(
+        alloc,
+        TO,
+        "FILE",
+        "Makes FILE anew and draws to it; without it to standard output",
+    );
+    let html = flag(
+        alloc,
+        HTML,
+        "Draws a page of HTML, with the diagram, that shows what depends on what",
+    );
+    let draw = with(with(Ok(draw), Ok(tenant)), Ok(to));
+    let draw = with(draw, Ok(html));
     let draw = with(draw, Ok(first_option(alloc)));
     with_programs(alloc, pages, with(draw, last_option(alloc)))
 }
@@ -461,11 +448,7 @@ fn load_command<'a>(alloc: Global) -> Result<Command<'a>, Error> {
     let image = Arg::new(alloc, IMAGE)
         .required(true)
         .help("An ELF file for RV32IM, or an image as it lies in memory");
-    let tenant = Arg::new(alloc, TENANT)
-        .long(TENANT)
-        .value_name("NAME")
-        .required(true)
-        .help("The tenant");
+    let tenant = name_option(alloc, TENANT, "NAME", "The tenant").required(true);
     let unit = whole_number(alloc, UNIT)
         .required(true)
         .help("The unit's number, 0 to 255");
@@ -482,29 +465,6 @@ fn whole_number<'a>(alloc: Global, name: &'a str) -> Arg<'a> {
         .long(name)
         .value_name("N")
         .value_parser(value_parser!(u64))
-}
-
-/// The option of `draw` that names the tenant.
-fn tenant_option<'a>(alloc: Global) -> Arg<'a> {
-    Arg::new(alloc, TENANT)
-        .long(TENANT)
-        .value_name("NAME")
-        .help("The tenant; without it the first one that is opened")
-}
-
-/// The option of `draw` that names the file.
-fn to_option<'a>(alloc: Global) -> Arg<'a> {
-    Arg::new(alloc, TO).long(TO).value_name("FILE").help(
-        "Makes FILE anew and draws to it; without it to standard output",
-    )
-}
-
-/// The flag of `draw` that asks for a page.
-fn html_flag<'a>(alloc: Global) -> Arg<'a> {
-    Arg::new(alloc, HTML)
-        .long(HTML)
-        .action(ArgAction::SetTrue)
-        .help("Draws a page of HTML, with the diagram, that shows what depends on what")
 }
 
 /// The option of `draw` that has the first column.

@@ -1,6 +1,6 @@
 //! The texts of a program that are longer than a line.
 
-use crate::program::{Hosting, Program};
+use crate::program::Program;
 use std::alloc::{AllocError, Global};
 
 /// The toolchain by which the program was proved.
@@ -55,45 +55,61 @@ pub struct Pages {
 impl Pages {
     /// The pages of a program. `AllocError` comes where there is no memory for them.
     pub fn new(alloc: Global, program: &Program<'_>) -> Result<Pages, AllocError> {
-        let name = program.name;
-        let example = program.example;
-        let whole = format!(in alloc; "Example:\n  printf '%s\\n' '{example}' | {name} run")?;
-        let kinds = kinds_of(alloc, program.kinds)?;
-        let more = programs_of(alloc, program.programs)?;
-        let run = format!(in alloc; "{STEPS}\nKinds: {kinds}\n{more}\n{STATUSES}\n{whole}")?;
-        let drive = format!(in alloc; "{OUTPUTS}\n{STEPS}\nKinds: {kinds}\n{more}\n{STATUSES}")?;
-        let version = format!(in alloc; "{}\nproved with {KIT}", program.version)?;
-        Ok(Pages {
-            name: String::from_str(alloc, name)?,
-            about: String::from_str(alloc, program.about)?,
-            version,
-            run,
-            drive,
-            whole,
+        let mut pages = Pages {
+            name: String::new(alloc),
+            about: String::new(alloc),
+            version: String::new(alloc),
+            run: String::new(alloc),
+            drive: String::new(alloc),
+            whole: String::new(alloc),
             has_programs: program.programs.is_some(),
-        })
+        };
+        pages.write(program)?;
+        Ok(pages)
+    }
+
+    /// Writes the texts of a program to empty pages.
+    fn write(&mut self, program: &Program<'_>) -> Result<(), AllocError> {
+        self.name.push_str(program.name)?;
+        self.about.push_str(program.about)?;
+        write!(self.version, "{}\nproved with {KIT}", program.version)?;
+        add_stepping(&mut self.run, program)?;
+        self.run.push_str("\n")?;
+        add_example(&mut self.run, program)?;
+        self.drive.push_str(OUTPUTS)?;
+        self.drive.push_str("\n")?;
+        add_stepping(&mut self.drive, program)?;
+        add_example(&mut self.whole, program)
     }
 }
 
-/// The line on the kinds of the second handler, where there is one.
-fn programs_of(alloc: Global, programs: Option<Hosting<'_>>) -> Result<String, AllocError> {
-    match programs {
-        Some(hosting) => {
-            let kinds = kinds_of(alloc, hosting.kinds)?;
-            format!(in alloc; "With --programs: {kinds}\n")
-        }
-        None => Ok(String::new(alloc)),
-    }
+/// Adds an example of a line that `run` answers.
+fn add_example(page: &mut String, program: &Program<'_>) -> Result<(), AllocError> {
+    let (name, example) = (program.name, program.example);
+    write!(page, "Example:\n  printf '%s\\n' '{example}' | {name} run")
 }
 
-/// The kinds in a row.
-fn kinds_of(alloc: Global, kinds: &[&str]) -> Result<String, AllocError> {
-    let mut row = String::new(alloc);
+/// Adds what `run` and `drive` share: the forms of the step lines, the kinds of units and the statuses.
+fn add_stepping(page: &mut String, program: &Program<'_>) -> Result<(), AllocError> {
+    page.push_str(STEPS)?;
+    page.push_str("\nKinds: ")?;
+    add_kinds(page, program.kinds)?;
+    if let Some(hosting) = program.programs {
+        page.push_str("\nWith --programs: ")?;
+        add_kinds(page, hosting.kinds)?;
+    }
+    page.push_str("\n\n")?;
+    page.push_str(STATUSES)
+}
+
+/// Adds the kinds in a row.
+fn add_kinds(page: &mut String, kinds: &[&str]) -> Result<(), AllocError> {
+    let start = page.len();
     for kind in kinds {
-        if !row.is_empty() {
-            row.push_str(", ")?;
+        if page.len() > start {
+            page.push_str(", ")?;
         }
-        row.push_str(kind)?;
+        page.push_str(kind)?;
     }
-    Ok(row)
+    Ok(())
 }

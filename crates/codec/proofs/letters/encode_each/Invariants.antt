@@ -7,6 +7,6 @@ use Rattle.codec.proofs.letters.encode_each.Given as goal
 abbrev pub invariant-loop-number : goal.invariant-loop-number
 invariant-loop-number l = record {
   code : (rest : List ℕ) → l.out.items ++ each_code letter_code (drop l.number l.letters.items) rest
-      ≡ l.initial.out.items ++ each_code letter_code l.letters.items rest;
-  fits : AllFit FitsLetter (drop l.number l.letters.items) → AllFit FitsLetter l.letters.items;
+      ≡ l.initial.out.items ++ each_code letter_code (drop l.from l.letters.items) rest;
+  fits : AllFit FitsLetter (drop l.number l.letters.items) → AllFit FitsLetter (drop l.from l.letters.items);
 }

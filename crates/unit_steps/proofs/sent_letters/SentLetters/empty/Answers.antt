@@ -7,7 +7,7 @@ use Rattle.unit_steps.proofs.sent_letters.SentLetters.empty.Goals as goal
 
 pub returns-then-number-len-clause-there : goal.returns-then-number-len-clause-there
 returns-then-number-len-clause-there c = λ d e.
-    let spent = c.self.inside.spent.items in
+    let spent = c.self.inside.spent in
     let rest = c.self.inside.rest.items in
     let is = ap (λ (s : SentLetters). s.items) c.self.view_is in
     let low : length spent ≤ c.args.number =
@@ -23,7 +23,7 @@ returns-then-number-len-clause-there c = λ d e.
 
 pub returns-then-number-len-clause-past : goal.returns-then-number-len-clause-past
 returns-then-number-len-clause-past c = λ e.
-    let spent = c.self.inside.spent.items in
+    let spent = c.self.inside.spent in
     let rest = c.self.inside.rest.items in
     let is = ap (λ (s : SentLetters). s.items) c.self.view_is in
     let low : length spent ≤ c.args.number =
@@ -37,7 +37,7 @@ returns-then-number-len-clause-past c = λ e.
 
 pub returns-else-number-len-clause-there : goal.returns-else-number-len-clause-there
 returns-else-number-len-clause-there c = λ d e.
-    let spent = c.self.inside.spent.items in
+    let spent = c.self.inside.spent in
     let rest = c.self.inside.rest.items in
     let is = ap (λ (s : SentLetters). s.items) c.self.view_is in
     let a = c.len.ensures in
