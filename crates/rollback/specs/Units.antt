@@ -19,6 +19,7 @@ use Rattle.layer_laws.specs.Laws.{sent_all}
 use Rattle.compact.specs.Compact.{Interval, Progress, fitted}
 use Rattle.compact.specs.Laws.{replayed, replayed_one}
 use Rattle.compact.specs.Steps.{first_progress, from_outside, no_letter}
+use Rattle.rollback.specs.declared.record_draft.RecordDraft.{RecordDraft}
 
 -- One unit. It has a progress while it is up. `base` is the index of the snapshot from which its intervals are kept,
 -- `outside` how many receipts of its whole path were from outside; the records of the intervals that are not stable are
@@ -97,6 +98,19 @@ pub record IsTurnUpon {S : Type 0} (M : Meaning S) (u : Recovering S) (source : 
   pub input : Input S
   pub asked : asking u source text ≡ Some input
   pub own : turn ≡ turn_upon_input M input
+
+-- the record of a receipt of the tenant of this name
+abbrev pub recorded : List ℕ → RecordDraft → Record
+recorded tenant d = record {
+  tenant = tenant;
+  unit = d.unit;
+  mark = d.mark;
+  source = d.source;
+  letter = d.letter;
+  number = d.number;
+  text = d.text;
+  vector = d.vector;
+}
 
 -- with one more interval, whose record is volatile
 abbrev pub took : {S : Type 0} → Meaning S → Recovering S → Record → Recovering S

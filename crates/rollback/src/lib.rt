@@ -5,6 +5,7 @@
 //!   snapshots. Contracts see it as `Recovering` of `specs/Units`.
 //! - `Progress`: state and sessions after an interval. A receipt and its replay are one function, `advance`.
 //! - `Interval`: what is kept of an interval, its vector and the letter that it received.
+//! - `RecordDraft`: what a receipt's record says, which is made at its place among the volatile ones.
 //! - `UnitParts`: what a unit is made of, for whoever writes it down and reads it again.
 //! - `Effects`: what the turn of a receipt sends and puts out.
 //!
@@ -32,6 +33,7 @@ mod interval;
 mod parts;
 mod path;
 mod progress;
+mod record_draft;
 mod replay;
 mod shelving;
 mod unit;
@@ -40,4 +42,5 @@ pub use effects::Effects;
 pub use interval::Interval;
 pub use parts::UnitParts;
 pub use progress::Progress;
+pub use record_draft::RecordDraft;
 pub use unit::RecoveryUnit;

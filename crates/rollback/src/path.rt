@@ -6,12 +6,13 @@ ghost use Rattle.std.specs.List.{position_or_len};
 ghost use Rattle.depvector.specs.Vectors.{begun_vector};
 ghost use Rattle.orphan.specs.Tests.{is_orphan_by};
 ghost use Rattle.compact.specs.Steps.{from_outside, no_letter};
-ghost use Rattle.rollback.specs.Units.{unknown, OrphansAreTail};
+ghost use Rattle.rollback.specs.Units.{recorded, unknown, OrphansAreTail};
 
 use crate::interval::Interval;
+use crate::record_draft::RecordDraft;
 use depvector::SharedVector;
 use incarnation::StartTable;
-use model::{Letter, NoMemory, Record};
+use model::{Letter, NoMemory, TenantName};
 use orphan::any_lost;
 use std::alloc::Global;
 use std::collections::VecDeque;
@@ -31,29 +32,30 @@ pub(crate) fn begun_path(alloc: Global, width: usize) -> Result<VecDeque<Interva
     Ok(path)
 }
 
-/// Adds an interval and its record. Where that finds no memory, both stay.
+/// Adds an interval and its record, which is made there. Where that finds no memory, both stay.
 #[inline(always)]
 pub(crate) fn append(
+    tenant: &TenantName,
+    logged: RecordDraft,
     intervals: &mut VecDeque<Interval>,
     volatile: &mut VolatileLog,
-    logged: Record,
 ) -> Result<(), NoMemory>
-    requires { length logged.vector ≤ 256 }
     ensures intervals { IfOk result (λ _.
         intervals.new.items ≡ intervals.old.items ++ record { vector = logged.vector; letter = logged.letter } ∷ []) }
-    ensures volatile { IfOk result (λ _. volatile.new.records ≡ volatile.old.records ++ logged ∷ []) }
+    ensures volatile { IfOk result (λ _.
+        volatile.new.records ≡ volatile.old.records ++ recorded tenant.now logged ∷ []) }
     ensures no_intervals { OnErr result (intervals.new.items ≡ intervals.old.items) }
     ensures no_volatile { OnErr result (volatile.new.records ≡ volatile.old.records) }
 {
     let alloc = *intervals.allocator();
     intervals.reserve(1)?;
     volatile.reserve(1)?;
-    let vector = SharedVector::of(alloc, &logged.vector)?;
+    let vector = logged.vector.copy(alloc)?;
     intervals.push_back_reserved(Interval {
         vector,
         letter: logged.letter,
     });
-    volatile.push(logged);
+    volatile.push(logged.into_record(tenant));
     Ok(())
 }
 

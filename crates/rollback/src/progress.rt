@@ -102,21 +102,6 @@ fn count_sends(sessions: &mut Sessions, sends: &[(Unit, Text)], width: usize)
     }
 }
 
-/// Whether there is a progress that has room for a receipt from the source and so many sends.
-pub(crate) fn has_room_in<S>(
-    progress: &Option<Progress<S>>,
-    source: Source,
-    sends: usize,
-    width: usize,
-) -> bool
-    ensures { IsTrue result → (p : ProgressOf S) → progress.now ≡ Some p → CountsFit p.sessions source width sends }
-{
-    match progress {
-        Some(progress) => has_room(&progress.sessions, source, sends, width),
-        None => false,
-    }
-}
-
 /// The progress goes on by one receipt, where there is one.
 pub(crate) fn go_on<S: Drop>(
     progress: &mut Option<Progress<S>>,

@@ -14,19 +14,21 @@ ghost use Rattle.compact.specs.Compact.{Progress as ProgressOf};
 ghost use Rattle.compact.specs.Laws.{replayed};
 ghost use Rattle.compact.specs.Steps.{from_outside};
 ghost use Rattle.rollback.specs.Units.{asking, begun_unit, checkpointed, cut_behind, effects_of, forgotten};
-ghost use Rattle.rollback.specs.Units.{killed_recovering, marked_stable, places, records_to, restored, stable_places};
-ghost use Rattle.rollback.specs.Units.{took, widened_to, BeginsBy, CountsOutside, CountsFit, IsTarget, KeepsShelved};
+ghost use Rattle.rollback.specs.Units.{killed_recovering, marked_stable, places, recorded, records_to, restored};
+ghost use Rattle.rollback.specs.Units.{took, widened_to, BeginsBy, CountsFit, CountsOutside, IsTarget, KeepsShelved};
 ghost use Rattle.rollback.specs.Units.{IsKept, IsTurnUpon, OrphansAreTail};
 
 use crate::effects::Effects;
 use crate::interval::Interval;
 use crate::parts::UnitParts;
 use crate::progress::{self, Progress};
+use crate::record_draft::RecordDraft;
 use crate::{path, replay, shelving};
 use checkpoint::Shelf;
+use depvector::SharedVector;
 use handler::{AskRef, Done, Handler, Turn};
 use incarnation::StartTable;
-use model::{NoMemory, Record, Seat, Source, Text};
+use model::{NoMemory, Record, Seat, Source, TenantName, Text};
 use session::Sessions;
 use std::alloc::Global;
 use std::collections::VecDeque;
@@ -264,7 +266,27 @@ impl<H: Handler> RecoveryUnit<H> {
         ensures err { OnErr result (self.new ≡ self.old) }
     {
         let turn = done.into_turn();
-        self.take_turn(logged, turn)
+        let Record {
+            tenant,
+            unit,
+            mark,
+            source,
+            letter,
+            number,
+            text,
+            vector,
+        } = logged;
+        let vector = SharedVector::of(*self.intervals.allocator(), &vector)?;
+        let draft = RecordDraft {
+            unit,
+            mark,
+            source,
+            letter,
+            number,
+            text,
+            vector,
+        };
+        self.take_turn(&tenant, draft, turn)
     }
 
     /// Takes a receipt as `take` does, by the turn alone, which is that of the unit's own input.
@@ -272,37 +294,43 @@ impl<H: Handler> RecoveryUnit<H> {
     /// # Errors
     ///
     /// `NoMemory` as for `take`; the unit stays as it was.
-    pub fn take_turn(&mut self, logged: Record, turn: Turn<H::State>) -> Result<Effects, NoMemory>
-        requires few { length logged.vector ≤ 256 }
+    pub fn take_turn(
+        &mut self,
+        tenant: &TenantName,
+        logged: RecordDraft,
+        turn: Turn<H::State>,
+    ) -> Result<Effects, NoMemory>
         requires room { places self.old < 2 ^ 32 }
         requires mark { logged.mark.index ≡ places self.old }
         requires own { IsTurnUpon H.meaning self.old logged.source logged.text turn }
-        ensures ok { IfOk result (λ _. self.new ≡ took H.meaning self.old logged) }
+        ensures ok { IfOk result (λ _. self.new ≡ took H.meaning self.old (recorded tenant.now logged)) }
         ensures effects { IfOk result (λ e. e ≡ effects_of turn) }
         ensures outside { IfOk result (λ _. (before : ℕ) → CountsOutside before self.old
             → CountsOutside before self.new) }
         ensures err { OnErr result (self.new ≡ self.old) }
     {
         let source = logged.source;
-        let letter = logged.letter;
-        let more = path::one_from_outside(letter);
-        let width = logged.vector.as_slice().len();
-        if !self.has_room(&logged, turn.sends().len()) {
-            return Err(NoMemory);
-        }
-        path::append(&mut self.intervals, &mut self.volatile, logged)?;
+        let more = path::one_from_outside(logged.letter);
+        let width = match self.counted_width(&logged, turn.sends().len()) {
+            Some(width) => width,
+            None => return Err(NoMemory),
+        };
+        path::append(tenant, logged, &mut self.intervals, &mut self.volatile)?;
         let effects = progress::go_on(&mut self.progress, source, turn, width);
         self.outside += more;
         Ok(effects)
     }
 
-    /// Whether the unit is up and can count the receipt of a record and so many sends.
-    fn has_room(&self, logged: &Record, sends: usize) -> bool
-        ensures { IsTrue result → (p : ProgressOf H.State) → self.now.progress ≡ Some p
-            → CountsFit p.sessions logged.now.source (length logged.now.vector) sends }
+    /// How many units the vector of a receipt has an entry for, where the unit is up and can count the receipt and so
+    /// many sends to these.
+    fn counted_width(&self, logged: &RecordDraft, sends: usize) -> Option<usize>
+        ensures width { IfSome result (λ width. width ≡ length logged.now.vector) }
+        ensures fit { IfSome result (λ width. (p : ProgressOf H.State) → self.now.progress ≡ Some p
+            → CountsFit p.sessions logged.now.source width sends) }
     {
         let width = logged.vector.as_slice().len();
-        progress::has_room_in(&self.progress, logged.source, sends, width)
+        let progress = self.progress.as_ref()?;
+        progress::has_room(&progress.sessions, logged.source, sends, width).then_some(width)
     }
 
     /// So many of the volatile records are on stable storage now. Takes no memory.

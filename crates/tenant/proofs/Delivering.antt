@@ -32,7 +32,7 @@ use Rattle.compact.specs.Steps.{delivered, if_letter_of, lengths_of, letter_refu
 use Rattle.compact.specs.Steps.{receiving_state}
 use Rattle.compact.proofs.Receipts.{deliveries_follow}
 use Rattle.compact.proofs.Tests.{deliveries_are_tested, lengths_are}
-use Rattle.rollback.specs.Units.{asking}
+use Rattle.rollback.specs.Units.{asking, recorded}
 use Rattle.unit_steps.specs.Laws.{known_to}
 use Rattle.unit_steps.specs.Receipts.{IsWithin, arrival_refusal, letter_refused, past_tests}
 use Rattle.unit_steps.proofs.Seen.{letters_are_refused}
@@ -262,16 +262,16 @@ module _ {S : Type 0} (M : Meaning S) (name : List ℕ) (live : ℕ → List ℕ
 
           -- so it is of what was planned
           pub letter_planned : (turn : Turn S) → turn ≡ turn_upon_input M input → (plan : Plan)
-              → IsPlanned name t c.receiver m q turn (Ok plan) → (reply : Reply) → reply ≡ plan.answer.reply
+              → IsPlanned t c.receiver m q turn (Ok plan) → (reply : Reply) → reply ≡ plan.answer.reply
               → (v : TenantState S)
-              → v ≡ received_kept M t c.receiver m plan.logged turn.outputs plan.made.items
+              → v ≡ received_kept M t c.receiver m (recorded name plan.logged) turn.outputs plan.made.items
               → Leaves M name live (deliver M w l) reply v log
           letter_planned turn e plan planned reply told v new =
               let p = asked_up m.unit_state (FromUnit c.source) content.text input is.asked in
               let made = planned.1 p.0 p.1 in
               letter_done (ap (turn_refusal_of t m) (sym e)
               ∙ planned.0) p.0 p.1 reply (told ∙ made.reply ∙ ap (next_reply_of t c.receiver m) e) v
-              (new ∙ (λ i. received_kept M t c.receiver m (made.logged i) (e i).outputs
+              (new ∙ (λ i. received_kept M t c.receiver m (made.logged name i) (e i).outputs
               ((made.made ∙ (λ j. next_letters_of t c.receiver m q (e j) p.0.sessions)) i)))
 
 -- what is there, by what its parts are

@@ -22,7 +22,7 @@ use Rattle.compact.specs.Steps.{StepResult, Receipt, accepted_of, at_unit_of, or
 use Rattle.compact.specs.Steps.{post_refusal, posted, receiving_state}
 use Rattle.compact.proofs.Receipts.{posts_follow}
 use Rattle.compact.proofs.Tests.{posts_are_tested}
-use Rattle.rollback.specs.Units.{asking}
+use Rattle.rollback.specs.Units.{asking, recorded}
 use Rattle.unit_steps.specs.Receipts.{arrival_refusal, post_refused}
 use Rattle.unit_steps.proofs.Seen.{posts_are_refused}
 use Rattle.tenant.specs.Kept.{IsAsking, TenantState, Member, next_letters_of, next_record_of, next_reply_of}
@@ -134,14 +134,14 @@ module _ {S : Type 0} (M : Meaning S) (name : List ℕ) (live : ℕ → List ℕ
 
       -- so it is of what was planned
       pub post_planned : (turn : Turn S) → turn ≡ turn_upon_input M input → (q : Receipt) → q ≡ posted number text
-          → (plan : Plan) → IsPlanned name t u m q turn (Ok plan) → (reply : Reply) → reply ≡ plan.answer.reply
+          → (plan : Plan) → IsPlanned t u m q turn (Ok plan) → (reply : Reply) → reply ≡ plan.answer.reply
           → (v : TenantState S)
-          → v ≡ received_kept M t u m plan.logged turn.outputs plan.made.items
+          → v ≡ received_kept M t u m (recorded name plan.logged) turn.outputs plan.made.items
           → Leaves M name live (post M w u number text) reply v log
       post_planned turn e q same plan planned reply told v new =
           let p = asked_up m.unit_state Outside text input is.asked in
           let made = planned.1 p.0 p.1 in
           post_done (ap (turn_refusal_of t m) (sym e)
           ∙ planned.0) p.0 p.1 reply (told ∙ made.reply ∙ ap (next_reply_of t u m) e) v
-          (new ∙ (λ i. received_kept M t u m ((made.logged ∙ ap (next_record_of name t u m) same) i) (e i).outputs
+          (new ∙ (λ i. received_kept M t u m ((made.logged name ∙ ap (next_record_of name t u m) same) i) (e i).outputs
           ((made.made ∙ (λ j. next_letters_of t u m (same j) (e j) p.0.sessions)) i)))

@@ -9,7 +9,7 @@ ghost use Rattle.compact.specs.Steps.{last_mark as last_mark_of};
 ghost use Rattle.checkpoint.specs.declared.snapshot.Snapshot.{Snapshot as SnapshotOf};
 ghost use Rattle.checkpoint.specs.Shelves.{has_index, nearest_of};
 ghost use Rattle.compact.specs.Compact.{Progress as ProgressOf};
-ghost use Rattle.rollback.specs.Units.{IsKept, IsTarget, OrphansAreTail, places, restored, stable_places};
+ghost use Rattle.rollback.specs.Units.{IsKept, IsTarget, OrphansAreTail, places, recorded, restored, stable_places};
 ghost use Rattle.session.specs.Counts.{widened_counts};
 ghost use Rattle.rollback_laws.specs.Seen.{IsSeen};
 ghost use Rattle.tenant.specs.Bases.{next_base, rebased_member};
@@ -21,9 +21,9 @@ ghost use Rattle.tenant.specs.Kept.{returned_member, IsNext, received_member};
 use crate::releasing;
 use handler::{Handler, Turn};
 use incarnation::StartTable;
-use model::{Mark, NoMemory, Record, Seat, Text, Unit};
+use model::{Mark, NoMemory, Record, Seat, TenantName, Text, Unit};
 use output_commit::{Hold, Outlet};
-use rollback::{Progress, RecoveryUnit};
+use rollback::{Progress, RecordDraft, RecoveryUnit};
 use session::Sessions;
 use std::alloc::Global;
 use std::marker::Model;
@@ -217,15 +217,20 @@ impl<H: Handler> Member<H> {
     /// # Errors
     ///
     /// `NoMemory` where it finds no memory or can't be counted; the unit stays as it was.
-    pub(crate) fn receive(&mut self, logged: Record, turn: Turn<H::State>) -> Result<(), NoMemory>
-        requires few { length logged.vector ≤ 256 }
-        requires next { IsNext H.meaning self.old logged turn }
-        ensures ok { IfOk result (λ _. self.new ≡ received_member H.meaning self.old logged turn.outputs) }
+    pub(crate) fn receive(
+        &mut self,
+        tenant: &TenantName,
+        logged: RecordDraft,
+        turn: Turn<H::State>,
+    ) -> Result<(), NoMemory>
+        requires next { IsNext H.meaning self.old (recorded tenant.now logged) turn }
+        ensures ok { IfOk result (λ _. self.new ≡ received_member H.meaning self.old (recorded tenant.now logged)
+            turn.outputs) }
         ensures err { OnErr result (self.new ≡ self.old) }
     {
         let mark = logged.mark;
         self.hold.reserve(turn.outputs().len())?;
-        let effects = self.unit_state.take_turn(logged, turn)?;
+        let effects = self.unit_state.take_turn(tenant, logged, turn)?;
         self.hold.add_reserved(mark, effects.outputs);
         Ok(())
     }

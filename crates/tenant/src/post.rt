@@ -88,10 +88,10 @@ impl<H: Handler> Tenant<H> {
             text,
             vector: &[],
         };
-        match self.admit(alloc, name, unit, member, arrival, &turn)? {
+        match self.admit(alloc, unit, member, arrival, &turn)? {
             Err(refusal) => Ok(Answer::refused(refusal)),
             Ok(plan) => {
-                let answer = self.apply(unit, plan, turn)?;
+                let answer = self.apply(name, unit, plan, turn)?;
                 Ok(answer)
             }
         }

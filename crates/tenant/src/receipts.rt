@@ -6,7 +6,7 @@ ghost use Rattle.std.specs.Option.{is_some};
 ghost use Rattle.model.specs.Lists.{numbers_from};
 ghost use Rattle.model.specs.Nodes.{sends_within};
 ghost use Rattle.model.specs.declared.refusals.Refusal.TheVariants.{Down};
-ghost use Rattle.rollback.specs.Units.{asking, places};
+ghost use Rattle.rollback.specs.Units.{asking, places, recorded};
 ghost use Rattle.tenant.specs.Kept.{IsNext, Member as MemberOf, next_mark_of, next_reply_of};
 ghost use Rattle.tenant.specs.Kept.{received_kept};
 ghost use Rattle.tenant.specs.Outcomes.{IsPlain};
@@ -16,10 +16,11 @@ use crate::answer::{Answer, PendingAccept};
 use crate::member::Member;
 use crate::tenant::Tenant;
 use handler::{AskRef, Handler, Turn};
-use model::{Letter, Letters, Mark, NoMemory, Record, Refusal, Source, TenantName, Text, Unit};
+use model::{Letter, Letters, Mark, NoMemory, Refusal, Source, TenantName, Text, Unit};
+use rollback::RecordDraft;
 use session::Sessions;
 use std::alloc::Global;
-use unit_steps::{NewLetters, letters_by, mark_upon, record_upon, turn_refusal, vector_upon};
+use unit_steps::{NewLetters, letters_by, mark_upon, turn_refusal, vector_upon};
 
 /// What a unit receives: from whom, which letter under which number, its text and its vector.
 #[derive(Drop)]
@@ -41,10 +42,10 @@ struct Receiver<'a, H: Handler> {
     width: usize,
 }
 
-/// What a receipt adds and answers.
+/// What a receipt adds and answers. The unit makes the record where it keeps it.
 #[derive(Drop)]
 pub(crate) struct Plan {
-    pub(crate) logged: Record,
+    pub(crate) logged: RecordDraft,
     pub(crate) made: NewLetters,
     pub(crate) answer: PendingAccept,
 }
@@ -89,7 +90,6 @@ impl<H: Handler> Tenant<H> {
     fn plan(
         &self,
         alloc: Global,
-        name: &TenantName,
         by: &Receiver<'_, H>,
         sessions: &Sessions,
         arrival: Incoming<'_>,
@@ -100,7 +100,7 @@ impl<H: Handler> Tenant<H> {
         requires there { by.now.unit < length self.now.members }
         requires held { length by.now.member.now.outputs + length turn.now.outputs < 2 ^ 32 }
         requires letters { length self.now.letters + length (sends_within (length self.now.members) turn.now) < 2 ^ 32 }
-        ensures { IfOk result (IsPlan name.now self.now by.now.unit by.now.member.now (arrived arrival.entry) turn.now
+        ensures { IfOk result (IsPlan self.now by.now.unit by.now.member.now (arrived arrival.entry) turn.now
             sessions.now) }
     {
         let unit_state = by.member.unit_state();
@@ -122,16 +122,15 @@ impl<H: Handler> Tenant<H> {
             by.width,
         )?;
         let answer = self.reply_upon(alloc, by, made.len(), turn)?;
-        let logged = record_upon(
-            name,
-            by.unit,
-            by.mark,
-            arrival.source,
-            arrival.letter,
-            arrival.number,
-            arrival.text,
+        let logged = RecordDraft {
+            unit: by.unit,
+            mark: by.mark,
+            source: arrival.source,
+            letter: arrival.letter,
+            number: arrival.number,
+            text: arrival.text,
             vector,
-        );
+        };
         Ok(Plan {
             logged,
             made,
@@ -145,7 +144,6 @@ impl<H: Handler> Tenant<H> {
     pub(crate) fn admit(
         &self,
         alloc: Global,
-        name: &TenantName,
         unit: Unit,
         member: &Member<H>,
         arrival: Incoming<'_>,
@@ -154,7 +152,7 @@ impl<H: Handler> Tenant<H> {
         requires room { places member.now.unit_state < 2 ^ 32 }
         requires up { is_some member.now.unit_state.progress ≡ true }
         requires there { unit < length self.now.members }
-        ensures { IfOk result (IsPlanned name.now self.now unit member.now (arrived arrival.entry) turn.now) }
+        ensures { IfOk result (IsPlanned self.now unit member.now (arrived arrival.entry) turn.now) }
     {
         let held = member.held_count();
         let width = self.member_count();
@@ -173,7 +171,7 @@ impl<H: Handler> Tenant<H> {
             mark: mark_upon(&self.table, unit, member.unit_state()),
             width,
         };
-        let plan = self.plan(alloc, name, &by, &progress.sessions, arrival, turn)?;
+        let plan = self.plan(alloc, &by, &progress.sessions, arrival, turn)?;
         Ok(Ok(plan))
     }
 
@@ -181,17 +179,18 @@ impl<H: Handler> Tenant<H> {
     #[inline(always)]
     pub(crate) fn apply(
         &mut self,
+        name: &TenantName,
         unit: Unit,
         plan: Plan,
         turn: Turn<H::State>,
     ) -> Result<Answer, NoMemory>
         requires within { unit < length self.old.members }
-        requires few { length plan.logged.vector ≤ 256 }
         requires next { (m : MemberOf H.State) → slice_get self.old.members unit ≡ Some m
-            → IsNext H.meaning m plan.logged turn }
+            → IsNext H.meaning m (recorded name.now plan.logged) turn }
         ensures answer { IfOk result (λ a. a ≡ plan.answer) }
         ensures ok { IfOk result (λ _. (m : MemberOf H.State) → slice_get self.old.members unit ≡ Some m
-            → self.new ≡ received_kept H.meaning self.old unit m plan.logged turn.outputs plan.made.items) }
+            → self.new ≡ received_kept H.meaning self.old unit m (recorded name.now plan.logged) turn.outputs
+            plan.made.items) }
         ensures err { OnErr result (self.new ≡ self.old) }
         ensures gone { self.new.gone ≡ self.old.gone }
         ensures released { self.new.released ≡ self.old.released }
@@ -203,7 +202,7 @@ impl<H: Handler> Tenant<H> {
         } = plan;
         self.letters.reserve(made.len())?;
         let member = &mut self.members[usize::from(unit.number())];
-        member.receive(logged, turn)?;
+        member.receive(name, logged, turn)?;
         self.letters.add(made);
         Ok(answer.into_answer())
     }

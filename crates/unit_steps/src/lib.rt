@@ -20,6 +20,6 @@ mod sent_letters;
 pub use frontier::frontier_after;
 pub use letters::{Content, SentLetter, letters_by};
 pub use new_letters::NewLetters;
-pub use receipt::{mark_upon, record_upon, vector_upon};
+pub use receipt::{mark_upon, vector_upon};
 pub use refusals::{TenantView, letter_refusal, post_refusal, turn_refusal};
 pub use sent_letters::{LetterRef, SentLetters};

@@ -1,4 +1,4 @@
-//! The interval that a receipt makes.
+//! The mark and the vector of the interval that a receipt makes.
 
 ghost use Rattle.std.specs.Prelude.{◌≡◌, ◌<◌, ◌≤◌, ◌^◌, IfOk, length};
 ghost use Rattle.depvector.specs.Vectors.{joined};
@@ -8,7 +8,7 @@ ghost use Rattle.unit_steps.specs.Receipts.{last_vector_of, mark_upon as mark_up
 use depvector::{DepVector, SharedVector};
 use handler::Handler;
 use incarnation::StartTable;
-use model::{Letter, Mark, NoMemory, Record, Source, TenantName, Text, Unit};
+use model::{Mark, NoMemory, Unit};
 use rollback::RecoveryUnit;
 use std::alloc::Global;
 
@@ -63,41 +63,4 @@ pub fn vector_upon<H: Handler>(
     join_known(&mut vector, letter);
     vector.set_own(unit, mark);
     vector.into_shared(alloc)
-}
-
-/// The record of a receipt.
-pub fn record_upon(
-    tenant: &TenantName,
-    unit: Unit,
-    mark: Mark,
-    source: Source,
-    letter: Option<Letter>,
-    number: u64,
-    text: Text,
-    vector: SharedVector,
-) -> Record
-    ensures record { result ≡ record {
-      tenant = tenant.now;
-      unit = unit;
-      mark = mark;
-      source = source;
-      letter = letter;
-      number = number;
-      text = text;
-      vector = vector;
-    } }
-    ensures few { length result.vector ≤ 256 }
-{
-    let tenant = tenant.copy();
-    let vector = vector.into_marks();
-    Record {
-        tenant,
-        unit,
-        mark,
-        source,
-        letter,
-        number,
-        text,
-        vector,
-    }
 }

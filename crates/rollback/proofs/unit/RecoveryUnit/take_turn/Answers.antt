@@ -1,6 +1,6 @@
-use Rattle.std.proofs.Common.{◌≡◌, sym, ◌∙◌, ap, subst, ◌+◌, ◌<◌, ◌^◌, drop, true, arith, rules}
+use Rattle.std.proofs.Common.{◌≡◌, sym, ◌∙◌, ap, subst, ◌+◌, ◌<◌, ◌^◌, drop, arith}
 use Rattle.compact.specs.Steps.{from_outside}
-use Rattle.rollback.specs.Units.{Recovering, CountsOutside, places}
+use Rattle.rollback.specs.Units.{Recovering, CountsOutside, places, recorded}
 use Rattle.rollback.proofs.StaysKept.{kept_took}
 use Rattle.rollback.proofs.Outside.{counts_taken, outside_few}
 use Rattle.rollback.proofs.unit.RecoveryUnit.take_turn.Goals as goal
@@ -8,10 +8,8 @@ use Rattle.rollback.proofs.unit.RecoveryUnit.take_turn.Goals as goal
 pub go_on-effects-requires : goal.go_on-effects-requires
 go_on-effects-requires g c = λ p e.
     let was : c.args.self.now.progress ≡ _ = ap (λ (u : Recovering _). u.progress) (sym c.self.view_is) ∙ e in
-    let has : c.has_room.result ≡ true = search rules in
-    let width : c.as_slice-width.result.now ≡ c.args.logged.vector = c.as_slice-width.ensures in
     let sends : c.sends.result.now ≡ c.args.turn.sends = c.sends.ensures in
-    rw (width, ← sends) (c.has_room.ensures has p was)
+    rw (← sends) (c.in-Some.ensures.fit p was)
 
 pub overflow_add-self : goal.overflow_add-self
 overflow_add-self g c =
@@ -35,7 +33,8 @@ invariant_of-self-2 g c =
     })
     c.go_on-effects.new.progress (c.self.inside.outside + c.one_from_outside-more.result)
     c.append.new.intervals.items c.append.new.volatile.records
-    (record { vector = c.args.logged.vector; letter = c.args.logged.letter }) c.args.logged c.self.invariant
+    (record { vector = c.args.logged.vector; letter = c.args.logged.letter })
+    (recorded c.args.tenant.now c.args.logged) c.self.invariant
     (subst (λ (u : Recovering _). places u < 2 ^ 32) (sym c.self.view_is) c.requires.room)
     (subst (λ (u : Recovering _). c.args.logged.mark.index ≡ places u) (sym c.self.view_is) c.requires.mark)
     c.in_ok-append.ensures.intervals c.in_ok-append.ensures.volatile

@@ -2,6 +2,7 @@ use Rattle.std.proofs.Common.{rules, ◌≡◌, ◌<◌, refl, sym, ◌∙◌, a
 use Rattle.std.specs.Prelude.{slice_get, slice_set}
 use Rattle.std.proofs.lemmas.Option.{get_or_from_slice_get, slice_get_read}
 use Rattle.theory.proofs.ListLaws.{set_same}
+use Rattle.rollback.specs.Units.{recorded}
 use Rattle.tenant.specs.Kept.{Member, TenantState, gone_of, received_kept, received_member, released_of}
 use Rattle.tenant.proofs.tenant.Tenant.apply.Goals as goal
 
@@ -17,6 +18,24 @@ receive-requires-clause-next g c κs within =
     c.requires.within) in
     c.requires.next q (here ∙ slice_get_read items (length items) c.from.result q refl inside
     c.index_mut-member.ensures.value)
+
+pub returns-in_err-reserve-clause-err : goal.returns-in_err-reserve-clause-err
+returns-in_err-reserve-clause-err g c =
+    let inside = c.self.inside in
+    let was : TenantState g.row.H-State.Denot = record {
+      quota = inside.quota;
+      optimism = inside.optimism;
+      table = inside.table;
+      members = inside.members.items;
+      stable_lengths = inside.stable_lengths.items;
+      frontiers = inside.frontiers.items;
+      gone = gone_of inside.outlet;
+      released = released_of inside.outlet;
+      letters = inside.letters.items;
+    } in
+    let same : record was { letters = c.reserve.new.self.items } ≡ c.args.self.now =
+    (λ i. record was { letters = c.in_err-reserve.ensures.items i }) ∙ c.self.view_is in
+    search (rules, same)
 
 pub returns-in_err-receive-clause-err : goal.returns-in_err-receive-clause-err
 returns-in_err-receive-clause-err g c =
@@ -58,10 +77,10 @@ returns-clause-ok g c = λ m there.
     let q : Member g.row.H-State.Denot = c.index_mut-member.result.now in
     let same : q ≡ m =
     c.index_mut-member.ensures.value ∙ get_or_from_slice_get items c.from.result m q (here ∙ there) in
-    let one = received_member g.H.Handler.meaning m c.args.plan.logged c.args.turn.outputs in
+    let one = received_member g.H.Handler.meaning m (recorded c.args.name.now c.args.plan.logged) c.args.turn.outputs in
     let members = ap (slice_set items c.from.result) (c.in_ok-receive.ensures.ok
     ∙ ap (λ (z : Member g.row.H-State.Denot).
-    received_member g.H.Handler.meaning z c.args.plan.logged c.args.turn.outputs) same)
+    received_member g.H.Handler.meaning z (recorded c.args.name.now c.args.plan.logged) c.args.turn.outputs) same)
     ∙ ap (λ n. slice_set items n one) place in
     let letters = c.add.ensures ∙ ap (λ ls. ls ++ c.args.plan.made.items) c.in_ok-reserve.ensures.items in
     let was : TenantState g.row.H-State.Denot = record {
@@ -76,5 +95,5 @@ returns-clause-ok g c = λ m there.
       letters = inside.letters.items;
     } in
     (λ i. record was { members = members i; letters = letters i })
-    ∙ (λ i. received_kept g.H.Handler.meaning (c.self.view_is i) c.args.unit m c.args.plan.logged c.args.turn.outputs
-    c.args.plan.made.items)
+    ∙ (λ i. received_kept g.H.Handler.meaning (c.self.view_is i) c.args.unit m
+    (recorded c.args.name.now c.args.plan.logged) c.args.turn.outputs c.args.plan.made.items)

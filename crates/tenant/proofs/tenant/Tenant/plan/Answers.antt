@@ -22,10 +22,9 @@ returns g c =
     c.in_ok-vector.ensures
     ∙ (λ i. vector_marked (c.requires.width i) by.unit (c.unit_state-unit_state.ensures i) (c.requires.mark i)
     c.args.arrival.vector.now) in
-    let record_is = c.record_upon-logged.ensures.record in
     record {
-      logged = record_is ∙ (λ i. record {
-        tenant = c.args.name.now;
+      logged = λ name. (λ i. record {
+        tenant = name;
         unit = by.unit;
         mark = c.requires.mark i;
         source = c.args.arrival.source;
@@ -34,7 +33,6 @@ returns g c =
         text = c.args.arrival.text;
         vector = vector i;
       });
-      few = c.record_upon-logged.ensures.few;
       made = c.in_ok-made.ensures
           ∙ (λ i. letters_by by.unit (vector i) (advanced c.args.sessions.now c.args.arrival.source)
           (filter (λ s. nat_lt s.0 (c.requires.width i)) (c.sends.ensures i)));

@@ -5,11 +5,12 @@ use Rattle.compact.specs.Compact.{Content, CompactLetter}
 use Rattle.std.proofs.lemmas.Option.{slice_get_within}
 use Rattle.model.specs.declared.names.Source.TheVariants.{Unit as FromUnit}
 use Rattle.compact.specs.Steps.{delivered}
+use Rattle.rollback.specs.Units.{recorded}
 use Rattle.tenant.specs.Answers.{Answer}
 use Rattle.tenant.specs.Kept.{IsTurnBy}
 use Rattle.tenant.proofs.Asking.{asked_is_up, refused_stays}
 use Rattle.tenant.proofs.Delivering.{content_parts, letter_none, letter_no_unit, letter_planned, letter_refused_then}
-use Rattle.tenant.proofs.Planning.{planned_few, planned_next, planned_plain, planned_whole}
+use Rattle.tenant.proofs.Planning.{planned_next, planned_plain, planned_whole}
 use Rattle.tenant.proofs.PastKept.{received_same}
 use Rattle.tenant.proofs.tenant.Tenant.take_letter.Goals as goal
 
@@ -100,32 +101,6 @@ admit-requires-clause-there g c κs within =
 pub apply-requires-clause-within : goal.apply-requires-clause-within
 apply-requires-clause-within g c κs within =
     slice_get_within c.args.self.now.members c.sent.inside.receiver _ c.in-Some-member.ensures
-
-pub apply-requires-clause-few : goal.apply-requires-clause-few
-apply-requires-clause-few g c κs within =
-    let sent : CompactLetter = record {
-      source = c.sent.inside.source;
-      receiver = c.sent.inside.receiver;
-      content = option_copied c.sent.inside.content;
-    } in
-    let there : slice_get c.args.self.now.letters c.args.letter ≡ Some sent =
-    (c.in-Some.ensures ∙ ap (λ (l : CompactLetter). Some l) (sym c.sent.view_is)) in
-    let content : Content = record {
-      number = c.number.result;
-      text = c.in_ok-text.text;
-      vector = c.as_slice.result.now;
-    } in
-    let whole : sent.content ≡ Some content =
-    content_parts sent.content c.in-Some-content.content.now c.number.result c.in_ok-text.text c.as_slice.result.now
-    (ap option_copied c.in-Some-content.is) c.number.ensures (c.in_ok-text.ensures ∙ c.text.ensures)
-    (c.as_slice.ensures.marks ∙ c.vector.ensures) in
-    let is = subst (λ (o : Option Content).
-    IsTurnBy g.H.Handler.meaning c.args.self.now c.in-Some-member.member.now sent o c.args.turn) whole
-    (c.requires.own sent c.in-Some-member.member.now there c.in-Some-member.ensures) in
-    let planned = rw (c.in-Ok.is) at c.in_ok-refusal.ensures in
-    planned_few c.args.name.now
-    c.args.self.now c.sent.inside.receiver c.in-Some-member.member.now (delivered c.args.letter sent content)
-    c.args.turn c.in-Ok.plan planned _ (FromUnit sent.source) content.text is.input is.asking
 
 pub apply-requires-clause-next : goal.apply-requires-clause-next
 apply-requires-clause-next g c κs within = λ m at.
@@ -258,7 +233,7 @@ returns-in_ok-answer-in-Ok-clause-shelves g c =
     let planned = rw (c.in-Ok.is) at c.in_ok-refusal.ensures in
     received_same g.H.Handler.meaning
     c.args.self.now c.sent.inside.receiver c.in-Some-member.member.now c.in-Some-member.ensures
-    c.apply.new.self c.in-Ok.plan.logged c.args.turn.outputs
+    c.apply.new.self (recorded c.args.name.now c.in-Ok.plan.logged) c.args.turn.outputs
     c.in-Ok.plan.made.items (c.in_ok-answer-in-Ok.ensures.ok c.in-Some-member.member.now c.in-Some-member.ensures)
     (planned_whole c.args.name.now
     c.args.self.now c.sent.inside.receiver c.in-Some-member.member.now (delivered c.args.letter sent content)

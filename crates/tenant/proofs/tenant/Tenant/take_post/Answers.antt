@@ -2,9 +2,10 @@ use Rattle.std.proofs.Common.{[], refl, ap}
 use Rattle.std.specs.Prelude.{None}
 use Rattle.std.proofs.lemmas.Option.{slice_get_within}
 use Rattle.model.specs.declared.names.Source.TheVariants.{Outside}
+use Rattle.rollback.specs.Units.{recorded}
 use Rattle.tenant.specs.Answers.{Answer}
 use Rattle.tenant.proofs.Asking.{asked_is_up, refused_stays}
-use Rattle.tenant.proofs.Planning.{planned_few, planned_next, planned_plain, planned_whole}
+use Rattle.tenant.proofs.Planning.{planned_next, planned_plain, planned_whole}
 use Rattle.tenant.proofs.Posting.{post_none, post_planned, post_refused_then}
 use Rattle.tenant.proofs.PastKept.{received_same}
 use Rattle.tenant.proofs.tenant.Tenant.take_post.Goals as goal
@@ -36,13 +37,6 @@ admit-requires-clause-there g c κs within = slice_get_within c.args.self.now.me
 
 pub apply-requires-clause-within : goal.apply-requires-clause-within
 apply-requires-clause-within g c κs within = slice_get_within c.args.self.now.members c.args.unit _ c.in-Some.ensures
-
-pub apply-requires-clause-few : goal.apply-requires-clause-few
-apply-requires-clause-few g c κs within =
-    let r = c.requires.own c.in-Some.member.now c.in-Some.ensures in
-    let planned = rw (c.in-Ok.is) at c.in_ok-refusal.ensures in
-    planned_few c.args.name.now c.args.self.now c.args.unit c.in-Some.member.now _ c.args.turn c.in-Ok.plan
-    planned _ Outside c.args.text r.input r.asking
 
 pub apply-requires-clause-next : goal.apply-requires-clause-next
 apply-requires-clause-next g c κs within = λ m there.
@@ -81,7 +75,7 @@ returns-in_ok-answer-in-Ok-clause-shelves g c =
     let r = c.requires.own c.in-Some.member.now c.in-Some.ensures in
     let planned = rw (c.in-Ok.is) at c.in_ok-refusal.ensures in
     received_same g.H.Handler.meaning c.args.self.now c.args.unit c.in-Some.member.now c.in-Some.ensures
-    c.apply.new.self c.in-Ok.plan.logged c.args.turn.outputs
+    c.apply.new.self (recorded c.args.name.now c.in-Ok.plan.logged) c.args.turn.outputs
     c.in-Ok.plan.made.items (c.in_ok-answer-in-Ok.ensures.ok c.in-Some.member.now c.in-Some.ensures)
     (planned_whole c.args.name.now c.args.self.now c.args.unit c.in-Some.member.now _ c.args.turn c.in-Ok.plan
     planned _ Outside c.args.text r.input r.asking)
