@@ -28,6 +28,8 @@ mod session_calls;
 #[cfg(test)]
 mod shared_log_calls;
 #[cfg(test)]
+mod spent_letters_calls;
+#[cfg(test)]
 mod stable_log_calls;
 #[cfg(test)]
 mod volatile_log_calls;
