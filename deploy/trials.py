@@ -292,6 +292,8 @@ class Trial:
             status, last = held.process.wait(5), held.end()[1]
         except subprocess.TimeoutExpired:
             status, last = "none, it goes on", ""
+        if status == 4:
+            return False  # (its server had ended before it was paused)
         if status == 3 and "FENCED an append: the lease" in last:
             self.say(f"paused past its lease: {last}")
         else:
