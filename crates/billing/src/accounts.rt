@@ -10,14 +10,14 @@ use std::alloc::Global;
 use std::marker::Model;
 
 /// An account, and what was charged to it less what was refunded.
-#[derive(Debug, Drop, PartialEq, Eq)]
+#[derive(Drop, PartialEq, Eq)]
 pub(crate) struct Account {
     pub(crate) name: Text,
     pub(crate) cents: u64,
 }
 
 /// The accounts of a ledger, in the order of their first charge.
-#[derive(Debug, Drop)]
+#[derive(Drop)]
 pub(crate) struct Accounts {
     accounts: Vec<Account>,
 }

@@ -8,7 +8,7 @@ use std::alloc::Global;
 use std::marker::Model;
 
 /// Which way money moves.
-#[derive(Debug, Clone, Copy, PartialEq, Eq)]
+#[derive(Clone, Copy, PartialEq, Eq)]
 pub(crate) enum Movement {
     Charge,
     Refund,
@@ -49,7 +49,7 @@ impl Movement {
 }
 
 /// What a ledger is asked: to charge an account with some cents, or to refund them.
-#[derive(Debug, Drop)]
+#[derive(Drop)]
 pub(crate) struct Request<'a> {
     pub(crate) movement: Movement,
     pub(crate) account: &'a str,

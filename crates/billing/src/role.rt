@@ -6,7 +6,7 @@ ghost use Rattle.billing.specs.Roles.{role_named, kind_of, role_of};
 use ident::Kind;
 
 /// What a unit is for.
-#[derive(Debug, Clone, Copy, PartialEq, Eq)]
+#[derive(Clone, Copy, PartialEq, Eq)]
 pub(crate) enum Role {
     /// Keeps the balances, and decides what is charged and refunded.
     Ledger,

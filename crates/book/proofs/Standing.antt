@@ -208,18 +208,6 @@ module _ {S : Type 0} (M : Meaning S) (old new : Hosted (TenantState S)) (log : 
 
 -- ---- texts that are kept
 
--- where a tenant goes on so, and each other is as it was
-pub texts_on : {S : Type 0} (old new : List ℕ → Option (TenantState S)) (name : List ℕ) (t v : TenantState S)
-    → old name ≡ Some t → new name ≡ Some v
-    → ((other : List ℕ) → bytes_eq other name ≡ false → new other ≡ old other)
-    → (KeepsTexts t → KeepsTexts v) → KeepTexts old → KeepTexts new
-texts_on old new name t v was is others on kept =
-    λ other k there. elim (bytes_eq other name) as (λ b. bytes_eq other name ≡ b → KeepsTexts k) [
-      | true ↦ λ e. subst KeepsTexts
-          (same_Some v k (sym is ∙ ap new (sym (same_name other name e)) ∙ there)) (on (kept name t was))
-      | false ↦ λ e. kept other k (sym (others other e) ∙ there)
-    ] refl
-
 -- where one more is there, which has all of its texts
 pub texts_more : {S : Type 0} (old new : List ℕ → Option (TenantState S)) (name : List ℕ) (v : Option (TenantState S))
     → new name ≡ v → IfSome v KeepsTexts

@@ -9,7 +9,6 @@ use Rattle.model.specs.Handler.{Meaning}
 use Rattle.model.specs.declared.replies.Reply.{Reply}
 use Rattle.model.specs.declared.replies.Reply.TheVariants.{Released}
 use Rattle.model.specs.declared.steps.Step.{Step}
-use Rattle.model.specs.declared.steps.Step.TheVariants.{Deliver, Flush, Notice, Release}
 use Rattle.model.specs.declared.steps.TenantStep.{TenantStep}
 use Rattle.model.specs.declared.steps.TenantStep.TheVariants.{Release as ReleaseOf}
 use Rattle.book.specs.Entries.{Ledger}
@@ -21,9 +20,8 @@ use Rattle.lines.specs.Parts.{TakesPart}
 use Rattle.lines.specs.Serving.{AnsweredLineBy, EntersStep, line_step, reply_line}
 use Rattle.lines.specs.declared.fault.ServeFault.{ServeFault}
 use Rattle.lines.specs.declared.fault.ServeFault.TheVariants.{Read, Write, NoMemory}
-use Rattle.driver.specs.declared.chore.Chore.{Chore}
-use Rattle.driver.specs.declared.chore.Chore.TheVariants.{Deliver as DeliverOne, Flush as FlushOne, Notice as NoticeOne}
-use Rattle.driver.specs.declared.chore.Chore.TheVariants.{Release as ReleaseOne}
+use Rattle.flows.specs.Chores.{chore_step}
+use Rattle.flows.specs.declared.chore.Chore.{Chore}
 
 -- ---- the line of a text that left
 
@@ -42,13 +40,6 @@ abbrev pub output_lines : List ℕ → ℕ → List (List ℕ) → List ℕ
 output_lines tenant unit texts = flat_map (output_line tenant unit) texts
 
 -- ---- a step of the driver
-
--- It delivers, flushes, notices and releases.
-abbrev pub chore_step : List ℕ → Chore → Step
-chore_step tenant (DeliverOne letter unit) = Deliver tenant letter
-chore_step tenant (FlushOne unit) = Flush tenant unit
-chore_step tenant (NoticeOne unit) = Notice tenant unit
-chore_step tenant (ReleaseOne unit) = Release tenant unit
 
 -- the texts that a reply releases
 abbrev pub outputs_of : Reply → List (List ℕ)

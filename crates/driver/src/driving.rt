@@ -9,14 +9,16 @@ ghost use Rattle.book.specs.Standing.{Carries, EntersHonestly, IsHostOf};
 ghost use Rattle.lines.specs.Doing.{DoesBy, TakesSteps};
 ghost use Rattle.lines.specs.Serving.{HostDoes};
 ghost use Rattle.driver.specs.Driving.{AreRounds, BookDrives, Broken, Drove, DroveAllBy, DroveSomeBy, HostDrives};
-ghost use Rattle.driver.specs.Driving.{IsRound, IsStepRound, Round, Took, Wrote, chore_step, lines_told, outputs_of};
+ghost use Rattle.driver.specs.Driving.{IsRound, IsStepRound, Round, Took, Wrote, lines_told, outputs_of};
 ghost use Rattle.driver.specs.Driving.{round_text};
+ghost use Rattle.flows.specs.Chores.{chore_step};
 
-use crate::chore::Chore;
-use crate::driver::{Done, Driver, Subject, hear, refusal_of, subject_of};
-use crate::flow::{Chores, Fate, Flow, MAX_DELIVERIES, Waiting};
 use crate::outputs::put_outputs;
 use book::{Book, Host};
+use flows::{
+    Chore, Chores, Done, Driver, Fate, Flow, MAX_DELIVERIES, Subject, Waiting, hear, refusal_of,
+    subject_of,
+};
 use handler::Handler;
 use json::Scratch;
 use lines::{Counted, LineRead, ServeFault, fault_reply, flush_unless, put_reply, read_line};

@@ -3,10 +3,8 @@
 //! - `drive`, `drive_host` (`driving`): answer each line of a reader as `serve` does, and then carry on for its tenant:
 //!   letters are delivered, what they made is logged, and what is firm is released, a line for each text.
 //!   `drive_host_step` does so of one step.
-//! - `Driver`: what it remembers between two lines, a `Flow` for each open tenant: which units are up and hold
-//!   something, and the letters that wait (`Waiting`).
-//!   `Driver::encode` and `decode` (`memory`) write it as bytes, and read it again.
-//! - `Chore`: a step that it gives. It delivers, flushes, notices and releases, and gives no other step.
+//! - `Driver`, `Flow`, `Waiting`, `Done` and `Chore` are those of `flows`: what it remembers between two lines, and
+//!   which steps it gives.
 //! - `outputs`: the line of a text that left.
 //! - `released_is_told`, `book_released_is_told` (`laws`): each unit's output lines, and the outputs in its `release`
 //!   replies, are what it released.
@@ -29,16 +27,10 @@
 //! ```
 #![tactic(auto)]
 
-mod chore;
-mod driver;
 mod driving;
-mod flow;
 mod laws;
-mod memory;
 mod outputs;
 
-pub use chore::Chore;
-pub use driver::{Done, Driver};
 pub use driving::{drive, drive_host, drive_host_step};
-pub use flow::{Flow, MAX_DELIVERIES, Waiting};
+pub use flows::{Chore, Done, Driver, Flow, MAX_DELIVERIES, Waiting};
 pub use laws::{book_released_is_told, released_is_told};

@@ -22,7 +22,7 @@ pub struct Sample;
 type Number = Option<u64>;
 
 /// What a unit of the sample handler does.
-#[derive(Debug, Clone, Copy, PartialEq, Eq)]
+#[derive(Clone, Copy, PartialEq, Eq)]
 enum SampleKind {
     /// Puts out each text.
     Echo,

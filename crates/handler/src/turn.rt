@@ -7,7 +7,7 @@ use std::marker::Model;
 
 /// What a unit does upon one receipt: its next state, what it sends to which units, and what it
 /// puts out.
-#[derive(Debug, Drop)]
+#[derive(Drop)]
 pub struct Turn<S> {
     pub state: S,
     pub sends: Vec<(Unit, Text)>,

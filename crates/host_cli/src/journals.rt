@@ -4,7 +4,7 @@ use crate::owners::{about_of, owner_of};
 use codec::Portable;
 use files::{Takeover, Told, has_snapshot, lock_journal, tell_journal};
 use log::{Log, error};
-use runs::trim_on;
+use resumption::trim_on;
 use std::alloc::{AllocError, Global};
 use std::fs::{File, Files};
 use std::time::Clock;

@@ -2,17 +2,18 @@
 //! what is counted failed, or where 2^64 - 1 calls were made: that part is read here, and not
 //! proved.
 
-ghost use Rattle.std.specs.Prelude.{◌≡◌, ◌<◌, ◌≤◌, OnOk, OnErr, IfOk, vec_capacity};
+ghost use Rattle.std.specs.Prelude.{◌≡◌, ◌<◌, ◌≤◌, OnOk, OnErr, IfErr, IfOk, vec_capacity};
 ghost use Rattle.std.specs.Io.KnownBytes.{Appends, Keeps};
 ghost use Rattle.model.specs.Failures.{HasRisen};
 ghost use Rattle.lines.specs.Parts.{Takes};
 ghost use Rattle.written.specs.Beginnings.{AppendsBeginning};
 
+use crate::fault::ServeFault;
 use crate::part::{Part, read_part};
 use model::MAX_LINE_BYTES;
 use std::io::{BufRead, Write};
 use std::marker::Model;
-use written::{Failed, flush_all, put_all};
+use written::{flush_all, put_all};
 
 /// A reader or a writer, with a count of its calls that failed. The count stays at its greatest.
 ///
@@ -71,61 +72,67 @@ impl<T> Counted<T> {
     }
 }
 
-impl<R: BufRead> Counted<R> {
-    /// Takes what the reader shows of the line.
-    pub(crate) fn fill(&mut self, held: &mut Vec<u8>, is_long: &mut bool) -> Result<Part, Failed>
-        requires { MAX_LINE_BYTES ≤ vec_capacity held.old }
-        ensures room { MAX_LINE_BYTES ≤ vec_capacity held.new }
-        ensures takes { IfOk result (λ part. Takes part
-            (R.remaining self.old.inner) (R.remaining self.new.inner)
-            held.old.items is_long.old held.new.items is_long.new) }
-        ensures kept { OnErr result (Keeps (R.remaining self.old.inner) (R.remaining self.new.inner)) }
-        ensures risen { OnErr result (HasRisen self.old.failed self.new.failed) }
-        ensures same { OnOk result (self.new.failed ≡ self.old.failed) }
-        ensures fewer { OnOk result (self.new.left < self.old.left) }
-        ensures left { self.new.left ≤ self.old.left }
-    {
-        if self.left == 0 {
-            self.count_failure();
-            return Err(Failed);
-        }
-        self.left -= 1;
-        match read_part(&mut self.inner, held, is_long) {
-            Ok(part) => Ok(part),
-            Err(_) => {
-                self.count_failure();
-                Err(Failed)
-            }
+/// Takes what the reader shows of the line. `Read` comes only where the reader failed, and nothing is taken then.
+pub fn fill<R: BufRead>(
+    reader: &mut Counted<R>,
+    held: &mut Vec<u8>,
+    is_long: &mut bool,
+) -> Result<Part, ServeFault>
+    requires { MAX_LINE_BYTES ≤ vec_capacity held.old }
+    ensures room { MAX_LINE_BYTES ≤ vec_capacity held.new }
+    ensures takes { IfOk result (λ part. Takes part
+        (R.remaining reader.old.inner) (R.remaining reader.new.inner)
+        held.old.items is_long.old held.new.items is_long.new) }
+    ensures kept { OnErr result (Keeps (R.remaining reader.old.inner) (R.remaining reader.new.inner)) }
+    ensures err { IfErr result (λ e. (e ≡ ServeFault.Read) × HasRisen reader.old.failed reader.new.failed) }
+    ensures same { OnOk result (reader.new.failed ≡ reader.old.failed) }
+    ensures fewer { OnOk result (reader.new.left < reader.old.left) }
+{
+    if reader.left == 0 {
+        reader.count_failure();
+        return Err(ServeFault::Read);
+    }
+    reader.left -= 1;
+    match read_part(&mut reader.inner, held, is_long) {
+        Ok(part) => Ok(part),
+        Err(_) => {
+            reader.count_failure();
+            Err(ServeFault::Read)
         }
     }
 }
 
-impl<W: Write> Counted<W> {
-    /// Writes all of the bytes, or a beginning of them.
-    pub(crate) fn put(&mut self, bytes: &[u8]) -> Result<(), Failed>
-        ensures ok { OnOk result (Appends (W.contents self.old.inner) (W.contents self.new.inner) bytes.now) }
-        ensures err { OnErr result
-            (AppendsBeginning (W.contents self.old.inner) (W.contents self.new.inner) bytes.now) }
-        ensures risen { OnErr result (HasRisen self.old.failed self.new.failed) }
-        ensures same { OnOk result (self.new.failed ≡ self.old.failed) }
-    {
-        let put = put_all(&mut self.inner, bytes);
-        if put.is_err() {
-            self.count_failure();
+/// Writes these bytes. `Write` comes only where the writer failed; a beginning of them may be written then.
+pub fn put_bytes<W: Write>(writer: &mut Counted<W>, bytes: &[u8]) -> Result<(), ServeFault>
+    ensures ok { OnOk result (Appends (W.contents writer.old.inner) (W.contents writer.new.inner) bytes.now) }
+    ensures err { OnErr result
+        (AppendsBeginning (W.contents writer.old.inner) (W.contents writer.new.inner) bytes.now) }
+    ensures fault { IfErr result (λ e. (e ≡ ServeFault.Write) × HasRisen writer.old.failed writer.new.failed) }
+    ensures same { OnOk result (writer.new.failed ≡ writer.old.failed) }
+{
+    match put_all(&mut writer.inner, bytes) {
+        Ok(()) => Ok(()),
+        Err(_) => {
+            writer.count_failure();
+            Err(ServeFault::Write)
         }
-        put
     }
+}
 
-    /// Flushes what was written.
-    pub(crate) fn flush_all(&mut self) -> Result<(), Failed>
-        ensures bytes { Keeps (W.contents self.old.inner) (W.contents self.new.inner) }
-        ensures risen { OnErr result (HasRisen self.old.failed self.new.failed) }
-        ensures same { OnOk result (self.new.failed ≡ self.old.failed) }
-    {
-        let flushed = flush_all(&mut self.inner);
-        if flushed.is_err() {
-            self.count_failure();
+/// Flushes what was written, unless there is more to read without waiting. `Write` comes only where the writer failed.
+pub fn flush_unless<W: Write>(writer: &mut Counted<W>, ahead: bool) -> Result<(), ServeFault>
+    ensures keeps { Keeps (W.contents writer.old.inner) (W.contents writer.new.inner) }
+    ensures err { IfErr result (λ e. (e ≡ ServeFault.Write) × HasRisen writer.old.failed writer.new.failed) }
+    ensures same { OnOk result (writer.new.failed ≡ writer.old.failed) }
+{
+    if ahead {
+        return Ok(());
+    }
+    match flush_all(&mut writer.inner) {
+        Ok(()) => Ok(()),
+        Err(_) => {
+            writer.count_failure();
+            Err(ServeFault::Write)
         }
-        flushed
     }
 }

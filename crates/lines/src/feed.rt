@@ -5,9 +5,9 @@ ghost use Rattle.model.specs.Failures.{HasRisen};
 ghost use Rattle.lines.specs.Parts.{IsLineRead};
 ghost use Rattle.lines.specs.Feeds.{IsReading, FeedOf};
 
-use crate::counted::Counted;
+use crate::counted::{Counted, fill};
 use crate::fault::ServeFault;
-use crate::input::{LineRead, fill, heard_at_end, line_kind};
+use crate::input::{LineRead, heard_at_end, line_kind};
 use crate::part::Part;
 use forms::LineFault;
 use json::Scratch;

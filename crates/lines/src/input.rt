@@ -6,7 +6,7 @@ ghost use Rattle.std.specs.Io.KnownBytes.{Keeps};
 ghost use Rattle.model.specs.Failures.{HasRisen};
 ghost use Rattle.lines.specs.Parts.{Takes, TakesPart, IsLineRead};
 
-use crate::counted::Counted;
+use crate::counted::{Counted, fill, flush_unless};
 use crate::fault::ServeFault;
 use crate::part::Part;
 use model::MAX_LINE_BYTES;
@@ -85,42 +85,5 @@ pub fn heard_at_end(held: &[u8], is_long: bool) -> LineRead
         LineRead::End
     } else {
         LineRead::Line
-    }
-}
-
-/// Flushes what was written, unless there is more to read without waiting. `Write` comes only where the writer failed.
-pub fn flush_unless<W: Write>(writer: &mut Counted<W>, ahead: bool) -> Result<(), ServeFault>
-    ensures keeps { Keeps (W.contents writer.old.inner) (W.contents writer.new.inner) }
-    ensures err { IfErr result (λ e. (e ≡ ServeFault.Write) × HasRisen writer.old.failed writer.new.failed) }
-    ensures same { OnOk result (writer.new.failed ≡ writer.old.failed) }
-{
-    if ahead {
-        return Ok(());
-    }
-    match writer.flush_all() {
-        Ok(()) => Ok(()),
-        Err(_) => Err(ServeFault::Write),
-    }
-}
-
-/// Takes what the reader shows of the line. `Read` comes only where the reader failed, and nothing is taken then.
-pub fn fill<R: BufRead>(
-    reader: &mut Counted<R>,
-    held: &mut Vec<u8>,
-    is_long: &mut bool,
-) -> Result<Part, ServeFault>
-    requires { MAX_LINE_BYTES ≤ vec_capacity held.old }
-    ensures room { MAX_LINE_BYTES ≤ vec_capacity held.new }
-    ensures takes { IfOk result (λ part. Takes part
-        (R.remaining reader.old.inner) (R.remaining reader.new.inner)
-        held.old.items is_long.old held.new.items is_long.new) }
-    ensures kept { OnErr result (Keeps (R.remaining reader.old.inner) (R.remaining reader.new.inner)) }
-    ensures err { IfErr result (λ e. (e ≡ ServeFault.Read) × HasRisen reader.old.failed reader.new.failed) }
-    ensures same { OnOk result (reader.new.failed ≡ reader.old.failed) }
-    ensures fewer { OnOk result (reader.new.left < reader.old.left) }
-{
-    match reader.fill(held, is_long) {
-        Ok(part) => Ok(part),
-        Err(_) => Err(ServeFault::Read),
     }
 }

@@ -37,11 +37,11 @@ mod input;
 mod part;
 mod serving;
 
-pub use counted::Counted;
+pub use counted::{Counted, fill, flush_unless, put_bytes};
 pub use fault::ServeFault;
 pub use feed::{read_feed, read_heard};
 pub use forms::{LineFault, read_step, write_reply};
 pub use fuse_reader::FuseReader;
-pub use input::{LineRead, fill, flush_unless, heard_at_end, line_kind, read_line};
+pub use input::{LineRead, heard_at_end, line_kind, read_line};
 pub use part::Part;
-pub use serving::{fault_reply, memory_aside, put_bytes, put_reply, serve, serve_host};
+pub use serving::{fault_reply, memory_aside, put_reply, serve, serve_host};

@@ -16,14 +16,14 @@ ghost use Rattle.lines.specs.Serving.{AnsweredLineBy, Serves, EntersEach, HostSe
 ghost use Rattle.lines.specs.Serving.{reply_upon, ServedAll, ServedAllBy, ServedSome, ServedSomeBy, ServesBy, Took};
 ghost use Rattle.lines.specs.Serving.{Broken};
 
-use crate::counted::Counted;
+use crate::counted::{Counted, flush_unless, put_bytes};
 use crate::fault::ServeFault;
-use crate::input::{LineRead, flush_unless, read_line};
+use crate::input::{LineRead, read_line};
 use book::{Book, Host};
 use forms::LineFault;
 use handler::Handler;
 use json::Scratch;
-use model::{MAX_LINE_BYTES, NoMemory, Refusal, Reply, Step};
+use model::{MAX_LINE_BYTES, Refusal, Reply, Step};
 use quick_forms::{read_step, write_reply};
 use shared_log::Store;
 use std::alloc::Global;
@@ -189,16 +189,6 @@ fn serve_line<R: BufRead, W: Write, B, F: Fn(&mut B, Step) -> Reply>(
     }
 }
 
-// The bytes of a reply's line, with its line feed, in an empty buffer.
-fn line_of(room: Vec<u8>, reply: &Reply) -> Result<Vec<u8>, NoMemory>
-    requires { room.items ≡ [] }
-    ensures { IfOk result (λ bytes. bytes.items ≡ reply_line reply.now) }
-{
-    let mut bytes = write_reply(room, reply)?;
-    bytes.push(b'\n')?;
-    Ok(bytes)
-}
-
 /// Writes a reply's line, with its line feed. Its text is made in a buffer that can be kept for the next; what it
 /// held is gone. `NoMemory` comes where there is none for the text, and `Write` only where the writer failed; a
 /// beginning of the line may be written then.
@@ -218,26 +208,15 @@ pub fn put_reply<W: Write>(
 {
     let mut room = mem::replace(text, Vec::new(alloc));
     room.clear();
-    let Ok(line) = line_of(room, reply) else {
+    let Ok(mut line) = write_reply(room, reply) else {
         return Err(ServeFault::NoMemory);
     };
+    if line.push(b'\n').is_err() {
+        return Err(ServeFault::NoMemory);
+    }
     let put = put_bytes(writer, line.as_slice());
     *text = line;
     put
-}
-
-/// Writes these bytes. `Write` comes only where the writer failed; a beginning of them may be written then.
-pub fn put_bytes<W: Write>(writer: &mut Counted<W>, bytes: &[u8]) -> Result<(), ServeFault>
-    ensures ok { OnOk result (Appends (W.contents writer.old.inner) (W.contents writer.new.inner) bytes.now) }
-    ensures err { OnErr result
-        (AppendsBeginning (W.contents writer.old.inner) (W.contents writer.new.inner) bytes.now) }
-    ensures fault { IfErr result (λ e. (e ≡ ServeFault.Write) × HasRisen writer.old.failed writer.new.failed) }
-    ensures same { OnOk result (writer.new.failed ≡ writer.old.failed) }
-{
-    match writer.put(bytes) {
-        Ok(()) => Ok(()),
-        Err(_) => Err(ServeFault::Write),
-    }
 }
 
 // Does one step.

@@ -8,7 +8,7 @@ use crate::names::{Letter, Quota, Unit};
 use crate::text::{TenantName, Text, Texts};
 
 /// A step of one tenant.
-#[derive(Debug, Drop)]
+#[derive(Drop)]
 pub enum TenantStep {
     /// Opens the tenant with these kinds of units, unit 0 first.
     Open {

@@ -13,7 +13,7 @@ use std::marker::Model;
 use std::str;
 
 /// The machine, and what was sent and put out so far.
-#[derive(Debug, Drop)]
+#[derive(Drop)]
 pub(crate) struct Course {
     machine: Machine,
     sends: Vec<(Unit, Text)>,

@@ -8,7 +8,7 @@ use riscv::Memory;
 use std::alloc::Global;
 
 /// The memory, whether there is a program in it, and how much came of an image that isn't whole yet.
-#[derive(Debug, Drop, PartialEq, Eq)]
+#[derive(Drop, PartialEq, Eq)]
 pub struct Process {
     pub(crate) memory: Memory,
     pub(crate) has_program: bool,

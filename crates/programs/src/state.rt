@@ -10,7 +10,7 @@ use crate::process::Process;
 use handler::Turn;
 
 /// The state of a unit: that of the sample handler, or a process.
-#[derive(Debug, Drop)]
+#[derive(Drop)]
 pub enum State {
     /// What a unit of the sample handler has.
     Sample(Option<u64>),

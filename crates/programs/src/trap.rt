@@ -8,7 +8,7 @@ use riscv::Exception;
 use std::alloc::{AllocError, AllocFailed, Global};
 
 /// What a program did that it may not.
-#[derive(Clone, Copy, Debug, PartialEq, Eq)]
+#[derive(Clone, Copy, PartialEq, Eq)]
 pub(crate) enum Reason {
     /// An exception other than a call.
     Raised(Exception),
@@ -29,14 +29,14 @@ pub(crate) enum Reason {
 }
 
 /// What a program did that it may not, and the address of the instruction.
-#[derive(Clone, Copy, Debug, PartialEq, Eq)]
+#[derive(Clone, Copy, PartialEq, Eq)]
 pub(crate) struct Trap {
     pub(crate) reason: Reason,
     pub(crate) at: u32,
 }
 
 /// Why no instruction comes behind this one.
-#[derive(Debug, Drop)]
+#[derive(Drop)]
 pub(crate) enum Cut {
     /// The program did what it may not.
     Trapped(Reason),
@@ -45,21 +45,21 @@ pub(crate) enum Cut {
 }
 
 /// How a turn ended before the program returned.
-#[derive(Debug, Drop)]
+#[derive(Drop)]
 pub(crate) enum Ending {
     Trapped(Trap),
     Refused(Text),
 }
 
 /// Why an instruction was not carried out.
-#[derive(Debug, Drop)]
+#[derive(Drop)]
 pub(crate) enum Fault {
     NoMemory,
     For(Cut),
 }
 
 /// Why a run did not come to the address to return to.
-#[derive(Debug, Drop)]
+#[derive(Drop)]
 pub(crate) enum Halt {
     NoMemory,
     Ended(Ending),

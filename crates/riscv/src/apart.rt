@@ -7,7 +7,7 @@ use crate::instruction::Writing;
 use crate::register::Register;
 
 /// Why an instruction was not carried out by the registers and reads of the memory alone. Nothing was changed.
-#[derive(Clone, Copy, Debug)]
+#[derive(Clone, Copy)]
 pub(crate) enum Apart {
     /// It raises this.
     Raised(Exception),

@@ -27,7 +27,7 @@ fn zeros() -> &'static [u32]
 ///
 /// Beside the words it keeps what those say that were carried out. A word that is written over is forgotten, and the
 /// others stay, since data and code may lie in one page.
-#[derive(Debug, Drop)]
+#[derive(Drop)]
 pub(crate) struct Body {
     words: Storage<u32>,
     code: Storage<Predecoded>,

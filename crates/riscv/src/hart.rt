@@ -85,7 +85,7 @@ pub(crate) fn pass(
 }
 
 /// How far a hart came within a page.
-#[derive(Clone, Copy, Debug)]
+#[derive(Clone, Copy)]
 pub(crate) struct Pause {
     /// How many of its steps are left.
     pub(crate) left: u32,

@@ -11,7 +11,7 @@ use crate::registers::next;
 use std::alloc::Global;
 
 /// One hart and its memory. `x0` is kept at 0 by each step; whoever makes a machine begins with 0 there.
-#[derive(Debug, Drop)]
+#[derive(Drop)]
 pub struct Machine {
     /// The registers, `x0` to `x31`.
     pub registers: [u32; 32],

@@ -29,7 +29,7 @@ pub const MEMORY_BYTES: usize = 262_144;
 /// Copies share the pages that neither wrote since, so a copy takes memory only for what is written to it.
 /// A page that was never written takes none, and a memory of zeros is 32 bytes. A page of which an
 /// instruction was carried out takes 12 KiB, any other 4 KiB.
-#[derive(Debug, Drop)]
+#[derive(Drop)]
 pub struct Memory {
     // Nowhere: all pages are zeros.
     pages: Storage<Page>,

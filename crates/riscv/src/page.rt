@@ -14,7 +14,7 @@ use std::alloc::{AllocError, Global};
 use std::marker::Model;
 
 /// 1,024 words, seen as their list. A page that was never written has no body, and its words are 0.
-#[derive(Debug, Drop)]
+#[derive(Drop)]
 pub(crate) struct Page {
     body: Option<Box<Body>>,
 }

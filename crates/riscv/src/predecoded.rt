@@ -14,7 +14,7 @@ pub(crate) const PAGE_WORDS: usize = 1024;
 
 /// What a word says, in one enum by the manual's mnemonics, so that a step is one jump. What is seldom
 /// computed has no variant of its own.
-#[derive(Clone, Copy, Debug)]
+#[derive(Clone, Copy)]
 pub(crate) enum Predecoded {
     Lui(Register, u32),
     Auipc(Register, u32),

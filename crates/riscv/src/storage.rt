@@ -9,7 +9,7 @@ use std::mem;
 use std::sync::Arc;
 
 /// Where items lie that copies can share.
-#[derive(Debug, Drop)]
+#[derive(Drop)]
 pub(crate) enum Storage<T> {
     // Nowhere: there are none, or they are as at first.
     Nowhere,

@@ -289,7 +289,8 @@ impl<H: Handler> RecoveryUnit<H> {
         self.take_turn(&tenant, draft, turn)
     }
 
-    /// Takes a receipt as `take` does, by the turn alone, which is that of the unit's own input.
+    /// Takes a receipt as `take` does, by the turn alone, which is that of the unit's own input. The record is of the
+    /// tenant of this name, and is made where it is kept.
     ///
     /// # Errors
     ///

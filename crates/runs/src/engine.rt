@@ -2,17 +2,14 @@
 
 ghost use Rattle.std.specs.Prelude.{◌≡◌, []};
 
-use crate::explained::serve_explained;
-use crate::hosted::Hosted;
-use crate::judged::Judged;
-use crate::waits::{tell_done, tell_driven, tell_waiting, total};
 use book::{Book, Host};
 use driver::{Done, Driver, drive, drive_host};
 use handler::Handler;
 use lines::{Counted, ServeFault, serve, serve_host};
 use log::{Log, error};
 use model::NoMemory;
-use reports::{Amount, NOTHING, audit_all, kept_by, sum, tell_amount};
+use narration::{Hosted, serve_explained, tell_done, tell_driven, tell_waiting, total};
+use reports::{Amount, Judged, NOTHING, audit_all, kept_by, sum, tell_amount};
 use shards::{Shards, drive_shards, serve_shards};
 use shared_log::{MemoryStore, Store};
 use std::alloc::Global;

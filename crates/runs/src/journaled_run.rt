@@ -2,21 +2,18 @@
 //! each of which stands in the journal before it is stepped.
 
 use crate::engine::Engine;
-use crate::first_lines::FirstLines;
-use crate::hosted::Hosted;
-use crate::judged::Judged;
-use crate::no_zeros::NoZeros;
 use crate::run::{WIDE_BLOCK, no_buffers};
-use crate::skipping::Skipping;
-use crate::snapshots::{Begun, Keeper, Snapshots};
 use codec::Portable;
-use durable::{Extent, Journaled};
+use durable::{Extent, FirstLines, Journaled, NoZeros, Skipping};
 use files::{JournalFile, LastingFile, LockedJournal, Owner, Stand, Standing, open_journal};
 use handler::Handler;
 use journal::DurableReplies;
 use lines::{Counted, ServeFault};
 use log::{Log, error, info};
 use model::NoMemory;
+use narration::Hosted;
+use reports::Judged;
+use resumption::{Begun, Keeper, Snapshots};
 use shared_log::MemoryStore;
 use std::alloc::Global;
 use std::fs::{File, Files};
@@ -231,7 +228,14 @@ fn go_on<
         extent.whole.saturating_sub(begun.bytes),
         writer.inner.inner.came,
     );
-    keeper.keep(told, alloc, &hosted.handler, engine, file.file());
+    keeper.keep(
+        told,
+        alloc,
+        &hosted.handler,
+        engine.host(),
+        engine.driver(),
+        file.file(),
+    );
     let Some(mut reader) = journaling(alloc, input, file) else {
         return Err(stop_at(Place::Input, ServeFault::NoMemory, lines));
     };
@@ -290,7 +294,14 @@ fn answer_input<
         }
         keeper.pass(next.inner.lines, next.inner.bytes, writer.inner.inner.came);
         let journal = reader.inner.get_ref().file().file();
-        keeper.keep(told, alloc, &hosted.handler, engine, journal);
+        keeper.keep(
+            told,
+            alloc,
+            &hosted.handler,
+            engine.host(),
+            engine.driver(),
+            journal,
+        );
     }
     engine.answer_all(rt, told, alloc, hosted, reader, writer, explained)
 }

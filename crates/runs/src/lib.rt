@@ -5,14 +5,7 @@
 //! - `run_journaled` (`journaled_run`): the same behind a journal, thin over `durable` and `journal`, which carry
 //!   their own theorems;
 //! - `Engine`: a host, several of them, or a book where the past is asked for, thin over `serve_host` and `serve` of
-//!   `lines`, `serve_shards` of `shards`, and `drive_host` and `drive` of `driver`, which carry the theorems;
-//! - `explained`: each refusal with its reason, thin over `serve` or `drive` for each line, and over `reasons`;
-//! - `waits`: the letters of a driver that wait, and what it did;
-//! - `Hosted`: a handler, and the names of the kinds that it knows;
-//! - `Snapshots`: what a journaled run goes on from, and keeps, thin over `snapshot` and `files`; `trim_on`: `trim`;
-//!   `FirstLines`: the next lines of a reader;
-//! - `Judged`: a writer of replies that counts those which refuse; `Skipping`: one that leaves out
-//!   the first; `NoZeros`: a reader without the byte 0.
+//!   `lines`, `serve_shards` of `shards`, and `drive_host` and `drive` of `driver`, which carry the theorems.
 //!
 //! For `host_cli`, which has the streams and the words. A caller:
 //!
@@ -23,18 +16,9 @@
 #![tactic(auto)]
 
 mod engine;
-mod explained;
-mod first_lines;
-mod hosted;
 mod journaled_run;
-mod judged;
-mod no_zeros;
 mod run;
-mod skipping;
-mod snapshots;
-mod waits;
 
-pub use hosted::Hosted;
 pub use journaled_run::run_journaled;
+pub use narration::Hosted;
 pub use run::{run_asked, run_on, run_on_cores};
-pub use snapshots::{Snapshots, trim_on};

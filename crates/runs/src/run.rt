@@ -3,12 +3,12 @@
 ghost use Rattle.std.specs.Prelude.{◌≡◌, []};
 
 use crate::engine::Engine;
-use crate::hosted::Hosted;
-use crate::judged::Judged;
 use handler::Handler;
 use lines::{Counted, ServeFault};
 use log::sink::Discard;
 use log::{Log, error, info};
+use narration::Hosted;
+use reports::Judged;
 use shared_log::Store;
 use std::alloc::Global;
 use std::io::{BufReader, BufWriter, Read, Write};

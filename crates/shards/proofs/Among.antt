@@ -22,9 +22,10 @@ use Rattle.shards.specs.Blocks.{AnswersBy, AnswersEachBy, Tells, whole}
 use Rattle.shards.specs.Underway.{AnsweredAll, AnsweredSome}
 use Rattle.shards.proofs.Hosts.{fault_answered, step_answered}
 use Rattle.driver.specs.Driving.{AreRounds, CarriesOn, Drives, DroveAllBy, DroveSomeBy, IsRound, IsStepRound, Round}
-use Rattle.driver.specs.Driving.{chore_step, round_text}
-use Rattle.driver.specs.declared.chore.Chore.{Chore}
-use Rattle.driver.specs.declared.chore.Chore.TheVariants.{Deliver, Flush, Notice, Release}
+use Rattle.driver.specs.Driving.{round_text}
+use Rattle.flows.specs.Chores.{chore_step}
+use Rattle.flows.specs.declared.chore.Chore.{Chore}
+use Rattle.flows.specs.declared.chore.Chore.TheVariants.{Deliver, Flush, Notice, Release}
 use Rattle.driver.proofs.Rounds.{drives_each}
 use Rattle.driver.proofs.Told.{book_released_is_told}
 use Rattle.shards.specs.Driven.{DrivenRun, ShardsDrive}

@@ -95,7 +95,7 @@ pub(crate) fn step_lines<T: Threads + Sync, H: Handler + Send, S: Store + Send>(
 }
 
 /// Reads these lines, and deals what was read.
-fn read_and_deal<T: Threads + Sync, H: Handler + Send, S: Store + Send>(
+fn read_and_deal<T: Threads + Sync, H: Handler, S: Store>(
     rt: &T,
     lines: &Lines,
     readers: &mut [Reader],

@@ -3,7 +3,7 @@
 use lines::LineFault;
 
 /// Where a line is answered.
-#[derive(Clone, Copy, Debug, PartialEq, Eq)]
+#[derive(Clone, Copy, PartialEq, Eq)]
 pub(crate) enum Place {
     /// Beside the shards, since it gave no step.
     Here(LineFault),

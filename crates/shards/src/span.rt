@@ -3,7 +3,7 @@
 use lines::LineFault;
 
 /// Where a line's text stands.
-#[derive(Clone, Copy, Debug, PartialEq, Eq)]
+#[derive(Clone, Copy, PartialEq, Eq)]
 pub(crate) enum Span {
     /// From one place among the bytes of a block up to another.
     Text(usize, usize),

@@ -18,7 +18,7 @@ use std::alloc::Global;
 use std::io::Write;
 
 /// How far the answers of a shard are written: the place in its bytes, and in its lengths.
-#[derive(Clone, Copy, Debug, Drop)]
+#[derive(Clone, Copy, Drop)]
 pub(crate) struct Cursor {
     pub at: usize,
     pub next: usize,

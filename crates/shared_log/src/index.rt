@@ -12,7 +12,7 @@ use std::alloc::Global;
 use std::marker::Model;
 
 /// Places, in rising order.
-#[derive(Debug, Drop)]
+#[derive(Drop)]
 pub(crate) struct Places {
     places: Vec<u64>,
 }
@@ -70,7 +70,7 @@ impl Places {
 }
 
 /// The places of each unit of a tenant, by the unit's number, of which there are 256. A unit past the end has none.
-#[derive(Debug, Drop)]
+#[derive(Drop)]
 pub(crate) struct Units {
     units: Vec<Places>,
 }

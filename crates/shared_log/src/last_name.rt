@@ -8,7 +8,7 @@ use std::alloc::Global;
 use std::sync::Arc;
 
 /// The name that was asked for last, so that who asks for the same one next shares its place.
-#[derive(Debug, Drop)]
+#[derive(Drop)]
 pub(crate) struct LastName {
     alloc: Global,
     last: Option<Arc<TenantName>>,

@@ -19,7 +19,7 @@ use std::mem;
 const BLOCK_PLACES: u64 = 16;
 
 /// Places one after the other: their records, or none where these were forgotten. Those past the end are empty.
-#[derive(Debug, Drop)]
+#[derive(Drop)]
 struct Block {
     places: Vec<Slot>,
 }
@@ -214,7 +214,7 @@ fn index_of(place: u64) -> usize
 
 /// What each place has, also those that nothing was put into yet. One block is at hand, so that an
 /// append looks another up only once in 16 places.
-#[derive(Debug, Drop)]
+#[derive(Drop)]
 struct Blocks {
     // The block that places are put into, and its number.
     number: u64,
@@ -308,7 +308,7 @@ impl Blocks {
 /// one, and the one that was put into last. So there is at most one block for each record that is not
 /// forgotten, and one more, however many were forgotten. Records of one tenant that came in one after
 /// the other share its name. It goes with the last of them, once one of another tenant came in.
-#[derive(Debug, Drop)]
+#[derive(Drop)]
 pub struct Records {
     // How many came in.
     count: u64,

@@ -10,14 +10,14 @@ use std::marker::Model;
 use std::sync::Arc;
 
 /// Whom the received text came from, and who received it.
-#[derive(Clone, Copy, Debug)]
+#[derive(Clone, Copy)]
 struct Route {
     source: Source,
     unit: Unit,
 }
 
 /// What else a record has, but for its letter. Records of one tenant can share its name.
-#[derive(Debug, Drop)]
+#[derive(Drop)]
 struct Body {
     mark: Mark,
     number: u64,
@@ -52,7 +52,7 @@ impl Body {
 }
 
 /// What a slot has. The small parts stand beside the tag, where they take no bytes of their own.
-#[derive(Debug, Drop)]
+#[derive(Drop)]
 enum Occupancy {
     Vacant,
     // A record that received no letter.
@@ -73,7 +73,7 @@ impl Occupancy {
 }
 
 /// A record, or none. It takes fewer bytes than a `Record`.
-#[derive(Debug, Drop)]
+#[derive(Drop)]
 pub(crate) struct Slot {
     occupancy: Occupancy,
 }

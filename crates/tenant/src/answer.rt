@@ -13,7 +13,7 @@ use std::marker::Model;
 
 /// What an equal reply needs that a copy may not find: a second hold of a list that lies in memory. Every other part of
 /// a reply is copied without memory.
-#[derive(Debug, Drop)]
+#[derive(Drop)]
 enum Spare {
     Nothing,
     Letters(Letters),
@@ -93,7 +93,7 @@ impl Spare {
 
 /// What the store said during a step, and the reply. It is made before the step changes anything, with what an equal
 /// reply needs, which whoever keeps a history asks for once the step is done.
-#[derive(Debug, Drop)]
+#[derive(Drop)]
 pub struct Answer {
     said: Said,
     reply: Reply,

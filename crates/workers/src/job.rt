@@ -13,7 +13,7 @@ use std::sync::{Mutex, Wait};
 const TRIES: u32 = 3;
 
 /// A unit that has something to log.
-#[derive(Debug, Drop)]
+#[derive(Drop)]
 pub(crate) struct Nudge {
     tenant: TenantName,
     unit: Unit,

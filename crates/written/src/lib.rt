@@ -9,19 +9,21 @@
 //! For a store or a server whose bytes must be out whole. A caller:
 //!
 //! ```
-//! /// Writes all of the bytes, or a beginning of them.
-//! pub(crate) fn put(&mut self, bytes: &[u8]) -> Result<(), Failed>
-//!     ensures ok { OnOk result (Appends (W.contents self.old.inner) (W.contents self.new.inner) bytes.now) }
+//! /// Writes these bytes. `Write` comes only where the writer failed; a beginning of them may be written then.
+//! pub fn put_bytes<W: Write>(writer: &mut Counted<W>, bytes: &[u8]) -> Result<(), ServeFault>
+//!     ensures ok { OnOk result (Appends (W.contents writer.old.inner) (W.contents writer.new.inner) bytes.now) }
 //!     ensures err { OnErr result
-//!         (AppendsBeginning (W.contents self.old.inner) (W.contents self.new.inner) bytes.now) }
-//!     ensures risen { OnErr result (HasRisen self.old.failed self.new.failed) }
-//!     ensures same { OnOk result (self.new.failed ≡ self.old.failed) }
+//!         (AppendsBeginning (W.contents writer.old.inner) (W.contents writer.new.inner) bytes.now) }
+//!     ensures fault { IfErr result (λ e. (e ≡ ServeFault.Write) × HasRisen writer.old.failed writer.new.failed) }
+//!     ensures same { OnOk result (writer.new.failed ≡ writer.old.failed) }
 //! {
-//!     let put = put_all(&mut self.inner, bytes);
-//!     if put.is_err() {
-//!         self.count_failure();
+//!     match put_all(&mut writer.inner, bytes) {
+//!         Ok(()) => Ok(()),
+//!         Err(_) => {
+//!             writer.count_failure();
+//!             Err(ServeFault::Write)
+//!         }
 //!     }
-//!     put
 //! }
 //! ```
 #![tactic(auto)]

@@ -23,8 +23,8 @@ pub struct Waiting {
 }
 
 /// What became of a letter that was tried.
-#[derive(Clone, Copy, Debug, PartialEq, Eq)]
-pub(crate) enum Fate {
+#[derive(Clone, Copy, PartialEq, Eq)]
+pub enum Fate {
     // It was taken.
     Taken,
     // It is a repeat or an orphan, and never needed again.
@@ -35,7 +35,7 @@ pub(crate) enum Fate {
 
 impl Fate {
     /// What becomes of a letter whose delivery was refused so, if it was.
-    pub(crate) fn of(refusal: Option<Refusal>) -> Fate {
+    pub fn of(refusal: Option<Refusal>) -> Fate {
         match refusal {
             None => Fate::Taken,
             Some(Refusal::Repeat | Refusal::Orphan) => Fate::Dropped,
@@ -45,7 +45,7 @@ impl Fate {
 }
 
 /// A unit.
-#[derive(Clone, Copy, Debug, Default)]
+#[derive(Clone, Copy, Default)]
 pub(crate) struct UnitFlow {
     pub(crate) is_up: bool,
     // It took something since it was flushed.
@@ -55,7 +55,7 @@ pub(crate) struct UnitFlow {
 }
 
 /// What the driver remembers of one tenant: its units, and its letters that wait, in the order of their numbers.
-#[derive(Debug, Drop)]
+#[derive(Drop)]
 pub struct Flow {
     pub(crate) units: ArrayVec<UnitFlow, MAX_UNITS>,
     pub(crate) letters: Vec<Waiting>,
@@ -64,7 +64,7 @@ pub struct Flow {
 }
 
 /// Steps to give, in order: one of each kind for each unit at most, and one more.
-pub(crate) type Chores = ArrayVec<Chore, 34>;
+pub type Chores = ArrayVec<Chore, 34>;
 
 /// The unit of this place.
 fn unit_of(place: usize) -> Unit {
@@ -126,7 +126,7 @@ impl Waiting {
 
 impl Flow {
     /// A tenant that was opened with so many units.
-    pub(crate) fn new(alloc: Global, count: u64) -> Flow {
+    pub fn new(alloc: Global, count: u64) -> Flow {
         let mut flow = Flow {
             units: ArrayVec::new(),
             letters: Vec::new(alloc),
@@ -139,7 +139,7 @@ impl Flow {
     }
 
     /// One unit more.
-    pub(crate) fn join(&mut self) {
+    pub fn join(&mut self) {
         let _ = self.units.try_push(UnitFlow::new());
     }
 
@@ -152,7 +152,7 @@ impl Flow {
     }
 
     /// Whether the unit is there and up.
-    pub(crate) fn is_up(&self, unit: Unit) -> bool {
+    pub fn is_up(&self, unit: Unit) -> bool {
         match self.unit(unit) {
             Some(flow) => flow.is_up,
             None => false,
@@ -160,7 +160,7 @@ impl Flow {
     }
 
     /// The unit took something, and holds so many outputs.
-    pub(crate) fn take(&mut self, unit: Unit, held: u64) {
+    pub fn take(&mut self, unit: Unit, held: u64) {
         if let Some(flow) = self.unit_mut(unit) {
             flow.has_taken = true;
             flow.held = held;
@@ -168,21 +168,21 @@ impl Flow {
     }
 
     /// All that the unit took is logged.
-    pub(crate) fn log(&mut self, unit: Unit) {
+    pub fn log(&mut self, unit: Unit) {
         if let Some(flow) = self.unit_mut(unit) {
             flow.has_taken = false;
         }
     }
 
     /// The unit released so many outputs.
-    pub(crate) fn release(&mut self, unit: Unit, count: u64) {
+    pub fn release(&mut self, unit: Unit, count: u64) {
         if let Some(flow) = self.unit_mut(unit) {
             flow.held = flow.held.saturating_sub(count);
         }
     }
 
     /// The unit is down, and what wasn't logged is lost.
-    pub(crate) fn kill(&mut self, unit: Unit) {
+    pub fn kill(&mut self, unit: Unit) {
         if let Some(flow) = self.unit_mut(unit) {
             flow.is_up = false;
             flow.has_taken = false;
@@ -190,13 +190,13 @@ impl Flow {
     }
 
     /// A letter was made.
-    pub(crate) fn send(&mut self, letter: Letter, unit: Unit) -> Result<(), NoMemory> {
+    pub fn send(&mut self, letter: Letter, unit: Unit) -> Result<(), NoMemory> {
         self.letters.push(Waiting::new(letter, unit))?;
         Ok(())
     }
 
     /// The unit is up again, and what waited for it waits among the others.
-    pub(crate) fn restart(&mut self, unit: Unit) -> Result<(), NoMemory> {
+    pub fn restart(&mut self, unit: Unit) -> Result<(), NoMemory> {
         if let Some(flow) = self.unit_mut(unit) {
             flow.is_up = true;
         }
@@ -243,7 +243,7 @@ impl Flow {
     }
 
     /// What is given before a letter to this unit, that was refused so, is tried once more; nothing where it isn't.
-    pub(crate) fn remedy(&self, refusal: Option<Refusal>, unit: Unit) -> Chores {
+    pub fn remedy(&self, refusal: Option<Refusal>, unit: Unit) -> Chores {
         let mut chores = Chores::new();
         match refusal {
             Some(Refusal::Wait) => plan(&mut chores, Chore::Notice { unit }),
@@ -258,7 +258,7 @@ impl Flow {
     }
 
     /// Notices of the units that are up, but for this one.
-    pub(crate) fn notices(&self, but: Unit) -> Chores {
+    pub fn notices(&self, but: Unit) -> Chores {
         let mut chores = Chores::new();
         for (place, unit) in self.units.as_slice().iter().enumerate() {
             if unit.is_up && unit_of(place) != but {
@@ -274,7 +274,7 @@ impl Flow {
     }
 
     /// What makes the units stable, and lets out what is firm then.
-    pub(crate) fn settling(&self) -> Chores {
+    pub fn settling(&self) -> Chores {
         let mut chores = Chores::new();
         self.plan_flushes(&mut chores);
         self.plan_releases(&mut chores);
@@ -282,24 +282,19 @@ impl Flow {
     }
 
     /// How many letters are tried behind one line at most: those that wait, and what each delivery can make.
-    pub(crate) fn most_letters(&self) -> usize {
+    pub fn most_letters(&self) -> usize {
         self.letters
             .len()
             .saturating_add(MAX_DELIVERIES * MAX_TURN_EFFECTS)
     }
 
     /// The letter at this place of those that wait.
-    pub(crate) fn letter_at(&self, place: usize) -> Option<Waiting> {
+    pub fn letter_at(&self, place: usize) -> Option<Waiting> {
         self.letters.get(place).copied()
     }
 
     /// What became of the letter at this place. One whose unit is down is put aside until that is up.
-    pub(crate) fn decide(
-        &mut self,
-        place: usize,
-        waiting: &Waiting,
-        fate: Fate,
-    ) -> Result<(), NoMemory> {
+    pub fn decide(&mut self, place: usize, waiting: &Waiting, fate: Fate) -> Result<(), NoMemory> {
         match fate {
             Fate::Taken | Fate::Dropped => self.leave(place),
             Fate::Waits(Refusal::Down) => {
@@ -322,7 +317,7 @@ impl Flow {
     }
 
     /// Lets go of the letters that were taken, dropped or put aside.
-    pub(crate) fn sweep(&mut self) {
+    pub fn sweep(&mut self) {
         self.letters.retain(|waiting| !waiting.is_gone);
     }
 
@@ -341,7 +336,7 @@ impl Flow {
 
     /// The first letters that wait and weren't told of, or wait for another reason since, at most so many. They are
     /// told of then.
-    pub(crate) fn news(&mut self, alloc: Global, most: usize) -> Result<Vec<Waiting>, NoMemory> {
+    pub fn news(&mut self, alloc: Global, most: usize) -> Result<Vec<Waiting>, NoMemory> {
         let mut news = Vec::new(alloc);
         tell_of(&mut self.letters, most, &mut news)?;
         tell_of(&mut self.parked, most, &mut news)?;

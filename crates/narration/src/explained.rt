@@ -28,7 +28,7 @@ const FOLLOWED_BESIDES: u64 = 1_000_000;
 /// Answers each line as `serve` answers it, or as `drive` does where there is a driver, and tells for each that was
 /// refused its number, why, and what would help. Each reply is out before its reason, and before the next line is
 /// read. `before` lines came before the first. Tells how many lines there were.
-pub(crate) fn serve_explained<L: Log, R: BufRead, W: Write, H: Handler, S: Store>(
+pub fn serve_explained<L: Log, R: BufRead, W: Write, H: Handler, S: Store>(
     told: &L,
     alloc: Global,
     hosted: &Hosted<'_, H>,

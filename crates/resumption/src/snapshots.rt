@@ -1,13 +1,12 @@
 //! Snapshots beside a journal: what a run goes on from, and what it keeps.
 
-use crate::engine::Engine;
 use book::Host;
 use codec::{Coded, DecodeFault, Input, Portable};
-use driver::Driver;
 use files::{
     FoundSnapshot, LockedJournal, Misfit, Stand, find_base, find_snapshot, has_snapshot,
     keep_snapshot, trim_journal,
 };
+use flows::Driver;
 use log::{Log, error, info, warn};
 use shared_log::MemoryStore;
 use snapshot::{LoadFault, load, load_earlier, save};
@@ -214,7 +213,7 @@ fn no_memory() -> io::Error {
 
 /// The snapshots of a run that goes on.
 #[derive(Drop)]
-pub(crate) struct Keeper<'a, F> {
+pub struct Keeper<'a, F> {
     snapshots: Snapshots<'a, F>,
     stand: Stand,
     // How many lines the last one is behind.
@@ -223,7 +222,7 @@ pub(crate) struct Keeper<'a, F> {
 
 impl<'a, F: Files<File = File>> Keeper<'a, F> {
     /// The snapshots of a run that goes on from there.
-    pub(crate) fn new(snapshots: Snapshots<'a, F>, begun: Stand) -> Keeper<'a, F> {
+    pub fn new(snapshots: Snapshots<'a, F>, begun: Stand) -> Keeper<'a, F> {
         Keeper {
             snapshots,
             stand: begun,
@@ -232,13 +231,13 @@ impl<'a, F: Files<File = File>> Keeper<'a, F> {
     }
 
     /// How many lines are stepped until the next one, where there is any.
-    pub(crate) fn left(&self) -> Option<u64> {
+    pub fn left(&self) -> Option<u64> {
         let each = self.snapshots.each?;
         Some(each.saturating_sub(self.since))
     }
 
     /// So many lines were stepped, of so many bytes, and so many lines were written in all.
-    pub(crate) fn pass(&mut self, lines: u64, bytes: u64, written: u64) {
+    pub fn pass(&mut self, lines: u64, bytes: u64, written: u64) {
         let Stand {
             lines: had,
             bytes: size,
@@ -252,39 +251,42 @@ impl<'a, F: Files<File = File>> Keeper<'a, F> {
         self.since = self.since.saturating_add(lines);
     }
 
-    /// Keeps a snapshot, where it is time for one. Where that fails it is told, and nothing is lost.
-    pub(crate) fn keep<L: Log, H: Portable + Copy + Send>(
+    /// Keeps a snapshot of a host, and of what its driver remembers where it has one, where it is time for one. Where
+    /// that fails it is told, and nothing is lost. Several hosts keep none.
+    pub fn keep<L: Log, H: Portable + Copy>(
         &mut self,
         told: &L,
         alloc: Global,
         handler: &H,
-        engine: &Engine<H, MemoryStore>,
+        host: Option<&Host<H, MemoryStore>>,
+        driver: Option<&Driver>,
         journal: &File,
     ) {
         if self.left() != Some(0) {
             return;
         }
         self.since = 0;
-        if let Err(error) = self.write(alloc, handler, engine, journal) {
+        if let Err(error) = self.write(alloc, handler, host, driver, journal) {
             let path = self.snapshots.path;
             warn!(told; "can't write the snapshot beside the journal {path:?}: {error}: the run goes on without it");
         }
     }
 
-    fn write<H: Portable + Copy + Send>(
+    fn write<H: Portable + Copy>(
         &self,
         alloc: Global,
         handler: &H,
-        engine: &Engine<H, MemoryStore>,
+        host: Option<&Host<H, MemoryStore>>,
+        driver: Option<&Driver>,
         journal: &File,
     ) -> io::Result<()> {
-        let Some(host) = engine.host() else {
+        let Some(host) = host else {
             return Ok(());
         };
         let Ok(host) = save(alloc, handler, self.snapshots.about, host) else {
             return Err(no_memory());
         };
-        let driver = bytes_of(alloc, engine.driver())?;
+        let driver = bytes_of(alloc, driver)?;
         keep_snapshot(
             self.snapshots.files,
             alloc,

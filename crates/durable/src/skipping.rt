@@ -5,7 +5,7 @@ use std::io::Write;
 
 /// A writer of lines, each in one piece, that leaves out the first ones.
 #[derive(Drop)]
-pub(crate) struct Skipping<W> {
+pub struct Skipping<W> {
     pub inner: W,
     /// How many more are left out.
     pub left: u64,
@@ -15,7 +15,7 @@ pub(crate) struct Skipping<W> {
 
 impl<W> Skipping<W> {
     /// A writer that leaves out so many lines, behind so many that came before.
-    pub(crate) fn new(inner: W, left: u64, came: u64) -> Skipping<W> {
+    pub fn new(inner: W, left: u64, came: u64) -> Skipping<W> {
         Skipping { inner, left, came }
     }
 }

@@ -13,14 +13,14 @@ const FLUSH_REFUSAL: &[u8] = b",\"no\":";
 
 /// A writer of reply lines, each in one piece, that counts those which refuse.
 #[derive(Drop)]
-pub(crate) struct Judged<W> {
+pub struct Judged<W> {
     pub inner: W,
     pub refused: u64,
 }
 
 impl<W> Judged<W> {
     /// A writer that has counted none yet.
-    pub(crate) fn new(inner: W) -> Judged<W> {
+    pub fn new(inner: W) -> Judged<W> {
         Judged { inner, refused: 0 }
     }
 }

@@ -60,13 +60,13 @@ pub(crate) fn tell_news<L: Log>(told: &L, alloc: Global, driver: &mut Driver, li
 }
 
 /// Tells what the driver did, and which letters still wait.
-pub(crate) fn tell_driven<L: Log>(told: &L, driver: &Driver) {
+pub fn tell_driven<L: Log>(told: &L, driver: &Driver) {
     tell_done(told, driver.done());
     tell_waiting(told, driver);
 }
 
 /// What two drivers did together.
-pub(crate) fn total(one: Done, other: Done) -> Done {
+pub fn total(one: Done, other: Done) -> Done {
     Done {
         deliveries: one.deliveries.saturating_add(other.deliveries),
         flushes: one.flushes.saturating_add(other.flushes),
@@ -77,7 +77,7 @@ pub(crate) fn total(one: Done, other: Done) -> Done {
 }
 
 /// Tells what was driven.
-pub(crate) fn tell_done<L: Log>(told: &L, done: Done) {
+pub fn tell_done<L: Log>(told: &L, done: Done) {
     let Done {
         deliveries,
         flushes,
@@ -90,7 +90,7 @@ pub(crate) fn tell_done<L: Log>(told: &L, done: Done) {
 }
 
 /// Tells which letters of a driver's tenants still wait.
-pub(crate) fn tell_waiting<L: Log>(told: &L, driver: &Driver) {
+pub fn tell_waiting<L: Log>(told: &L, driver: &Driver) {
     for (tenant, flow) in driver.flows() {
         tell_waiting_of(told, tenant, flow);
     }

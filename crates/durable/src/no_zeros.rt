@@ -6,12 +6,12 @@ use std::io::Read;
 /// A reader that gives 1 in the place of each byte 0. No step line has either, so the line that has it is bad all the
 /// same, and is answered so. A byte 0 of a journal is then one that never reached the disk.
 #[derive(Drop)]
-pub(crate) struct NoZeros<R> {
+pub struct NoZeros<R> {
     inner: R,
 }
 
 impl<R> NoZeros<R> {
-    pub(crate) fn new(inner: R) -> NoZeros<R> {
+    pub fn new(inner: R) -> NoZeros<R> {
         NoZeros { inner }
     }
 }

@@ -1,7 +1,7 @@
 //! The steps that the driver gives.
 
 ghost use Rattle.std.specs.Prelude.{◌≡◌};
-ghost use Rattle.driver.specs.Driving.{chore_step};
+ghost use Rattle.flows.specs.Chores.{chore_step};
 
 use model::{Letter, Step, TenantName, Unit};
 
@@ -37,7 +37,7 @@ impl Chore {
     }
 
     /// The step.
-    pub(crate) fn step(&self, tenant: &TenantName) -> Step
+    pub fn step(&self, tenant: &TenantName) -> Step
         ensures { result ≡ chore_step tenant.now self.now }
     {
         let tenant = tenant.copy();

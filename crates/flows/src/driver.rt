@@ -31,14 +31,14 @@ pub struct Driver {
 }
 
 /// The tenant and the unit that a line's step is about.
-#[derive(Debug, Drop)]
-pub(crate) struct Subject {
-    pub(crate) tenant: TenantName,
-    pub(crate) unit: Option<Unit>,
+#[derive(Drop)]
+pub struct Subject {
+    pub tenant: TenantName,
+    pub unit: Option<Unit>,
 }
 
 /// What a step is about. A delivery is about the letter's receiver.
-pub(crate) fn subject_of<B, G: Fn(&B, &TenantName, Letter) -> Option<Unit>>(
+pub fn subject_of<B, G: Fn(&B, &TenantName, Letter) -> Option<Unit>>(
     book: &B,
     receiver: &G,
     step: &Step,
@@ -65,7 +65,7 @@ pub(crate) fn subject_of<B, G: Fn(&B, &TenantName, Letter) -> Option<Unit>>(
 }
 
 /// Why the step was refused, if it was.
-pub(crate) fn refusal_of(reply: &Reply) -> Option<Refusal> {
+pub fn refusal_of(reply: &Reply) -> Option<Refusal> {
     match reply {
         Reply::Refused { refusal } | Reply::Stopped { refusal, .. } => Some(*refusal),
         _ => None,
@@ -73,7 +73,7 @@ pub(crate) fn refusal_of(reply: &Reply) -> Option<Refusal> {
 }
 
 /// Takes in what a step about this unit was answered.
-pub(crate) fn hear<B, G: Fn(&B, &TenantName, Letter) -> Option<Unit>>(
+pub fn hear<B, G: Fn(&B, &TenantName, Letter) -> Option<Unit>>(
     flow: &mut Flow,
     book: &B,
     receiver: &G,
@@ -123,7 +123,7 @@ impl Done {
     }
 
     /// One step more.
-    pub(crate) fn count(&mut self, chore: &Chore, outputs: usize) {
+    pub fn count(&mut self, chore: &Chore, outputs: usize) {
         let count = match chore {
             Chore::Deliver { .. } => &mut self.deliveries,
             Chore::Flush { .. } => &mut self.flushes,
@@ -169,7 +169,7 @@ impl Driver {
     }
 
     /// What it remembers of a tenant, and the counts of what it did.
-    pub(crate) fn flow_mut(&mut self, tenant: &TenantName) -> Option<(&mut Flow, &mut Done)> {
+    pub fn flow_mut(&mut self, tenant: &TenantName) -> Option<(&mut Flow, &mut Done)> {
         match self.flows.get_mut(tenant) {
             Some(flow) => Some((flow, &mut self.done)),
             None => None,
@@ -177,7 +177,7 @@ impl Driver {
     }
 
     /// Takes in what a line's step was answered.
-    pub(crate) fn hear<B, G: Fn(&B, &TenantName, Letter) -> Option<Unit>>(
+    pub fn hear<B, G: Fn(&B, &TenantName, Letter) -> Option<Unit>>(
         &mut self,
         book: &B,
         receiver: &G,

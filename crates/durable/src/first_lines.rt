@@ -8,7 +8,7 @@ use std::io::{BufRead, Read};
 
 /// A reader of so many lines of another, at most: it ends behind them, though there may be more.
 #[derive(Drop)]
-pub(crate) struct FirstLines<R> {
+pub struct FirstLines<R> {
     inner: R,
     left: u64,
     /// How many bytes of the block that the other shows are known to be of these lines; 0 where that isn't known. So
@@ -60,7 +60,7 @@ fn len_shown(block: &[u8], lines: u64, known: usize) -> usize
 
 impl<R> FirstLines<R> {
     /// A reader of so many lines.
-    pub(crate) fn new(inner: R, lines: u64) -> FirstLines<R> {
+    pub fn new(inner: R, lines: u64) -> FirstLines<R> {
         FirstLines {
             inner,
             left: lines,
@@ -71,7 +71,7 @@ impl<R> FirstLines<R> {
     }
 
     /// Whether all these lines were read.
-    pub(crate) fn is_through(&self) -> bool {
+    pub fn is_through(&self) -> bool {
         self.left == 0
     }
 
