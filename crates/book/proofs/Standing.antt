@@ -15,7 +15,8 @@ use Rattle.model.specs.declared.steps.TenantStep.TheVariants.{Release}
 use Rattle.shared_log.specs.Logged.{Logged}
 use Rattle.tenant.specs.Stands.{KeepsNoText, KeepsNoTextBut, KeepsTexts, TenantState, Stands, StandsAt}
 use Rattle.book.specs.Entries.{CountsDevice, IsAdded, Ledger, memory_reply}
-use Rattle.book.specs.History.{HoldsAsBefore, Holding, IsAnswered, IsRecordedIn, IsReplay, IsSaidHonestly, world_of}
+use Rattle.book.specs.History.{HoldsAsBefore, Holding, IsAnswered, IsAnsweredAt, IsRecordedIn, IsReplay, IsSaidHonestly}
+use Rattle.book.specs.History.{world_of}
 use Rattle.book.specs.Past.{HasJustAt, KeepsAt, KeepsIn, keeping_after}
 use Rattle.model.specs.Keeping.{Keeping, Shelf}
 use Rattle.tenant.specs.Past.{KeepsPast}
@@ -29,6 +30,13 @@ use Rattle.book.specs.Commits.{needs_at}
 use Rattle.book.specs.declared.committed.Committed.TheVariants.{Stale, Reply as Replied}
 use Rattle.book.proofs.Devices.{counts_still}
 use Rattle.book.proofs.Replays.{entered, is_added, none_added, said_honestly, same_name}
+
+-- what a tenant's own step was answered, of the step that names the tenant
+pub apart : {S : Type 0} (M : Meaning S) (whole : Step) (name : List ℕ) (step : TenantStep) (said : Said)
+    (reply : Reply) (before after : Holding (TenantState S)) → addressed whole ≡ (name, step)
+    → IsAnsweredAt M name step said reply before after → IsAnswered M whole said reply before after
+apart M whole name step said reply before after is answered =
+    subst (λ (p : List ℕ × TenantStep). IsAnsweredAt M p.0 p.1 said reply before after) (sym is) answered
 
 module _ {S : Type 0} (M : Meaning S) where
   module _ (old new : Hosted (TenantState S)) where

@@ -29,7 +29,7 @@ use Rattle.model.specs.declared.steps.Step.TheVariants.{Release as AnyRelease, S
 use Rattle.model.specs.declared.steps.TenantStep.{TenantStep}
 use Rattle.model.specs.declared.steps.TenantStep.TheVariants.{Open, Join, Post, Deliver, Flush, Checkpoint, Kill}
 use Rattle.model.specs.declared.steps.TenantStep.TheVariants.{Restart, Notice, Release, Status}
-use Rattle.book.specs.Entries.{memory_reply}
+use Rattle.book.specs.Entries.{memory_reply, own_memory_reply}
 use Rattle.book.specs.History.{IsHonestAt}
 
 -- ---- replies other than to a flush
@@ -92,10 +92,19 @@ flush_end Whole count e = absurd (cc e)
 flush_end Device count e = absurd (cc e)
 flush_end NoMemory count e = (refl, cc e)
 
--- the reply to a step of a tenant for which there was no memory
-abbrev memory_answer : TenantStep → Reply
-memory_answer (Flush unit) = Stopped 0 Memory
-memory_answer _ = Refused Memory
+-- the reply to a step for which there was no memory is that to the tenant's own step
+pub answer_is : (s : Step) → memory_reply s ≡ own_memory_reply (addressed s).1
+answer_is (AnyOpen tenant kinds quota optimism) = refl
+answer_is (AnyJoin tenant kind) = refl
+answer_is (AnyPost unit number tenant text) = refl
+answer_is (AnyDeliver tenant letter) = refl
+answer_is (AnyFlush tenant unit) = refl
+answer_is (AnyCheckpoint tenant unit) = refl
+answer_is (AnyKill tenant unit) = refl
+answer_is (AnyRestart tenant unit) = refl
+answer_is (AnyNotice tenant unit) = refl
+answer_is (AnyRelease tenant unit) = refl
+answer_is (AnyStatus tenant unit) = refl
 
 module _ {S : Type 0} (M : Meaning S) where
   module _ (tenant : List ℕ) (w : World) (u : ℕ) (said : Said) (grown : List Record) where
@@ -144,7 +153,7 @@ module _ {S : Type 0} (M : Meaning S) where
       w _ _ (refl, (refl, (refl, (refl, (refl, (refl, (refl, (refl, (refl, (refl, (refl, (refl, tt)))))))))))) refl)
 
   never_open : (tenant : List ℕ) (w : World) (d : TenantStep) (said : Said) (grown : List Record)
-      → IsHonest M tenant w d said grown → (step_open M w d said).reply ≡ memory_answer d → ⊥
+      → IsHonest M tenant w d said grown → (step_open M w d said).reply ≡ own_memory_reply d → ⊥
   never_open tenant w (Open kinds quota optimism) said grown honest e = cc e
   never_open tenant w (Join kind) said grown honest e = not_wanted _ (join_fine w (M.kind kind)) e
   never_open tenant w (Post unit number text) said grown honest e =
@@ -163,7 +172,7 @@ module _ {S : Type 0} (M : Meaning S) where
   never_open tenant w (Release unit) said grown honest e = not_wanted _ (at_up_fine w unit _ (λ m. refl)) e
   never_open tenant w (Status unit) said grown honest e = not_wanted _ (at_unit_fine w unit _ (λ m. refl)) e
 
-  never_unopened : (d : TenantStep) → (step_unopened M d).reply ≡ memory_answer d → ⊥
+  never_unopened : (d : TenantStep) → (step_unopened M d).reply ≡ own_memory_reply d → ⊥
   never_unopened (Open kinds quota optimism) e =
       not_wanted _ (open_fine (can_open M kinds quota optimism) (opened_with M kinds quota optimism) refl) e
   never_unopened (Join kind) e = cc e
@@ -178,22 +187,10 @@ module _ {S : Type 0} (M : Meaning S) where
   never_unopened (Status unit) e = cc e
 
   never_at : (tenant : List ℕ) (w : Option World) (d : TenantStep) (said : Said) (grown : List Record)
-      → IsHonestAt M tenant w d said grown → (step M w (record { step = d; said = said })).reply ≡ memory_answer d → ⊥
+      → IsHonestAt M tenant w d said grown
+      → (step M w (record { step = d; said = said })).reply ≡ own_memory_reply d → ⊥
   never_at tenant None d said grown honest e = never_unopened d e
   never_at tenant (Some w) d said grown honest e = never_open tenant w d said grown honest e
-
-  answer_is : (s : Step) → memory_reply s ≡ memory_answer (addressed s).1
-  answer_is (AnyOpen tenant kinds quota optimism) = refl
-  answer_is (AnyJoin tenant kind) = refl
-  answer_is (AnyPost unit number tenant text) = refl
-  answer_is (AnyDeliver tenant letter) = refl
-  answer_is (AnyFlush tenant unit) = refl
-  answer_is (AnyCheckpoint tenant unit) = refl
-  answer_is (AnyKill tenant unit) = refl
-  answer_is (AnyRestart tenant unit) = refl
-  answer_is (AnyNotice tenant unit) = refl
-  answer_is (AnyRelease tenant unit) = refl
-  answer_is (AnyStatus tenant unit) = refl
 
   -- where what the store said is honest, the reply isn't that of a step for which there was no memory
   pub never_wanting : (s : Step) (w : Option World) (said : Said) (grown : List Record) (reply : Reply)

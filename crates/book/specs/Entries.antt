@@ -12,6 +12,8 @@ use Rattle.model.specs.declared.replies.Who.{Who}
 use Rattle.model.specs.declared.steps.Step.{Step}
 use Rattle.model.specs.declared.steps.Step.TheVariants.{Open, Join, Post, Deliver, Flush, Checkpoint, Kill, Restart}
 use Rattle.model.specs.declared.steps.Step.TheVariants.{Notice, Release, Status}
+use Rattle.model.specs.declared.steps.TenantStep.{TenantStep}
+use Rattle.model.specs.declared.steps.TenantStep.TheVariants.{Flush as FlushOwn}
 use Rattle.model.specs.Failures.{HasRisen}
 use Rattle.model.specs.Steps.{is_device}
 use Rattle.shared_log.specs.Logged.{Logged}
@@ -34,6 +36,11 @@ memory_reply (Restart tenant unit) = Refused Memory
 memory_reply (Notice tenant unit) = Refused Memory
 memory_reply (Release tenant unit) = Refused Memory
 memory_reply (Status tenant unit) = Refused Memory
+
+-- that to a tenant's own step
+abbrev pub own_memory_reply : TenantStep → Reply
+own_memory_reply (FlushOwn unit) = Stopped 0 Memory
+own_memory_reply _ = Refused Memory
 
 -- that to a flush, or to another step
 abbrev pub memory_reply_to : Bool → Reply

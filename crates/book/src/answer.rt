@@ -13,6 +13,7 @@ ghost use Rattle.tenant.specs.Stands.{IsOpened, KeepsNoText, KeepsNoTextBut, Kee
 ghost use Rattle.shared_log.specs.Logged.{Logged};
 ghost use Rattle.book.specs.Commits.{needs_at};
 ghost use Rattle.book.specs.Entries.{memory_reply as reply_of_memory, memory_reply_to as reply_by_kind};
+ghost use Rattle.book.specs.Entries.{own_memory_reply as reply_of_own};
 ghost use Rattle.model.specs.Keeping.{Keeping};
 ghost use Rattle.book.specs.Past.{KeepsAt, KeepsJustAt, KeepsOnAt};
 ghost use Rattle.book.specs.Standing.{KeepNoTexts, KeepNoTextsBut, KeepTexts, Releases};
@@ -30,11 +31,11 @@ use tenant::{Answer, Tenant};
 pub(crate) type Tenants<H> = IndexMap<TenantName, Tenant<H>>;
 
 /// Whether the step is a flush.
-pub(crate) fn is_flush(step: &Step) -> bool
-    ensures { reply_of_memory step.now ≡ reply_by_kind result }
+pub(crate) fn is_flush(step: &TenantStep) -> bool
+    ensures { reply_of_own step.now ≡ reply_by_kind result }
 {
     match step {
-        Step::Flush { .. } => true,
+        TenantStep::Flush { .. } => true,
         _ => false,
     }
 }
@@ -59,11 +60,24 @@ pub(crate) fn memory_reply_to(flush: bool) -> Reply
 pub(crate) fn memory_reply(step: &Step) -> Reply
     ensures { result ≡ reply_of_memory step.now }
 {
-    memory_reply_to(is_flush(step))
+    match step {
+        Step::Flush { .. } => memory_reply_to(true),
+        _ => memory_reply_to(false),
+    }
 }
 
 /// The unit that the step releases, if it is a release.
-pub(crate) fn released_unit(step: &Step) -> Option<Unit>
+pub(crate) fn released_unit(step: &TenantStep) -> Option<Unit>
+    ensures { Releases step.now result }
+{
+    match step {
+        TenantStep::Release { unit } => Some(*unit),
+        _ => None,
+    }
+}
+
+/// The same of a step of any tenant.
+pub(crate) fn unit_released(step: &Step) -> Option<Unit>
     ensures { Releases (addressed step.now).1 result }
 {
     match step {
@@ -217,9 +231,8 @@ pub(crate) fn step_within(step: &Step) -> Result<TenantStep, NoMemory>
 
 /// The name of the step's tenant, and the step without it. Takes no memory.
 #[inline(always)]
-pub(crate) fn taken_apart(step: Step) -> (TenantName, TenantStep)
-    ensures name { result.0 ≡ (addressed step).0 }
-    ensures own { result.1 ≡ (addressed step).1 }
+pub fn taken_apart(step: Step) -> (TenantName, TenantStep)
+    ensures { addressed step ≡ result }
 {
     match step {
         Step::Open {

@@ -5,6 +5,7 @@ ghost use Rattle.model.specs.Addresses.{addressed};
 ghost use Rattle.model.specs.declared.replies.Entry.{Entry};
 ghost use Rattle.model.specs.declared.replies.Reply.{Reply as ReplyOf};
 ghost use Rattle.model.specs.declared.replies.Who.{Who};
+ghost use Rattle.model.specs.declared.steps.Step.{Step as StepOf};
 ghost use Rattle.model.specs.declared.steps.TenantStep.{TenantStep};
 ghost use Rattle.tenant.specs.Needs.{WasFresh};
 ghost use Rattle.tenant.specs.Stands.{StandsAt};
@@ -19,7 +20,7 @@ ghost use Rattle.book.specs.Standing.{KeepNoTextsBut, KeepTexts, Releases, Repla
 
 use crate::answer::{
     Tenants, answer, answer_with, ask, give_up, is_flush, memory_reply, memory_reply_to,
-    released_unit, step_within, taken_apart,
+    released_unit, step_within, taken_apart, unit_released,
 };
 use crate::committed::Committed;
 use handler::{Ask, Done, Handler};
@@ -185,13 +186,26 @@ impl<H: Handler, S: Store> Host<H, S> {
         // Where it kept no text that was released, it keeps none.
         ensures none { KeepNoTexts (held_by self.old).at → KeepNoTexts (held_by self.new).at }
     {
+        let (name, own_step) = taken_apart(step);
+        self.step_own(&name, own_step)
+    }
+
+    /// Does a step of the tenant of this name, as `step` does the step that names it.
+    pub fn step_own(&mut self, name: &TenantName, step: TenantStep) -> Reply
+        ensures entered { (whole : StepOf) (who : Who) → addressed whole ≡ (name.now, step)
+            → Carries (IsHostOf H.meaning) (EntersHonestly H.meaning who whole result) self.old self.new }
+        ensures kill { (whole : StepOf) (who : Who) (unit : ℕ) → addressed whole ≡ (name.now, step)
+            → step ≡ TenantStep.Kill unit
+            → Carries (IsHostOf H.meaning) (λ before after. IsAdded before who whole result after) self.old self.new }
+        // Where it kept no text that was released, it keeps none.
+        ensures none { KeepNoTexts (held_by self.old).at → KeepNoTexts (held_by self.new).at }
+    {
         let flush = is_flush(&step);
         let released = released_unit(&step);
-        let (name, own_step) = taken_apart(step);
-        match self.answer_own(&name, own_step) {
+        match self.answer_own(name, step) {
             Err(_) => memory_reply_to(flush),
             Ok(answer) => {
-                self.give_up_after(&name, released);
+                self.give_up_after(name, released);
                 answer.into_reply()
             }
         }
@@ -236,7 +250,7 @@ impl<H: Handler, S: Store> Host<H, S> {
             Err(_) => Committed::Reply(memory_reply(&step)),
             Ok(None) => Committed::Stale(step),
             Ok(Some(answer)) => {
-                self.give_up_after(step.tenant(), released_unit(&step));
+                self.give_up_after(step.tenant(), unit_released(&step));
                 Committed::Reply(answer.into_reply())
             }
         }

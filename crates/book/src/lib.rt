@@ -52,6 +52,7 @@ mod book;
 mod committed;
 mod host;
 
+pub use answer::taken_apart;
 pub use book::{Book, headline, isolated};
 pub use committed::Committed;
 pub use host::Host;

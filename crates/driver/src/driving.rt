@@ -14,16 +14,18 @@ ghost use Rattle.driver.specs.Driving.{round_text};
 ghost use Rattle.flows.specs.Chores.{chore_step};
 
 use crate::outputs::put_outputs;
-use book::{Book, Host};
+use book::{Book, Host, taken_apart};
 use flows::{
     Chore, Chores, Done, Driver, Fate, Flow, MAX_DELIVERIES, Subject, Waiting, hear, refusal_of,
     subject_of,
 };
 use handler::Handler;
 use json::Scratch;
-use lines::{Counted, LineRead, ServeFault, fault_reply, flush_unless, put_reply, read_line};
+use lines::{
+    Counted, LineRead, ServeFault, fault_reply, flush_unless, put_reply, read_line, step_host,
+};
 use model::{Letter, MAX_LINE_BYTES, Refusal, Reply, Step, TenantName, Text, Unit};
-use quick_forms::read_step;
+use quick_forms::{AddressedStep, read_addressed};
 use shared_log::Store;
 use std::alloc::Global;
 use std::io::{BufRead, Write};
@@ -59,9 +61,9 @@ pub fn drive<R: BufRead, W: Write, H: Handler, S: Store>(
         reader,
         writer,
         book,
-        &|book: &mut Book<H, S>, step: Step| -> Reply
+        &|book: &mut Book<H, S>, step: AddressedStep| -> Reply
             ensures { IsEntered book.entry.now Caller step result book.exit.now }
-        { book.step(step) },
+        { book.step(step.into_step()) },
         &|book: &Book<H, S>, tenant: &TenantName, letter: Letter| -> Option<Unit> {
             book.host().receiver(tenant, letter)
         },
@@ -93,10 +95,10 @@ pub fn drive_host<R: BufRead, W: Write, H: Handler, S: Store>(
         reader,
         writer,
         host,
-        &|host: &mut Host<H, S>, step: Step| -> Reply
+        &|host: &mut Host<H, S>, step: AddressedStep| -> Reply
             ensures { (who : WhoOf) → Carries (IsHostOf H.meaning)
                 (EntersHonestly H.meaning who step result) host.entry.now host.exit.now }
-        { host.step(step) },
+        { step_host(host, step) },
         &|host: &Host<H, S>, tenant: &TenantName, letter: Letter| -> Option<Unit> {
             host.receiver(tenant, letter)
         },
@@ -126,17 +128,25 @@ pub fn drive_host_step<W: Write, H: Handler, S: Store>(
         alloc,
         writer,
         host,
-        &|host: &mut Host<H, S>, own: Step| -> Reply
+        &|host: &mut Host<H, S>, own: AddressedStep| -> Reply
             ensures { (who : WhoOf) → Carries (IsHostOf H.meaning)
                 (EntersHonestly H.meaning who own result) host.entry.now host.exit.now }
-        { host.step(own) },
+        { step_host(host, own) },
         &|host: &Host<H, S>, tenant: &TenantName, letter: Letter| -> Option<Unit> {
             host.receiver(tenant, letter)
         },
         driver,
         text,
-        read,
+        apart(read),
     )
+}
+
+// A step, apart.
+fn apart(read: Step) -> AddressedStep
+    ensures { result ≡ read }
+{
+    let (tenant, own) = taken_apart(read);
+    AddressedStep::new(tenant, own)
 }
 
 // The same by whatever a function does steps on.
@@ -144,7 +154,7 @@ fn drive_by<
     R: BufRead,
     W: Write,
     B,
-    F: Fn(&mut B, Step) -> Reply,
+    F: Fn(&mut B, AddressedStep) -> Reply,
     G: Fn(&B, &TenantName, Letter) -> Option<Unit>,
 >(
     alloc: Global,
@@ -201,7 +211,7 @@ fn drive_next<
     R: BufRead,
     W: Write,
     B,
-    F: Fn(&mut B, Step) -> Reply,
+    F: Fn(&mut B, AddressedStep) -> Reply,
     G: Fn(&B, &TenantName, Letter) -> Option<Unit>,
 >(
     alloc: Global,
@@ -264,7 +274,7 @@ fn bad_line() -> Reply
 fn drive_line<
     W: Write,
     B,
-    F: Fn(&mut B, Step) -> Reply,
+    F: Fn(&mut B, AddressedStep) -> Reply,
     G: Fn(&B, &TenantName, Letter) -> Option<Unit>,
 >(
     alloc: Global,
@@ -284,7 +294,7 @@ fn drive_line<
         × Wrote result (round_text round) (W.contents writer.old.inner) (W.contents writer.new.inner)
         writer.old.failed writer.new.failed }
 {
-    match read_step(alloc, scratch, line) {
+    match read_addressed(alloc, scratch, line) {
         Ok(read) => drive_step(alloc, writer, book, step, receiver, driver, text, read),
         Err(fault) => put_reply(alloc, writer, text, &fault_reply(fault)),
     }
@@ -294,7 +304,7 @@ fn drive_line<
 fn drive_step<
     W: Write,
     B,
-    F: Fn(&mut B, Step) -> Reply,
+    F: Fn(&mut B, AddressedStep) -> Reply,
     G: Fn(&B, &TenantName, Letter) -> Option<Unit>,
 >(
     alloc: Global,
@@ -304,7 +314,7 @@ fn drive_step<
     receiver: &G,
     driver: &mut Driver,
     text: &mut Vec<u8>,
-    read: Step,
+    read: AddressedStep,
 ) -> Result<(), ServeFault>
     requires takes { TakesSteps F.Fn step.now }
     requires finds { G.IsAlwaysCallable receiver.now }
@@ -312,7 +322,7 @@ fn drive_step<
         × Wrote result (round_text round) (W.contents writer.old.inner) (W.contents writer.new.inner)
         writer.old.failed writer.new.failed }
 {
-    let subject = subject_of(book, receiver, &read);
+    let subject = subject_of(book, receiver, read.tenant(), read.own());
     let reply = do_step(book, step, read);
     put_reply(alloc, writer, text, &reply)?;
     take_in(driver, book, receiver, &subject, &reply)?;
@@ -338,7 +348,11 @@ fn take_in<B, G: Fn(&B, &TenantName, Letter) -> Option<Unit>>(
 
 // Does one step.
 #[inline(always)]
-fn do_step<B, F: Fn(&mut B, Step) -> Reply>(book: &mut B, step: &F, read: Step) -> Reply
+fn do_step<B, F: Fn(&mut B, AddressedStep) -> Reply>(
+    book: &mut B,
+    step: &F,
+    read: AddressedStep,
+) -> Reply
     requires { TakesSteps F.Fn step.now }
     ensures { DoesBy F.Fn step.now book.old read result book.new }
 {
@@ -350,7 +364,7 @@ fn do_step<B, F: Fn(&mut B, Step) -> Reply>(book: &mut B, step: &F, read: Step) 
 fn carry_on<
     W: Write,
     B,
-    F: Fn(&mut B, Step) -> Reply,
+    F: Fn(&mut B, AddressedStep) -> Reply,
     G: Fn(&B, &TenantName, Letter) -> Option<Unit>,
 >(
     writer: &mut Counted<W>,
@@ -394,7 +408,7 @@ fn notices_upon(flow: &Flow, subject: &Subject, reply: &Reply) -> Chores {
 fn deliver_letters<
     W: Write,
     B,
-    F: Fn(&mut B, Step) -> Reply,
+    F: Fn(&mut B, AddressedStep) -> Reply,
     G: Fn(&B, &TenantName, Letter) -> Option<Unit>,
 >(
     writer: &mut Counted<W>,
@@ -445,7 +459,7 @@ fn decide(flow: &mut Flow, place: usize, waiting: &Waiting, fate: Fate) -> Resul
 fn try_letter<
     W: Write,
     B,
-    F: Fn(&mut B, Step) -> Reply,
+    F: Fn(&mut B, AddressedStep) -> Reply,
     G: Fn(&B, &TenantName, Letter) -> Option<Unit>,
 >(
     writer: &mut Counted<W>,
@@ -488,7 +502,7 @@ fn try_letter<
 fn do_chores<
     W: Write,
     B,
-    F: Fn(&mut B, Step) -> Reply,
+    F: Fn(&mut B, AddressedStep) -> Reply,
     G: Fn(&B, &TenantName, Letter) -> Option<Unit>,
 >(
     writer: &mut Counted<W>,
@@ -514,11 +528,18 @@ fn do_chores<
     Ok(())
 }
 
+// The step of the driver for this tenant.
+fn step_of(tenant: &TenantName, chore: &Chore) -> AddressedStep
+    ensures { result ≡ chore_step tenant.now chore.now }
+{
+    AddressedStep::new(tenant.copy(), chore.own_step())
+}
+
 // Does a step of the driver, and writes a line for each text that left by it. Tells why it was refused, if it was.
 fn do_chore<
     W: Write,
     B,
-    F: Fn(&mut B, Step) -> Reply,
+    F: Fn(&mut B, AddressedStep) -> Reply,
     G: Fn(&B, &TenantName, Letter) -> Option<Unit>,
 >(
     writer: &mut Counted<W>,
@@ -536,7 +557,7 @@ fn do_chore<
     ensures { Drove (DoesBy F.Fn step.now) tenant.now result book.old book.new
         (W.contents writer.old.inner) (W.contents writer.new.inner) writer.old.failed writer.new.failed }
 {
-    let reply = do_step(book, step, chore.step(tenant));
+    let reply = do_step(book, step, step_of(tenant, chore));
     put_left(writer, text, tenant, chore, &reply)?;
     done.count(chore, outputs_in(&reply).len());
     hear_chore(flow, book, receiver, tenant, chore, &reply)

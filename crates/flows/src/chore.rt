@@ -1,9 +1,10 @@
 //! The steps that the driver gives.
 
-ghost use Rattle.std.specs.Prelude.{◌≡◌};
+ghost use Rattle.std.specs.Prelude.{◌≡◌, ℕ, List};
+ghost use Rattle.model.specs.Addresses.{addressed};
 ghost use Rattle.flows.specs.Chores.{chore_step};
 
-use model::{Letter, Step, TenantName, Unit};
+use model::{Letter, TenantStep, Unit};
 
 /// A step that the driver gives, of the tenant that it carries on for.
 #[derive(Clone, Copy, Debug, PartialEq, Eq)]
@@ -36,28 +37,15 @@ impl Chore {
         }
     }
 
-    /// The step.
-    pub fn step(&self, tenant: &TenantName) -> Step
-        ensures { result ≡ chore_step tenant.now self.now }
+    /// The step of the tenant that it carries on for.
+    pub fn own_step(&self) -> TenantStep
+        ensures { (tenant : List ℕ) → addressed (chore_step tenant self.now) ≡ (tenant, result) }
     {
-        let tenant = tenant.copy();
         match self {
-            Chore::Deliver { letter, .. } => Step::Deliver {
-                tenant,
-                letter: *letter,
-            },
-            Chore::Flush { unit } => Step::Flush {
-                tenant,
-                unit: *unit,
-            },
-            Chore::Notice { unit } => Step::Notice {
-                tenant,
-                unit: *unit,
-            },
-            Chore::Release { unit } => Step::Release {
-                tenant,
-                unit: *unit,
-            },
+            Chore::Deliver { letter, .. } => TenantStep::Deliver { letter: *letter },
+            Chore::Flush { unit } => TenantStep::Flush { unit: *unit },
+            Chore::Notice { unit } => TenantStep::Notice { unit: *unit },
+            Chore::Release { unit } => TenantStep::Release { unit: *unit },
         }
     }
 }

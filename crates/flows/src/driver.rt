@@ -1,12 +1,11 @@
 //! What the driver remembers between two lines.
 
 ghost use Rattle.std.specs.Prelude.{◌≡◌};
-ghost use Rattle.model.specs.Addresses.{addressed};
 
 use crate::chore::Chore;
 use crate::flow::{Flow, Waiting};
 use indexmap::IndexMap;
-use model::{Letter, NoMemory, Refusal, Reply, Step, TenantName, Unit};
+use model::{Letter, NoMemory, Refusal, Reply, TenantName, TenantStep, Unit};
 use std::alloc::Global;
 
 /// How much the driver did.
@@ -37,29 +36,30 @@ pub struct Subject {
     pub unit: Option<Unit>,
 }
 
-/// What a step is about. A delivery is about the letter's receiver.
+/// What a step of the tenant of this name is about. A delivery is about the letter's receiver.
 pub fn subject_of<B, G: Fn(&B, &TenantName, Letter) -> Option<Unit>>(
     book: &B,
     receiver: &G,
-    step: &Step,
+    tenant: &TenantName,
+    step: &TenantStep,
 ) -> Subject
     requires { G.IsAlwaysCallable receiver.now }
-    ensures { result.tenant ≡ (addressed step.now).0 }
+    ensures { result.tenant ≡ tenant.now }
 {
     let unit = match step {
-        Step::Open { .. } | Step::Join { .. } => None,
-        Step::Post { unit, .. }
-        | Step::Flush { unit, .. }
-        | Step::Checkpoint { unit, .. }
-        | Step::Kill { unit, .. }
-        | Step::Restart { unit, .. }
-        | Step::Notice { unit, .. }
-        | Step::Release { unit, .. }
-        | Step::Status { unit, .. } => Some(*unit),
-        Step::Deliver { tenant, letter } => receiver(book, tenant, *letter),
+        TenantStep::Open { .. } | TenantStep::Join { .. } => None,
+        TenantStep::Post { unit, .. }
+        | TenantStep::Flush { unit }
+        | TenantStep::Checkpoint { unit }
+        | TenantStep::Kill { unit }
+        | TenantStep::Restart { unit }
+        | TenantStep::Notice { unit }
+        | TenantStep::Release { unit }
+        | TenantStep::Status { unit } => Some(*unit),
+        TenantStep::Deliver { letter } => receiver(book, tenant, *letter),
     };
     Subject {
-        tenant: step.tenant().copy(),
+        tenant: tenant.copy(),
         unit,
     }
 }
@@ -73,6 +73,10 @@ pub fn refusal_of(reply: &Reply) -> Option<Refusal> {
 }
 
 /// Takes in what a step about this unit was answered.
+///
+/// # Errors
+///
+/// `NoMemory` where a letter finds none.
 pub fn hear<B, G: Fn(&B, &TenantName, Letter) -> Option<Unit>>(
     flow: &mut Flow,
     book: &B,
@@ -177,6 +181,10 @@ impl Driver {
     }
 
     /// Takes in what a line's step was answered.
+    ///
+    /// # Errors
+    ///
+    /// `NoMemory` where a letter, or what is remembered of a tenant, finds none.
     pub fn hear<B, G: Fn(&B, &TenantName, Letter) -> Option<Unit>>(
         &mut self,
         book: &B,

@@ -190,12 +190,20 @@ impl Flow {
     }
 
     /// A letter was made.
+    ///
+    /// # Errors
+    ///
+    /// `NoMemory` where it finds none.
     pub fn send(&mut self, letter: Letter, unit: Unit) -> Result<(), NoMemory> {
         self.letters.push(Waiting::new(letter, unit))?;
         Ok(())
     }
 
     /// The unit is up again, and what waited for it waits among the others.
+    ///
+    /// # Errors
+    ///
+    /// `NoMemory` where the list of those finds none.
     pub fn restart(&mut self, unit: Unit) -> Result<(), NoMemory> {
         if let Some(flow) = self.unit_mut(unit) {
             flow.is_up = true;
@@ -294,6 +302,10 @@ impl Flow {
     }
 
     /// What became of the letter at this place. One whose unit is down is put aside until that is up.
+    ///
+    /// # Errors
+    ///
+    /// `NoMemory` where one that is put aside finds none.
     pub fn decide(&mut self, place: usize, waiting: &Waiting, fate: Fate) -> Result<(), NoMemory> {
         match fate {
             Fate::Taken | Fate::Dropped => self.leave(place),
@@ -336,6 +348,10 @@ impl Flow {
 
     /// The first letters that wait and weren't told of, or wait for another reason since, at most so many. They are
     /// told of then.
+    ///
+    /// # Errors
+    ///
+    /// `NoMemory` where their list finds none.
     pub fn news(&mut self, alloc: Global, most: usize) -> Result<Vec<Waiting>, NoMemory> {
         let mut news = Vec::new(alloc);
         tell_of(&mut self.letters, most, &mut news)?;

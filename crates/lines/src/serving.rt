@@ -12,7 +12,8 @@ ghost use Rattle.model.specs.declared.replies.Who.TheVariants.{Caller};
 ghost use Rattle.book.specs.Entries.{IsEntered};
 ghost use Rattle.book.specs.Standing.{Carries, EntersHonestly, IsHostOf};
 ghost use Rattle.lines.specs.Doing.{DoesBy, TakesSteps};
-ghost use Rattle.lines.specs.Serving.{AnsweredLineBy, Serves, EntersEach, HostServes, IsRemembered, reply_line};
+ghost use Rattle.lines.specs.Serving.{AnsweredLineBy, Serves, EntersEach, HostDoes, HostServes, IsRemembered};
+ghost use Rattle.lines.specs.Serving.{reply_line};
 ghost use Rattle.lines.specs.Serving.{reply_upon, ServedAll, ServedAllBy, ServedSome, ServedSomeBy, ServesBy, Took};
 ghost use Rattle.lines.specs.Serving.{Broken};
 
@@ -23,8 +24,8 @@ use book::{Book, Host};
 use forms::LineFault;
 use handler::Handler;
 use json::Scratch;
-use model::{MAX_LINE_BYTES, Refusal, Reply, Step};
-use quick_forms::{read_step, write_reply};
+use model::{MAX_LINE_BYTES, Refusal, Reply};
+use quick_forms::{AddressedStep, read_addressed, write_reply};
 use shared_log::Store;
 use std::alloc::Global;
 use std::io::{BufRead, Write};
@@ -60,9 +61,9 @@ pub fn serve<R: BufRead, W: Write, H: Handler, S: Store>(
         reader,
         writer,
         book,
-        &|book: &mut Book<H, S>, step: Step| -> Reply
+        &|book: &mut Book<H, S>, step: AddressedStep| -> Reply
             ensures { IsEntered book.entry.now Caller step result book.exit.now }
-        { book.step(step) },
+        { book.step(step.into_step()) },
     )
 }
 
@@ -89,15 +90,24 @@ pub fn serve_host<R: BufRead, W: Write, H: Handler, S: Store>(
         reader,
         writer,
         host,
-        &|host: &mut Host<H, S>, step: Step| -> Reply
+        &|host: &mut Host<H, S>, step: AddressedStep| -> Reply
             ensures { (who : WhoOf) → Carries (IsHostOf H.meaning)
                 (EntersHonestly H.meaning who step result) host.entry.now host.exit.now }
-        { host.step(step) },
+        { step_host(host, step) },
     )
 }
 
+/// Does a step that was read, by a host, as `Host::step` does.
+#[inline(always)]
+pub fn step_host<H: Handler, S: Store>(host: &mut Host<H, S>, step: AddressedStep) -> Reply
+    ensures { HostDoes H.meaning host.old step result host.new }
+{
+    let (name, own_step) = step.into_parts();
+    host.step_own(&name, own_step)
+}
+
 // The same by whatever a function does steps on.
-fn serve_by<R: BufRead, W: Write, B, F: Fn(&mut B, Step) -> Reply>(
+fn serve_by<R: BufRead, W: Write, B, F: Fn(&mut B, AddressedStep) -> Reply>(
     alloc: Global,
     reader: &mut Counted<R>,
     writer: &mut Counted<W>,
@@ -143,7 +153,7 @@ fn serve_by<R: BufRead, W: Write, B, F: Fn(&mut B, Step) -> Reply>(
 }
 
 // Reads a line and answers it, if one is left.
-fn serve_line<R: BufRead, W: Write, B, F: Fn(&mut B, Step) -> Reply>(
+fn serve_line<R: BufRead, W: Write, B, F: Fn(&mut B, AddressedStep) -> Reply>(
     alloc: Global,
     reader: &mut Counted<R>,
     writer: &mut Counted<W>,
@@ -221,7 +231,11 @@ pub fn put_reply<W: Write>(
 
 // Does one step.
 #[inline(always)]
-fn do_step<B, F: Fn(&mut B, Step) -> Reply>(book: &mut B, step: &F, read: Step) -> Reply
+fn do_step<B, F: Fn(&mut B, AddressedStep) -> Reply>(
+    book: &mut B,
+    step: &F,
+    read: AddressedStep,
+) -> Reply
     requires { TakesSteps F.Fn step.now }
     ensures { DoesBy F.Fn step.now book.old read result book.new }
 {
@@ -230,7 +244,7 @@ fn do_step<B, F: Fn(&mut B, Step) -> Reply>(book: &mut B, step: &F, read: Step) 
 
 // Does what a line says.
 #[tactic(auto, unfolding(crate::specs::Serving::line_step))]
-fn answer_line<B, F: Fn(&mut B, Step) -> Reply>(
+fn answer_line<B, F: Fn(&mut B, AddressedStep) -> Reply>(
     alloc: Global,
     book: &mut B,
     step: &F,
@@ -241,7 +255,7 @@ fn answer_line<B, F: Fn(&mut B, Step) -> Reply>(
     requires takes { TakesSteps F.Fn step.now }
     ensures { AnsweredLineBy (DoesBy F.Fn step.now) line.now book.old result book.new }
 {
-    match read_step(alloc, scratch, line) {
+    match read_addressed(alloc, scratch, line) {
         Ok(read) => do_step(book, step, read),
         Err(fault) => fault_reply(fault),
     }

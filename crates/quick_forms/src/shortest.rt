@@ -8,8 +8,9 @@ ghost use Rattle.json.specs.Print.{escape, escape_byte, quoted as quoted_text};
 ghost use Rattle.quick_forms.specs.Seen.{step_of_tokens};
 ghost use Rattle.quick_forms.specs.Tails.{post_tail, deliver_tail, place_tail};
 
+use crate::addressed::AddressedStep;
 use crate::steps::{delivery, place, posted};
-use model::{NoMemory, Step};
+use model::NoMemory;
 use std::alloc::Global;
 
 /// How long a line may be that is compared byte by byte. The tokens of a longer one are found faster.
@@ -19,7 +20,7 @@ const MOST_BYTES: usize = 512;
 const VERB: usize = 7;
 
 /// The step, where the line is one of the quick ones in its shortest form.
-pub(crate) fn shortest(alloc: Global, line: &str) -> Result<Option<Step>, NoMemory>
+pub(crate) fn shortest(alloc: Global, line: &str) -> Result<Option<AddressedStep>, NoMemory>
     ensures { IfOk result (λ o. IfSome o (λ s. step_of_tokens (tokens line.now) ≡ Some s)) }
 {
     if line.len() > MOST_BYTES {
@@ -33,7 +34,7 @@ pub(crate) fn shortest(alloc: Global, line: &str) -> Result<Option<Step>, NoMemo
 }
 
 /// The step, where the line is a delivery in its shortest form.
-fn delivery_line(line: &str) -> Option<Step>
+fn delivery_line(line: &str) -> Option<AddressedStep>
     ensures { IfSome result (λ s. step_of_tokens (tokens line.now) ≡ Some s) }
 {
     let (letter, tenant) = deliver_parts(behind_deliver(line)?)?;
@@ -41,7 +42,7 @@ fn delivery_line(line: &str) -> Option<Step>
 }
 
 /// The step, where the line is a post in its shortest form.
-fn post_line(alloc: Global, line: &str) -> Result<Option<Step>, NoMemory>
+fn post_line(alloc: Global, line: &str) -> Result<Option<AddressedStep>, NoMemory>
     ensures { IfOk result (λ o. IfSome o (λ s. step_of_tokens (tokens line.now) ≡ Some s)) }
 {
     let Some(rest) = behind_post(line) else {
@@ -54,7 +55,7 @@ fn post_line(alloc: Global, line: &str) -> Result<Option<Step>, NoMemory>
 }
 
 /// The step, where the line is the shortest form of one that names a tenant and a unit alone.
-fn place_line(line: &str) -> Option<Step>
+fn place_line(line: &str) -> Option<AddressedStep>
     ensures { IfSome result (λ s. step_of_tokens (tokens line.now) ≡ Some s) }
 {
     let (verb, rest) = head(line)?;

@@ -14,11 +14,12 @@ ghost use Rattle.forms.specs.declared.fault.LineFault as LineFault;
 ghost use Rattle.quick_forms.specs.Seen.{seen_members, read_tokens, step_of_tokens, whole_data, post_data};
 ghost use Rattle.quick_forms.specs.Seen.{deliver_data, join_data, place_data};
 
+use crate::addressed::AddressedStep;
 use crate::shortest::shortest;
 use fast_float::Numeral;
 use forms::LineFault;
 use json::{Invalid, Reader, Scratch, Token};
-use model::{Letter, MAX_INDEX, NoMemory, Step, TenantName, Text, Unit};
+use model::{Letter, MAX_INDEX, NoMemory, Step, TenantName, TenantStep, Text, Unit};
 use std::alloc::Global;
 
 /// From how many bytes on many are looked at together. Of fewer the standard library tells as fast, with less around
@@ -44,6 +45,20 @@ struct Seen<'a> {
 pub fn read_step(alloc: Global, scratch: &mut Scratch, line: &[u8]) -> Result<Step, LineFault>
     ensures { Gives (λ s. s) result (step_of_line line.now) }
 {
+    match read_addressed(alloc, scratch, line) {
+        Ok(step) => Ok(step.into_step()),
+        Err(fault) => Err(fault),
+    }
+}
+
+/// The same, apart: whoever has a tenant do the step takes it so.
+pub fn read_addressed(
+    alloc: Global,
+    scratch: &mut Scratch,
+    line: &[u8],
+) -> Result<AddressedStep, LineFault>
+    ensures { Gives (λ s. s) result (step_of_line line.now) }
+{
     let Some(text) = text_of(line) else {
         return Err(LineFault::Bad);
     };
@@ -56,7 +71,17 @@ pub fn read_step(alloc: Global, scratch: &mut Scratch, line: &[u8]) -> Result<St
     let mut reader = Reader::new(text, scratch)?;
     match quick(alloc, &mut reader) {
         Ok(Some(step)) => Ok(step),
-        Ok(None) => forms::read_step(alloc, line),
+        Ok(None) => by_form(alloc, line),
+        Err(fault) => Err(fault),
+    }
+}
+
+/// The step that a line is, by the tree of its value.
+fn by_form(alloc: Global, line: &[u8]) -> Result<AddressedStep, LineFault>
+    ensures { Gives (λ s. s) result (step_of_line line.now) }
+{
+    match forms::read_step(alloc, line) {
+        Ok(step) => Ok(AddressedStep::of(&step)?),
         Err(fault) => Err(fault),
     }
 }
@@ -90,7 +115,7 @@ fn is_space(byte: u8) -> bool
 }
 
 /// The step of the tokens, where they are a quick form. `Bad` where they are no object, or one without a verb.
-fn quick(alloc: Global, reader: &mut Reader<'_>) -> Result<Option<Step>, LineFault>
+fn quick(alloc: Global, reader: &mut Reader<'_>) -> Result<Option<AddressedStep>, LineFault>
     ensures some { IfOk result (λ o. IfSome o (λ s. step_of_tokens reader.old ≡ Some s)) }
     ensures bad { result ≡ Err LineFault.Bad → step_of_tokens reader.old ≡ None }
 {
@@ -102,7 +127,7 @@ fn quick(alloc: Global, reader: &mut Reader<'_>) -> Result<Option<Step>, LineFau
 }
 
 /// The same, behind the brace that begins an object.
-fn step_within(alloc: Global, reader: &mut Reader<'_>) -> Result<Option<Step>, LineFault>
+fn step_within(alloc: Global, reader: &mut Reader<'_>) -> Result<Option<AddressedStep>, LineFault>
     ensures some { IfOk result (λ o. IfSome o (λ s. step_of_tokens (begin_object ∷ reader.old) ≡ Some s)) }
     ensures bad { result ≡ Err LineFault.Bad → step_of_tokens (begin_object ∷ reader.old) ≡ None }
 {
@@ -259,7 +284,7 @@ fn with_number<'a>(seen: Seen<'a>, key: &str, n: u64) -> Result<Seen<'a>, Invali
 }
 
 /// The step of these members, where they are of a quick form. `Bad` where the verb is missing.
-fn step(alloc: Global, seen: Seen<'_>) -> Result<Option<Step>, LineFault>
+fn step(alloc: Global, seen: Seen<'_>) -> Result<Option<AddressedStep>, LineFault>
     ensures some { IfOk result (λ o. IfSome o (λ s. step_of (object_data (seen_members seen.entry)) ≡ Some s)) }
     ensures bad { result ≡ Err LineFault.Bad → step_of (object_data (seen_members seen.entry)) ≡ None }
 {
@@ -297,7 +322,7 @@ fn post(
     tenant: &str,
     text: &str,
     unit: u64,
-) -> Result<Option<Step>, NoMemory>
+) -> Result<Option<AddressedStep>, NoMemory>
     ensures { IfOk result (λ o. IfSome o
         (λ s. step_of (post_data verb.now number tenant.now text.now unit) ≡ Some s)) }
 {
@@ -315,7 +340,7 @@ pub(crate) fn posted(
     tenant: &str,
     text: &str,
     unit: u64,
-) -> Result<Option<Step>, NoMemory>
+) -> Result<Option<AddressedStep>, NoMemory>
     ensures { IfOk result (λ o. IfSome o
         (λ s. step_of (post_data (codes "post") number tenant.now text.now unit) ≡ Some s)) }
 {
@@ -326,15 +351,15 @@ pub(crate) fn posted(
         return Ok(None);
     };
     let text = Text::of(alloc, text)?;
-    Ok(Some(Step::Post {
-        tenant,
+    let own = TenantStep::Post {
         unit: Unit::new(unit as u8),
         number: number as u32,
         text,
-    }))
+    };
+    Ok(Some(AddressedStep::new(tenant, own)))
 }
 
-fn deliver(verb: &str, letter: u64, tenant: &str) -> Option<Step>
+fn deliver(verb: &str, letter: u64, tenant: &str) -> Option<AddressedStep>
     ensures { IfSome result (λ s. step_of (deliver_data verb.now letter tenant.now) ≡ Some s) }
 {
     if verb != "deliver" {
@@ -345,21 +370,26 @@ fn deliver(verb: &str, letter: u64, tenant: &str) -> Option<Step>
 
 /// The step of a delivery of these parts.
 #[tactic(auto, unfolding(forms::specs::Reading::step_of, forms::specs::Reading::deliver_form))]
-pub(crate) fn delivery(letter: u64, tenant: &str) -> Option<Step>
+pub(crate) fn delivery(letter: u64, tenant: &str) -> Option<AddressedStep>
     ensures { IfSome result (λ s. step_of (deliver_data (codes "deliver") letter tenant.now) ≡ Some s) }
 {
     if letter > u64::from(MAX_INDEX) {
         return None;
     }
     let tenant = TenantName::new(tenant)?;
-    Some(Step::Deliver {
-        tenant,
+    let own = TenantStep::Deliver {
         letter: Letter::new(letter as u32),
-    })
+    };
+    Some(AddressedStep::new(tenant, own))
 }
 
 #[tactic(auto, unfolding(forms::specs::Reading::step_of, forms::specs::Reading::join_form))]
-fn join(alloc: Global, verb: &str, kind: &str, tenant: &str) -> Result<Option<Step>, NoMemory>
+fn join(
+    alloc: Global,
+    verb: &str,
+    kind: &str,
+    tenant: &str,
+) -> Result<Option<AddressedStep>, NoMemory>
     ensures { IfOk result (λ o. IfSome o
         (λ s. step_of (join_data verb.now kind.now tenant.now) ≡ Some s)) }
 {
@@ -370,11 +400,11 @@ fn join(alloc: Global, verb: &str, kind: &str, tenant: &str) -> Result<Option<St
         return Ok(None);
     };
     let kind = Text::of(alloc, kind)?;
-    Ok(Some(Step::Join { tenant, kind }))
+    Ok(Some(AddressedStep::new(tenant, TenantStep::Join { kind })))
 }
 
 #[tactic(auto, unfolding(forms::specs::Reading::step_of, forms::specs::Reading::place_of))]
-pub(crate) fn place(verb: &str, tenant: &str, unit: u64) -> Option<Step>
+pub(crate) fn place(verb: &str, tenant: &str, unit: u64) -> Option<AddressedStep>
     ensures { IfSome result (λ s. step_of (place_data verb.now tenant.now unit) ≡ Some s) }
 {
     if unit > 255 {
@@ -383,19 +413,19 @@ pub(crate) fn place(verb: &str, tenant: &str, unit: u64) -> Option<Step>
     let tenant = TenantName::new(tenant)?;
     let unit = Unit::new(unit as u8);
     if verb == "flush" {
-        Some(Step::Flush { tenant, unit })
+        Some(AddressedStep::new(tenant, TenantStep::Flush { unit }))
     } else if verb == "release" {
-        Some(Step::Release { tenant, unit })
+        Some(AddressedStep::new(tenant, TenantStep::Release { unit }))
     } else if verb == "status" {
-        Some(Step::Status { tenant, unit })
+        Some(AddressedStep::new(tenant, TenantStep::Status { unit }))
     } else if verb == "checkpoint" {
-        Some(Step::Checkpoint { tenant, unit })
+        Some(AddressedStep::new(tenant, TenantStep::Checkpoint { unit }))
     } else if verb == "notice" {
-        Some(Step::Notice { tenant, unit })
+        Some(AddressedStep::new(tenant, TenantStep::Notice { unit }))
     } else if verb == "kill" {
-        Some(Step::Kill { tenant, unit })
+        Some(AddressedStep::new(tenant, TenantStep::Kill { unit }))
     } else if verb == "restart" {
-        Some(Step::Restart { tenant, unit })
+        Some(AddressedStep::new(tenant, TenantStep::Restart { unit }))
     } else {
         None
     }

@@ -29,6 +29,6 @@ pub returns : goal.returns
 returns g c =
     let Does = DoesBy g.F.Fn c.args.step.now in
     let x = c.in_ok-put_reply.ensures in
-    let on = rw c.subject_of-subject.ensures at c.carry_on.ensures in
+    let on = rw (c.subject_of-subject.ensures, c.tenant.ensures) at c.carry_on.ensures in
     step_round Does c.carry_on.result
     c.args.read c.do_step-reply.result _ _ _ _ _ _ _ _ _ c.do_step-reply.ensures x.ok (x.same (λ q. cc)) on

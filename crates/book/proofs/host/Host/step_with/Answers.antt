@@ -50,7 +50,7 @@ returns-in-Ok-None-clause-kill g c = λ who tenant unit reply is told. absurd (c
 pub returns-in-Ok-Some-clause-none : goal.returns-in-Ok-Some-clause-none
 returns-in-Ok-Some-clause-none g c = λ none.
     let but = rw (← c.tenant.ensures) at (c.answer_with.ensures.none none) in
-    c.give_up_after.ensures.none (addressed c.args.step).1 c.released_unit.ensures but
+    c.give_up_after.ensures.none (addressed c.args.step).1 c.unit_released.ensures but
 
 pub returns-in-Err-clause-none : goal.returns-in-Err-clause-none
 returns-in-Err-clause-none g c = λ none name k there. none name k (sym (c.in-Err.ensures.err.tenants name) ∙ there)

@@ -4,7 +4,7 @@ use Rattle.json.specs.Lex.{tokens}
 use Rattle.forms.proofs.Lines.{step_of_line-none}
 use Rattle.quick_forms.specs.Seen.{step_of_tokens}
 use Rattle.quick_forms.proofs.NoStep.{gives_fault, line_step}
-use Rattle.quick_forms.proofs.steps.read_step.Goals as goal
+use Rattle.quick_forms.proofs.steps.read_addressed.Goals as goal
 
 pub returns-in_default : goal.returns-in_default
 returns-in_default c = step_of_line-none c.args.line.now (λ text. absurd (c.in_default.ensures text))

@@ -1,0 +1,106 @@
+//! A step that was read, apart.
+
+ghost use Rattle.std.specs.Prelude.{◌≡◌, IfOk};
+ghost use Rattle.model.specs.Addresses.{addressed};
+ghost use Rattle.quick_forms.specs.Apart.{whole};
+
+use model::{NoMemory, Step, TenantName, TenantStep};
+use std::marker::Model;
+
+/// A step, apart where it was read: the name of its tenant, and the tenant's own step. Contracts see it as the step.
+#[derive(Drop)]
+pub struct AddressedStep {
+    tenant: TenantName,
+    own: TenantStep,
+}
+
+impl Model for AddressedStep {
+    ghost use Rattle.model.specs.declared.steps.Step.{Step as StepOf};
+    ghost use Rattle.quick_forms.specs.Apart.{whole};
+
+    ghost Value = { StepOf };
+
+    ghost view = { λ s. whole s.tenant s.own };
+}
+
+impl AddressedStep {
+    /// The step of this name's tenant that is this one for the tenant. Takes no memory.
+    pub fn new(tenant: TenantName, own: TenantStep) -> AddressedStep
+        ensures { result ≡ whole tenant own }
+    {
+        AddressedStep { tenant, own }
+    }
+
+    /// An equal step, apart.
+    ///
+    /// # Errors
+    ///
+    /// `NoMemory` where there are 2^63 - 1 copies of its texts already.
+    #[tactic(auto, using(crate::proofs::Apart::whole_of_addressed))]
+    pub fn of(step: &Step) -> Result<AddressedStep, NoMemory>
+        ensures { IfOk result (λ s. s ≡ step.now) }
+    {
+        let own = step.tenant_step()?;
+        Ok(AddressedStep::new(step.tenant().copy(), own))
+    }
+
+    /// The name of its tenant.
+    #[tactic(auto, using(crate::proofs::Apart::addressed_of_whole))]
+    pub fn tenant(&self) -> &TenantName
+        ensures { result.now ≡ (addressed self.now).0 }
+    {
+        &self.tenant
+    }
+
+    /// The step without that name.
+    #[tactic(auto, using(crate::proofs::Apart::addressed_of_whole))]
+    pub fn own(&self) -> &TenantStep
+        ensures { result.now ≡ (addressed self.now).1 }
+    {
+        &self.own
+    }
+
+    /// Both. Takes no memory.
+    #[inline(always)]
+    #[tactic(auto, using(crate::proofs::Apart::addressed_of_whole))]
+    pub fn into_parts(self) -> (TenantName, TenantStep)
+        ensures { addressed self ≡ result }
+    {
+        let AddressedStep { tenant, own } = self;
+        (tenant, own)
+    }
+
+    /// The step. Takes no memory.
+    pub fn into_step(self) -> Step
+        ensures { result ≡ self }
+    {
+        let AddressedStep { tenant, own } = self;
+        match own {
+            TenantStep::Open {
+                kinds,
+                quota,
+                optimism,
+            } => Step::Open {
+                tenant,
+                kinds,
+                quota,
+                optimism,
+            },
+            TenantStep::Join { kind } => Step::Join { tenant, kind },
+            TenantStep::Post { unit, number, text } => Step::Post {
+                tenant,
+                unit,
+                number,
+                text,
+            },
+            TenantStep::Deliver { letter } => Step::Deliver { tenant, letter },
+            TenantStep::Flush { unit } => Step::Flush { tenant, unit },
+            TenantStep::Checkpoint { unit } => Step::Checkpoint { tenant, unit },
+            TenantStep::Kill { unit } => Step::Kill { tenant, unit },
+            TenantStep::Restart { unit } => Step::Restart { tenant, unit },
+            TenantStep::Notice { unit } => Step::Notice { tenant, unit },
+            TenantStep::Release { unit } => Step::Release { tenant, unit },
+            TenantStep::Status { unit } => Step::Status { tenant, unit },
+        }
+    }
+}
