@@ -229,43 +229,6 @@ pub(crate) fn step_within(step: &Step) -> Result<TenantStep, NoMemory>
     }
 }
 
-/// The name of the step's tenant, and the step without it. Takes no memory.
-#[inline(always)]
-pub fn taken_apart(step: Step) -> (TenantName, TenantStep)
-    ensures { addressed step ≡ result }
-{
-    match step {
-        Step::Open {
-            tenant,
-            kinds,
-            quota,
-            optimism,
-        } => (
-            tenant,
-            TenantStep::Open {
-                kinds,
-                quota,
-                optimism,
-            },
-        ),
-        Step::Join { tenant, kind } => (tenant, TenantStep::Join { kind }),
-        Step::Post {
-            tenant,
-            unit,
-            number,
-            text,
-        } => (tenant, TenantStep::Post { unit, number, text }),
-        Step::Deliver { tenant, letter } => (tenant, TenantStep::Deliver { letter }),
-        Step::Flush { tenant, unit } => (tenant, TenantStep::Flush { unit }),
-        Step::Checkpoint { tenant, unit } => (tenant, TenantStep::Checkpoint { unit }),
-        Step::Kill { tenant, unit } => (tenant, TenantStep::Kill { unit }),
-        Step::Restart { tenant, unit } => (tenant, TenantStep::Restart { unit }),
-        Step::Notice { tenant, unit } => (tenant, TenantStep::Notice { unit }),
-        Step::Release { tenant, unit } => (tenant, TenantStep::Release { unit }),
-        Step::Status { tenant, unit } => (tenant, TenantStep::Status { unit }),
-    }
-}
-
 /// Does a step of the tenant of this name. Where no memory was found nothing is changed; a kill takes none.
 pub(crate) fn answer<H: Handler, S: Store>(
     alloc: Global,

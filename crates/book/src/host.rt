@@ -5,7 +5,6 @@ ghost use Rattle.model.specs.Addresses.{addressed};
 ghost use Rattle.model.specs.declared.replies.Entry.{Entry};
 ghost use Rattle.model.specs.declared.replies.Reply.{Reply as ReplyOf};
 ghost use Rattle.model.specs.declared.replies.Who.{Who};
-ghost use Rattle.model.specs.declared.steps.Step.{Step as StepOf};
 ghost use Rattle.model.specs.declared.steps.TenantStep.{TenantStep};
 ghost use Rattle.tenant.specs.Needs.{WasFresh};
 ghost use Rattle.tenant.specs.Stands.{StandsAt};
@@ -20,12 +19,12 @@ ghost use Rattle.book.specs.Standing.{KeepNoTextsBut, KeepTexts, Releases, Repla
 
 use crate::answer::{
     Tenants, answer, answer_with, ask, give_up, is_flush, memory_reply, memory_reply_to,
-    released_unit, step_within, taken_apart, unit_released,
+    released_unit, step_within, unit_released,
 };
 use crate::committed::Committed;
 use handler::{Ask, Done, Handler};
 use indexmap::IndexMap;
-use model::{Kept, Letter, NoMemory, Reply, Step, TenantName, TenantStep, Unit};
+use model::{AddressedStep, Kept, Letter, NoMemory, Reply, Step, TenantName, TenantStep, Unit};
 use shared_log::{SharedLog, Store};
 use std::alloc::Global;
 use std::marker::Model;
@@ -178,7 +177,7 @@ impl<H: Handler, S: Store> Host<H, S> {
     /// Does a step. Whichever book the host stood for, and whoever gave the step: it is entered there with its reply,
     /// and the host stands for that book then; or there was no memory for it, and tenants and records are as they
     /// were. A kill takes no memory, and is always entered.
-    pub fn step(&mut self, step: Step) -> Reply
+    pub fn step(&mut self, step: AddressedStep) -> Reply
         ensures entered { (who : Who)
             → Carries (IsHostOf H.meaning) (EntersHonestly H.meaning who step result) self.old self.new }
         ensures kill { (who : Who) (tenant : List ℕ) (unit : ℕ) → step ≡ Step.Kill tenant unit
@@ -186,26 +185,13 @@ impl<H: Handler, S: Store> Host<H, S> {
         // Where it kept no text that was released, it keeps none.
         ensures none { KeepNoTexts (held_by self.old).at → KeepNoTexts (held_by self.new).at }
     {
-        let (name, own_step) = taken_apart(step);
-        self.step_own(&name, own_step)
-    }
-
-    /// Does a step of the tenant of this name, as `step` does the step that names it.
-    pub fn step_own(&mut self, name: &TenantName, step: TenantStep) -> Reply
-        ensures entered { (whole : StepOf) (who : Who) → addressed whole ≡ (name.now, step)
-            → Carries (IsHostOf H.meaning) (EntersHonestly H.meaning who whole result) self.old self.new }
-        ensures kill { (whole : StepOf) (who : Who) (unit : ℕ) → addressed whole ≡ (name.now, step)
-            → step ≡ TenantStep.Kill unit
-            → Carries (IsHostOf H.meaning) (λ before after. IsAdded before who whole result after) self.old self.new }
-        // Where it kept no text that was released, it keeps none.
-        ensures none { KeepNoTexts (held_by self.old).at → KeepNoTexts (held_by self.new).at }
-    {
-        let flush = is_flush(&step);
-        let released = released_unit(&step);
-        match self.answer_own(name, step) {
+        let (name, own_step) = step.into_parts();
+        let flush = is_flush(&own_step);
+        let released = released_unit(&own_step);
+        match self.answer_own(&name, own_step) {
             Err(_) => memory_reply_to(flush),
             Ok(answer) => {
-                self.give_up_after(name, released);
+                self.give_up_after(&name, released);
                 answer.into_reply()
             }
         }

@@ -8,11 +8,12 @@
 //! tenants and its log, and say what a step makes of each history that it is the replay of. They
 //! see a book as a `Ledger`, its history and its log, and the replay stands in its invariant.
 //!
-//! - `Host::new` is the replay of the empty history. `Host::step` does a step: whichever book the
-//!   host stood for, the step is entered there with the reply that is given, or there was no memory
-//!   for it, and then nothing changed. `Host::prepare` and `step_with` are as those of a book, and
-//!   `Host::tenants` and `kept` read what follows from the history. `Book::host` lends a book's host.
-//!   A host keeps no text that was released (`KeepNoTexts`), since the replies have them.
+//! - `Host::new` is the replay of the empty history. `Host::step` does a step, which it takes apart
+//!   (`AddressedStep`): whichever book the host stood for, the step is entered there with the reply
+//!   that is given, or there was no memory for it, and then nothing changed. `Host::prepare` and
+//!   `step_with` are as those of a book, and `Host::tenants` and `kept` read what follows from the
+//!   history. `Book::host` lends a book's host. A host keeps no text that was released
+//!   (`KeepNoTexts`), since the replies have them.
 //! - `Book::step`, `step_as` and `run` do steps. A step is entered with the reply that is given,
 //!   or there was no memory for it, and then nothing changed. Both copies of a reply are made
 //!   before the step has any effect.
@@ -52,9 +53,8 @@ mod book;
 mod committed;
 mod host;
 
-pub use answer::taken_apart;
 pub use book::{Book, headline, isolated};
 pub use committed::Committed;
 pub use host::Host;
-pub use model::{End, Entry, Kept, Move, Reply, Said, Step, Who};
+pub use model::{AddressedStep, End, Entry, Kept, Move, Reply, Said, Step, Who};
 pub use tenant::Footprint;

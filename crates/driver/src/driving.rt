@@ -14,18 +14,16 @@ ghost use Rattle.driver.specs.Driving.{round_text};
 ghost use Rattle.flows.specs.Chores.{chore_step};
 
 use crate::outputs::put_outputs;
-use book::{Book, Host, taken_apart};
+use book::{Book, Host};
 use flows::{
     Chore, Chores, Done, Driver, Fate, Flow, MAX_DELIVERIES, Subject, Waiting, hear, refusal_of,
     subject_of,
 };
 use handler::Handler;
 use json::Scratch;
-use lines::{
-    Counted, LineRead, ServeFault, fault_reply, flush_unless, put_reply, read_line, step_host,
-};
-use model::{Letter, MAX_LINE_BYTES, Refusal, Reply, Step, TenantName, Text, Unit};
-use quick_forms::{AddressedStep, read_addressed};
+use lines::{Counted, LineRead, ServeFault, fault_reply, flush_unless, put_reply, read_line};
+use model::{AddressedStep, Letter, MAX_LINE_BYTES, Refusal, Reply, TenantName, Text, Unit};
+use quick_forms::read_addressed;
 use shared_log::Store;
 use std::alloc::Global;
 use std::io::{BufRead, Write};
@@ -98,7 +96,7 @@ pub fn drive_host<R: BufRead, W: Write, H: Handler, S: Store>(
         &|host: &mut Host<H, S>, step: AddressedStep| -> Reply
             ensures { (who : WhoOf) → Carries (IsHostOf H.meaning)
                 (EntersHonestly H.meaning who step result) host.entry.now host.exit.now }
-        { step_host(host, step) },
+        { host.step(step) },
         &|host: &Host<H, S>, tenant: &TenantName, letter: Letter| -> Option<Unit> {
             host.receiver(tenant, letter)
         },
@@ -118,7 +116,7 @@ pub fn drive_host_step<W: Write, H: Handler, S: Store>(
     host: &mut Host<H, S>,
     driver: &mut Driver,
     text: &mut Vec<u8>,
-    read: Step,
+    read: AddressedStep,
 ) -> Result<(), ServeFault>
     ensures { (round : Round) × IsStepRound (HostDoes H.meaning) read host.old round host.new
         × Wrote result (round_text round) (W.contents writer.old.inner) (W.contents writer.new.inner)
@@ -131,22 +129,14 @@ pub fn drive_host_step<W: Write, H: Handler, S: Store>(
         &|host: &mut Host<H, S>, own: AddressedStep| -> Reply
             ensures { (who : WhoOf) → Carries (IsHostOf H.meaning)
                 (EntersHonestly H.meaning who own result) host.entry.now host.exit.now }
-        { step_host(host, own) },
+        { host.step(own) },
         &|host: &Host<H, S>, tenant: &TenantName, letter: Letter| -> Option<Unit> {
             host.receiver(tenant, letter)
         },
         driver,
         text,
-        apart(read),
+        read,
     )
-}
-
-// A step, apart.
-fn apart(read: Step) -> AddressedStep
-    ensures { result ≡ read }
-{
-    let (tenant, own) = taken_apart(read);
-    AddressedStep::new(tenant, own)
 }
 
 // The same by whatever a function does steps on.
@@ -248,7 +238,7 @@ fn drive_next<
             Ok(false)
         }
         LineRead::Long => {
-            put_reply(alloc, writer, text, &bad_line())?;
+            put_reply(writer, text, &bad_line())?;
             Ok(true)
         }
         LineRead::Line => {
@@ -296,7 +286,7 @@ fn drive_line<
 {
     match read_addressed(alloc, scratch, line) {
         Ok(read) => drive_step(alloc, writer, book, step, receiver, driver, text, read),
-        Err(fault) => put_reply(alloc, writer, text, &fault_reply(fault)),
+        Err(fault) => put_reply(writer, text, &fault_reply(fault)),
     }
 }
 
@@ -324,7 +314,7 @@ fn drive_step<
 {
     let subject = subject_of(book, receiver, read.tenant(), read.own());
     let reply = do_step(book, step, read);
-    put_reply(alloc, writer, text, &reply)?;
+    put_reply(writer, text, &reply)?;
     take_in(driver, book, receiver, &subject, &reply)?;
     carry_on(writer, book, step, receiver, driver, text, &subject, &reply)
 }

@@ -284,10 +284,10 @@ fn write_feed<W: Write>(
     let mut text = Vec::new(alloc);
     for line in lines {
         match line {
-            Some(fault) => put_reply(alloc, writer, &mut text, &fault_reply(*fault))?,
+            Some(fault) => put_reply(writer, &mut text, &fault_reply(*fault))?,
             None => {
                 if let Some(reply) = left.next() {
-                    put_reply(alloc, writer, &mut text, reply)?;
+                    put_reply(writer, &mut text, reply)?;
                 }
             }
         }

@@ -1,7 +1,7 @@
 //! The lines of the program: a line of JSON to a step, and a reply or a record to a line.
 //!
-//! - `read_step` (`reading`): the step that a line is. `specs/Reading` says which line is which
-//!   step, form by form, over the value that `serde_json` reads.
+//! - `read_step` (`reading`): the step that a line is; `read_addressed` gives it apart. `specs/Reading` says which line
+//!   is which step, form by form, over the value that `serde_json` reads.
 //! - `write_reply` (`writing`): the line that tells a reply, compact and with its keys in byte
 //!   order. `specs/Writing` has the value of each reply.
 //! - `write_record` (`records`): the line that tells a record of the log, in the same form.
@@ -25,6 +25,6 @@ mod records;
 mod writing;
 
 pub use fault::LineFault;
-pub use reading::read_step;
+pub use reading::{read_addressed, read_step};
 pub use records::write_record;
 pub use writing::write_reply;

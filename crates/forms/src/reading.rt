@@ -13,8 +13,8 @@ ghost use Rattle.forms.specs.Reading.{step_of, step_of_line};
 
 use crate::fault::LineFault;
 use model::{
-    Letter, MAX_HELD_QUOTA, MAX_LETTERS_QUOTA, MAX_OPTIMISM, MAX_VOLATILE_QUOTA, Quota, Step,
-    TenantName, Text, Texts, Unit,
+    AddressedStep, Letter, MAX_HELD_QUOTA, MAX_LETTERS_QUOTA, MAX_OPTIMISM, MAX_VOLATILE_QUOTA,
+    Quota, Step, TenantName, TenantStep, Text, Texts, Unit,
 };
 use serde_json::Value;
 use std::alloc::Global;
@@ -23,8 +23,22 @@ use std::alloc::Global;
 ///
 /// `Bad` comes exactly where it is no step. `NoMemory` comes where a growth was refused first, and
 /// says nothing of the line.
-#[tactic(auto, unfolding(crate::specs::Reading::step_of_line))]
 pub fn read_step(alloc: Global, line: &[u8]) -> Result<Step, LineFault>
+    ensures { Gives (λ s. s) result (step_of_line line.now) }
+{
+    match read_addressed(alloc, line) {
+        Ok(step) => Ok(step.into_step()),
+        Err(fault) => Err(fault),
+    }
+}
+
+/// The same, apart: the name of its tenant, and the tenant's own step.
+///
+/// # Errors
+///
+/// Those of `read_step`.
+#[tactic(auto, unfolding(crate::specs::Reading::step_of_line))]
+pub fn read_addressed(alloc: Global, line: &[u8]) -> Result<AddressedStep, LineFault>
     ensures { Gives (λ s. s) result (step_of_line line.now) }
 {
     match Value::from_slice(alloc, line) {
@@ -40,7 +54,7 @@ pub fn read_step(alloc: Global, line: &[u8]) -> Result<Step, LineFault>
 }
 
 #[tactic(auto, unfolding(crate::specs::Reading::step_of))]
-fn step(alloc: Global, value: &Value) -> Result<Step, LineFault>
+fn step(alloc: Global, value: &Value) -> Result<AddressedStep, LineFault>
     ensures { Gives (λ s. s) result (step_of (view value.now)) }
 {
     let verb = text(value, "do")?;
@@ -72,7 +86,7 @@ fn step(alloc: Global, value: &Value) -> Result<Step, LineFault>
 }
 
 #[tactic(auto, unfolding(crate::specs::Reading::open_form))]
-fn open(alloc: Global, value: &Value) -> Result<Step, LineFault>
+fn open(alloc: Global, value: &Value) -> Result<AddressedStep, LineFault>
     ensures { Gives (λ s. s) result (open_form (view value.now)) }
 {
     let tenant = name(value)?;
@@ -83,12 +97,12 @@ fn open(alloc: Global, value: &Value) -> Result<Step, LineFault>
         value,
         3 + one_if(value, "quota") + one_if(value, "optimism"),
     ) {
-        Ok(Step::Open {
-            tenant,
+        let own = TenantStep::Open {
             kinds,
             quota,
             optimism,
-        })
+        };
+        Ok(AddressedStep::new(tenant, own))
     } else {
         Err(LineFault::Bad)
     }
@@ -139,20 +153,20 @@ fn optimism(value: &Value) -> Result<u32, LineFault>
 }
 
 #[tactic(auto, unfolding(crate::specs::Reading::join_form))]
-fn join(alloc: Global, value: &Value) -> Result<Step, LineFault>
+fn join(alloc: Global, value: &Value) -> Result<AddressedStep, LineFault>
     ensures { Gives (λ s. s) result (join_form (view value.now)) }
 {
     let tenant = name(value)?;
     let kind = Text::of(alloc, text(value, "kind")?)?;
     if count_is(value, 3) {
-        Ok(Step::Join { tenant, kind })
+        Ok(AddressedStep::new(tenant, TenantStep::Join { kind }))
     } else {
         Err(LineFault::Bad)
     }
 }
 
 #[tactic(auto, unfolding(crate::specs::Reading::post_form))]
-fn post(alloc: Global, value: &Value) -> Result<Step, LineFault>
+fn post(alloc: Global, value: &Value) -> Result<AddressedStep, LineFault>
     ensures { Gives (λ s. s) result (post_form (view value.now)) }
 {
     let tenant = name(value)?;
@@ -160,25 +174,21 @@ fn post(alloc: Global, value: &Value) -> Result<Step, LineFault>
     let number = word(value, "number")?;
     let text = Text::of(alloc, text(value, "text")?)?;
     if count_is(value, 5) {
-        Ok(Step::Post {
-            tenant,
-            unit,
-            number,
-            text,
-        })
+        let own = TenantStep::Post { unit, number, text };
+        Ok(AddressedStep::new(tenant, own))
     } else {
         Err(LineFault::Bad)
     }
 }
 
 #[tactic(auto, unfolding(crate::specs::Reading::deliver_form))]
-fn deliver(value: &Value) -> Result<Step, LineFault>
+fn deliver(value: &Value) -> Result<AddressedStep, LineFault>
     ensures { Gives (λ s. s) result (deliver_form (view value.now)) }
 {
     let tenant = name(value)?;
     let letter = Letter::new(word(value, "letter")?);
     if count_is(value, 3) {
-        Ok(Step::Deliver { tenant, letter })
+        Ok(AddressedStep::new(tenant, TenantStep::Deliver { letter }))
     } else {
         Err(LineFault::Bad)
     }
@@ -198,53 +208,53 @@ fn place(value: &Value) -> Result<(TenantName, Unit), LineFault>
     }
 }
 
-fn flush(value: &Value) -> Result<Step, LineFault>
+fn flush(value: &Value) -> Result<AddressedStep, LineFault>
     ensures { Gives (λ s. s) result (flush_form (view value.now)) }
 {
     let (tenant, unit) = place(value)?;
-    Ok(Step::Flush { tenant, unit })
+    Ok(AddressedStep::new(tenant, TenantStep::Flush { unit }))
 }
 
-fn checkpoint(value: &Value) -> Result<Step, LineFault>
+fn checkpoint(value: &Value) -> Result<AddressedStep, LineFault>
     ensures { Gives (λ s. s) result (checkpoint_form (view value.now)) }
 {
     let (tenant, unit) = place(value)?;
-    Ok(Step::Checkpoint { tenant, unit })
+    Ok(AddressedStep::new(tenant, TenantStep::Checkpoint { unit }))
 }
 
-fn kill(value: &Value) -> Result<Step, LineFault>
+fn kill(value: &Value) -> Result<AddressedStep, LineFault>
     ensures { Gives (λ s. s) result (kill_form (view value.now)) }
 {
     let (tenant, unit) = place(value)?;
-    Ok(Step::Kill { tenant, unit })
+    Ok(AddressedStep::new(tenant, TenantStep::Kill { unit }))
 }
 
-fn restart(value: &Value) -> Result<Step, LineFault>
+fn restart(value: &Value) -> Result<AddressedStep, LineFault>
     ensures { Gives (λ s. s) result (restart_form (view value.now)) }
 {
     let (tenant, unit) = place(value)?;
-    Ok(Step::Restart { tenant, unit })
+    Ok(AddressedStep::new(tenant, TenantStep::Restart { unit }))
 }
 
-fn notice(value: &Value) -> Result<Step, LineFault>
+fn notice(value: &Value) -> Result<AddressedStep, LineFault>
     ensures { Gives (λ s. s) result (notice_form (view value.now)) }
 {
     let (tenant, unit) = place(value)?;
-    Ok(Step::Notice { tenant, unit })
+    Ok(AddressedStep::new(tenant, TenantStep::Notice { unit }))
 }
 
-fn release(value: &Value) -> Result<Step, LineFault>
+fn release(value: &Value) -> Result<AddressedStep, LineFault>
     ensures { Gives (λ s. s) result (release_form (view value.now)) }
 {
     let (tenant, unit) = place(value)?;
-    Ok(Step::Release { tenant, unit })
+    Ok(AddressedStep::new(tenant, TenantStep::Release { unit }))
 }
 
-fn status(value: &Value) -> Result<Step, LineFault>
+fn status(value: &Value) -> Result<AddressedStep, LineFault>
     ensures { Gives (λ s. s) result (status_form (view value.now)) }
 {
     let (tenant, unit) = place(value)?;
-    Ok(Step::Status { tenant, unit })
+    Ok(AddressedStep::new(tenant, TenantStep::Status { unit }))
 }
 
 // ---- the values behind keys

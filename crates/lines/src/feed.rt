@@ -11,8 +11,8 @@ use crate::input::{LineRead, heard_at_end, line_kind};
 use crate::part::Part;
 use forms::LineFault;
 use json::Scratch;
-use model::{MAX_LINE_BYTES, Step};
-use quick_forms::read_step;
+use model::{AddressedStep, MAX_LINE_BYTES, Step};
+use quick_forms::read_addressed;
 use std::alloc::Global;
 use std::io::BufRead;
 
@@ -40,8 +40,8 @@ pub fn read_feed<R: BufRead>(
         match feed_line(reader, &mut held)? {
             LineRead::End => return Ok(found),
             kind => {
-                let step = read_heard(alloc, &mut scratch, kind, held.as_slice());
-                if found.push(step).is_err() {
+                let read = read_heard(alloc, &mut scratch, kind, held.as_slice());
+                if found.push(in_one_piece(read)).is_err() {
                     return Err(ServeFault::NoMemory);
                 }
             }
@@ -56,12 +56,22 @@ pub fn read_heard(
     scratch: &mut Scratch,
     kind: LineRead,
     held: &[u8],
-) -> Result<Step, LineFault>
+) -> Result<AddressedStep, LineFault>
     ensures { IsReading kind held.now result }
 {
     match kind {
-        LineRead::Line => read_step(alloc, scratch, held),
+        LineRead::Line => read_addressed(alloc, scratch, held),
         LineRead::Long | LineRead::End => Err(LineFault::Bad),
+    }
+}
+
+/// The step that was read, in one piece, as a list keeps it.
+fn in_one_piece(read: Result<AddressedStep, LineFault>) -> Result<Step, LineFault>
+    ensures { result ≡ read }
+{
+    match read {
+        Ok(step) => Ok(step.into_step()),
+        Err(fault) => Err(fault),
     }
 }
 

@@ -9,7 +9,7 @@
 //! - `part` and `input`: a line is read a part at a time, in one buffer whatever its length.
 //! - `read_line`, `put_reply`, `put_bytes`, `flush_unless`: what another loop over lines is made of, as `driver` has
 //!   one; `fill`, `Part`, `line_kind`, `heard_at_end`, `read_heard`: what a loop is made of that reads a line in
-//!   parts; `step_host`: what does a step that was read apart.
+//!   parts.
 //! - `read_step`, `write_reply` and `LineFault` are those of `forms`: what one line means.
 //!
 //! A line ends at a line feed, which is no part of it; what follows the last line feed is a line
@@ -44,4 +44,4 @@ pub use forms::{LineFault, read_step, write_reply};
 pub use fuse_reader::FuseReader;
 pub use input::{LineRead, heard_at_end, line_kind, read_line};
 pub use part::Part;
-pub use serving::{fault_reply, memory_aside, put_reply, serve, serve_host, step_host};
+pub use serving::{fault_reply, memory_aside, put_reply, serve, serve_host};

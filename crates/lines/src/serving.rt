@@ -24,12 +24,11 @@ use book::{Book, Host};
 use forms::LineFault;
 use handler::Handler;
 use json::Scratch;
-use model::{MAX_LINE_BYTES, Refusal, Reply};
-use quick_forms::{AddressedStep, read_addressed, write_reply};
+use model::{AddressedStep, MAX_LINE_BYTES, Refusal, Reply};
+use quick_forms::{read_addressed, write_reply};
 use shared_log::Store;
 use std::alloc::Global;
 use std::io::{BufRead, Write};
-use std::mem;
 
 /// Answers each line of the input, in order, and tells how many there were.
 ///
@@ -93,17 +92,8 @@ pub fn serve_host<R: BufRead, W: Write, H: Handler, S: Store>(
         &|host: &mut Host<H, S>, step: AddressedStep| -> Reply
             ensures { (who : WhoOf) → Carries (IsHostOf H.meaning)
                 (EntersHonestly H.meaning who step result) host.entry.now host.exit.now }
-        { step_host(host, step) },
+        { host.step(step) },
     )
-}
-
-/// Does a step that was read, by a host, as `Host::step` does.
-#[inline(always)]
-pub fn step_host<H: Handler, S: Store>(host: &mut Host<H, S>, step: AddressedStep) -> Reply
-    ensures { HostDoes H.meaning host.old step result host.new }
-{
-    let (name, own_step) = step.into_parts();
-    host.step_own(&name, own_step)
 }
 
 // The same by whatever a function does steps on.
@@ -188,12 +178,12 @@ fn serve_line<R: BufRead, W: Write, B, F: Fn(&mut B, AddressedStep) -> Reply>(
             let reply = Reply::Refused {
                 refusal: Refusal::BadLine,
             };
-            put_reply(alloc, writer, text, &reply)?;
+            put_reply(writer, text, &reply)?;
             Ok(true)
         }
         LineRead::Line => {
             let reply = answer_line(alloc, book, step, scratch, held.as_slice());
-            put_reply(alloc, writer, text, &reply)?;
+            put_reply(writer, text, &reply)?;
             Ok(true)
         }
     }
@@ -203,7 +193,6 @@ fn serve_line<R: BufRead, W: Write, B, F: Fn(&mut B, AddressedStep) -> Reply>(
 /// held is gone. `NoMemory` comes where there is none for the text, and `Write` only where the writer failed; a
 /// beginning of the line may be written then.
 pub fn put_reply<W: Write>(
-    alloc: Global,
     writer: &mut Counted<W>,
     text: &mut Vec<u8>,
     reply: &Reply,
@@ -216,30 +205,11 @@ pub fn put_reply<W: Write>(
     ensures read { result ≢ Err ServeFault.Read }
     ensures same { result ≢ Err ServeFault.Write → writer.new.failed ≡ writer.old.failed }
 {
-    let mut room = mem::replace(text, Vec::new(alloc));
-    room.clear();
-    let Ok(mut line) = write_reply(room, reply) else {
-        return Err(ServeFault::NoMemory);
-    };
-    if line.push(b'\n').is_err() {
+    text.clear();
+    if write_reply(text, reply).is_err() || text.push(b'\n').is_err() {
         return Err(ServeFault::NoMemory);
     }
-    let put = put_bytes(writer, line.as_slice());
-    *text = line;
-    put
-}
-
-// Does one step.
-#[inline(always)]
-fn do_step<B, F: Fn(&mut B, AddressedStep) -> Reply>(
-    book: &mut B,
-    step: &F,
-    read: AddressedStep,
-) -> Reply
-    requires { TakesSteps F.Fn step.now }
-    ensures { DoesBy F.Fn step.now book.old read result book.new }
-{
-    step(book, read)
+    put_bytes(writer, text.as_slice())
 }
 
 // Does what a line says.
@@ -256,7 +226,7 @@ fn answer_line<B, F: Fn(&mut B, AddressedStep) -> Reply>(
     ensures { AnsweredLineBy (DoesBy F.Fn step.now) line.now book.old result book.new }
 {
     match read_addressed(alloc, scratch, line) {
-        Ok(read) => do_step(book, step, read),
+        Ok(read) => step(book, read),
         Err(fault) => fault_reply(fault),
     }
 }

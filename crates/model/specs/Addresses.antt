@@ -20,3 +20,17 @@ addressed (Restart tenant unit) = (tenant, Restart unit)
 addressed (Notice tenant unit) = (tenant, Notice unit)
 addressed (Release tenant unit) = (tenant, Release unit)
 addressed (Status tenant unit) = (tenant, Status unit)
+
+-- the step that names the tenant, and is this one without that name
+abbrev pub whole : List ℕ → TenantStep → Step
+whole tenant (Open kinds quota optimism) = Open tenant kinds quota optimism
+whole tenant (Join kind) = Join tenant kind
+whole tenant (Post unit number text) = Post unit number tenant text
+whole tenant (Deliver letter) = Deliver tenant letter
+whole tenant (Flush unit) = Flush tenant unit
+whole tenant (Checkpoint unit) = Checkpoint tenant unit
+whole tenant (Kill unit) = Kill tenant unit
+whole tenant (Restart unit) = Restart tenant unit
+whole tenant (Notice unit) = Notice tenant unit
+whole tenant (Release unit) = Release tenant unit
+whole tenant (Status unit) = Status tenant unit

@@ -8,6 +8,7 @@
 //! examples are computed in `proofs/Rows`. `proofs/Places` has small lemmas that the crates above share.
 #![tactic(auto)]
 
+mod addressed;
 mod fault;
 mod kept;
 mod limits;
@@ -21,6 +22,7 @@ mod short_list;
 mod steps;
 mod text;
 
+pub use addressed::AddressedStep;
 pub use fault::NoMemory;
 pub use kept::Kept;
 pub use limits::{

@@ -1,5 +1,4 @@
 -- What each module is about, and in brackets the lemma to look at first.
--- Apart: a step taken apart, and put together again (`addressed_of_whole`).
 -- NoBrace: a text that begins with neither a space nor a brace that opens is no step (`begins_no_object`).
 -- NoStep: what tokens are no step: those of no object, and of one without the verb (`nothing_is_no_step`).
 -- Turns: the grammar's loop over the members, a turn at a time, and the members that were seen (`members_over`).
@@ -9,7 +8,6 @@
 -- Plain: steps whose names and texts need no escape: what they are read from is the shortest text of what stands
 --   behind the verb (`post_is`).
 -- Compact: lines in their shortest form are steps by their tokens (`step_of_text`).
-pub mod Apart
 mod NoBrace
 mod NoStep
 mod Turns

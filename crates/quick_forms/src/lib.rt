@@ -3,19 +3,16 @@
 //! What a line means is said by `forms`, and stays what `serde_json` reads and writes: these functions have the clauses
 //! of `forms`, and take its way where a line is none of the quick ones.
 //!
-//! - `read_step` (`steps`): the step that a line is; quick are `post`, `deliver`, `join` and the steps that name a
-//!   tenant and a unit alone, with whole numbers, and their keys in any order. Those in their shortest form
-//!   (`shortest`) are compared with it. `read_addressed` gives it apart, as an `AddressedStep`: the name of its tenant,
-//!   and the tenant's own step.
+//! - `read_addressed` (`steps`): the step that a line is, apart; quick are `post`, `deliver`, `join` and the steps that
+//!   name a tenant and a unit alone, with whole numbers, and their keys in any order. Those in their shortest form
+//!   (`shortest`) are compared with it.
 //! - `write_reply` (`replies`): the line that tells a reply, put behind what a buffer holds: the words of its text, and
 //!   its numbers, names and texts between them.
 #![tactic(auto)]
 
-mod addressed;
 mod replies;
 mod shortest;
 mod steps;
 
-pub use addressed::AddressedStep;
 pub use replies::write_reply;
-pub use steps::{read_addressed, read_step};
+pub use steps::read_addressed;

@@ -22,18 +22,10 @@ use json::Writer;
 use model::{Letter, Mark, NoMemory, Refusal, Reply, Start, Text};
 use std::mem;
 
-/// The buffer with the line that tells a reply after what it held, without a line feed at its end: the text that
-/// `forms::write_reply` gives. The only error is want of memory; the buffer is gone then.
-pub fn write_reply(out: Vec<u8>, reply: &Reply) -> Result<Vec<u8>, NoMemory>
-    ensures { IfOk result (λ b. b.items ≡ out.items ++ reply_text reply.now) }
-{
-    let mut line = out;
-    put(&mut line, reply)?;
-    Ok(line)
-}
-
+/// Puts the line that tells a reply, without a line feed, behind what a buffer holds: the text that
+/// `forms::write_reply` gives. The only error is want of memory; a beginning of the line may stand there then.
 #[tactic(auto, using(crate::proofs::Written::opened_text, crate::proofs::Written::joined_text, crate::proofs::Written::flushed_text, crate::proofs::Written::killed_text))]
-fn put(out: &mut Vec<u8>, reply: &Reply) -> Result<(), NoMemory>
+pub fn write_reply(out: &mut Vec<u8>, reply: &Reply) -> Result<(), NoMemory>
     ensures { OnOk result (out.new.items ≡ out.old.items ++ reply_text reply.now) }
 {
     match reply {
@@ -250,25 +242,18 @@ fn number_after(out: &mut Vec<u8>, before: &str, n: u64) -> Result<(), NoMemory>
     Ok(())
 }
 
+/// The digits of a number. Most have one, which needs no room.
 #[inline(always)]
+#[tactic(auto, using(std::proofs::lemmas::Fmt::decimal_digit))]
 fn digits(out: &mut Vec<u8>, n: u64) -> Result<(), NoMemory>
     ensures { OnOk result (out.new.items ≡ out.old.items ++ decimal n) }
 {
     if n < 10 {
-        return digit(out, n as u8);
+        out.push(b'0' + n as u8)?;
+        return Ok(());
     }
     let mut room = Buffer::new();
     words(out, room.format(n))
-}
-
-/// The one digit of a small number, as most are.
-#[tactic(auto, using(std::proofs::lemmas::Fmt::decimal_digit))]
-fn digit(out: &mut Vec<u8>, n: u8) -> Result<(), NoMemory>
-    requires { n < 10 }
-    ensures { OnOk result (out.new.items ≡ out.old.items ++ decimal n) }
-{
-    out.push(b'0' + n)?;
-    Ok(())
 }
 
 #[inline(always)]

@@ -8,9 +8,8 @@ ghost use Rattle.json.specs.Print.{escape, escape_byte, quoted as quoted_text};
 ghost use Rattle.quick_forms.specs.Seen.{step_of_tokens};
 ghost use Rattle.quick_forms.specs.Tails.{post_tail, deliver_tail, place_tail};
 
-use crate::addressed::AddressedStep;
 use crate::steps::{delivery, place, posted};
-use model::NoMemory;
+use model::{AddressedStep, NoMemory};
 use std::alloc::Global;
 
 /// How long a line may be that is compared byte by byte. The tokens of a longer one are found faster.

@@ -14,12 +14,11 @@ ghost use Rattle.forms.specs.declared.fault.LineFault as LineFault;
 ghost use Rattle.quick_forms.specs.Seen.{seen_members, read_tokens, step_of_tokens, whole_data, post_data};
 ghost use Rattle.quick_forms.specs.Seen.{deliver_data, join_data, place_data};
 
-use crate::addressed::AddressedStep;
 use crate::shortest::shortest;
 use fast_float::Numeral;
 use forms::LineFault;
 use json::{Invalid, Reader, Scratch, Token};
-use model::{Letter, MAX_INDEX, NoMemory, Step, TenantName, TenantStep, Text, Unit};
+use model::{AddressedStep, Letter, MAX_INDEX, NoMemory, TenantName, TenantStep, Text, Unit};
 use std::alloc::Global;
 
 /// From how many bytes on many are looked at together. Of fewer the standard library tells as fast, with less around
@@ -38,20 +37,11 @@ struct Seen<'a> {
     unit: Option<u64>,
 }
 
-/// The step that a line is, as `forms::read_step` reads it. The scratch is kept from line to line.
+/// The step that a line is, apart, as `forms::read_addressed` reads it. The scratch is kept from line to line.
 ///
-/// `Bad` comes exactly where it is no step. `NoMemory` comes where a growth was refused first, and
-/// says nothing of the line.
-pub fn read_step(alloc: Global, scratch: &mut Scratch, line: &[u8]) -> Result<Step, LineFault>
-    ensures { Gives (λ s. s) result (step_of_line line.now) }
-{
-    match read_addressed(alloc, scratch, line) {
-        Ok(step) => Ok(step.into_step()),
-        Err(fault) => Err(fault),
-    }
-}
-
-/// The same, apart: whoever has a tenant do the step takes it so.
+/// # Errors
+///
+/// `Bad` exactly where the line is no step. `NoMemory` where a growth was refused first, and says nothing of the line.
 pub fn read_addressed(
     alloc: Global,
     scratch: &mut Scratch,
@@ -71,17 +61,7 @@ pub fn read_addressed(
     let mut reader = Reader::new(text, scratch)?;
     match quick(alloc, &mut reader) {
         Ok(Some(step)) => Ok(step),
-        Ok(None) => by_form(alloc, line),
-        Err(fault) => Err(fault),
-    }
-}
-
-/// The step that a line is, by the tree of its value.
-fn by_form(alloc: Global, line: &[u8]) -> Result<AddressedStep, LineFault>
-    ensures { Gives (λ s. s) result (step_of_line line.now) }
-{
-    match forms::read_step(alloc, line) {
-        Ok(step) => Ok(AddressedStep::of(&step)?),
+        Ok(None) => forms::read_addressed(alloc, line),
         Err(fault) => Err(fault),
     }
 }

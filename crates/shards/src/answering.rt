@@ -21,7 +21,7 @@ use crate::shard::Shard;
 use crate::writing::write_all;
 use handler::Handler;
 use lines::{Counted, LineFault, ServeFault};
-use model::Step;
+use model::AddressedStep;
 use shared_log::Store;
 use std::alloc::Global;
 use std::io::Write;
@@ -200,7 +200,7 @@ fn threads_for<H: Handler, S: Store>(shards: &[Shard<H, S>]) -> usize
 /// not read.
 fn deal_one<H: Handler, S: Store>(
     shards: &mut [Shard<H, S>],
-    read: Result<Step, LineFault>,
+    read: Result<AddressedStep, LineFault>,
 ) -> Place
     requires { 0 < length shards.old }
     ensures hosts { map (λ s. s.host) shards.new ≡ map (λ s. s.host) shards.old }

@@ -41,7 +41,8 @@ impl FaultLines {
 fn fault_line(alloc: Global, fault: LineFault) -> Result<Vec<u8>, OutOfMemory>
     ensures { IfOk result (λ line. line.items ≡ reply_line (reply_upon fault)) }
 {
-    let mut line = write_reply(Vec::new(alloc), &fault_reply(fault))?;
+    let mut line = Vec::new(alloc);
+    write_reply(&mut line, &fault_reply(fault))?;
     line.push(b'\n')?;
     Ok(line)
 }

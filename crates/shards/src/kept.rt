@@ -7,7 +7,7 @@ ghost use Rattle.shards.specs.Kept.{IsKept, IsReadAt, StandsIn, kept_in};
 use crate::span::Span;
 use json::Scratch;
 use lines::{LineFault, LineRead, read_heard};
-use model::{NoMemory, Step};
+use model::{AddressedStep, NoMemory};
 use std::alloc::Global;
 use std::marker::Model;
 
@@ -81,7 +81,7 @@ impl Lines {
         alloc: Global,
         scratch: &mut Scratch,
         at: usize,
-    ) -> Result<Step, LineFault>
+    ) -> Result<AddressedStep, LineFault>
         requires { at < length self.now }
         ensures { IsReadAt self.now at result }
     {

@@ -6,7 +6,7 @@ ghost use Rattle.shards.specs.Kept.{AreReadFrom, IsReadAt};
 use crate::kept::Lines;
 use json::Scratch;
 use lines::LineFault;
-use model::Step;
+use model::AddressedStep;
 use std::alloc::Global;
 use std::collections::VecDeque;
 use std::thread;
@@ -17,7 +17,7 @@ use std::thread::Threads;
 pub(crate) struct Reader {
     alloc: Global,
     scratch: Scratch,
-    pub found: VecDeque<Result<Step, LineFault>>,
+    pub found: VecDeque<Result<AddressedStep, LineFault>>,
 }
 
 impl Reader {
@@ -45,7 +45,7 @@ impl Reader {
     }
 
     /// What was read of the next line, which stands at this place, or what is told of a line that was left out.
-    pub(crate) fn next(&mut self, lines: &Lines, at: usize) -> Result<Step, LineFault>
+    pub(crate) fn next(&mut self, lines: &Lines, at: usize) -> Result<AddressedStep, LineFault>
         requires within { at < length lines.now }
         requires read { AreReadFrom lines.now at self.old.found.items }
         ensures read { IsReadAt lines.now at result }

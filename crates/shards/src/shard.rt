@@ -7,7 +7,7 @@ use crate::stepping::{answer_step, pass_step};
 use book::Host;
 use driver::Driver;
 use handler::Handler;
-use model::{NoMemory, Step};
+use model::{AddressedStep, NoMemory};
 use shared_log::Store;
 use std::alloc::Global;
 use std::collections::VecDeque;
@@ -19,7 +19,7 @@ pub(crate) struct Shard<H: Handler, S: Store> {
     alloc: Global,
     pub host: Host<H, S>,
     pub driver: Driver,
-    pub steps: VecDeque<Step>,
+    pub steps: VecDeque<AddressedStep>,
     pub bytes: Vec<u8>,
     pub lens: Vec<usize>,
     text: Vec<u8>,
@@ -43,7 +43,7 @@ impl<H: Handler, S: Store> Shard<H, S> {
     }
 
     /// Takes one step more, to be done behind the others. Where there is no memory for it, it is gone.
-    pub(crate) fn take(&mut self, step: Step) -> Result<(), NoMemory>
+    pub(crate) fn take(&mut self, step: AddressedStep) -> Result<(), NoMemory>
         ensures host { self.new.host ≡ self.old.host }
         ensures ok { OnOk result (self.new.steps.items ≡ self.old.steps.items ++ step ∷ []) }
         ensures err { OnErr result (self.new.steps.items ≡ self.old.steps.items) }
@@ -68,7 +68,7 @@ impl<H: Handler, S: Store> Shard<H, S> {
     }
 
     /// Does one step, and adds its answer where there was memory for those before it.
-    fn answer(&mut self, step: Step, drives: bool, is_full: &mut bool)
+    fn answer(&mut self, step: AddressedStep, drives: bool, is_full: &mut bool)
         ensures steps { self.new.steps.items ≡ self.old.steps.items }
         ensures done { (answer : List ℕ) × Tells H.meaning drives self.old.host step answer self.new.host
             × TellsMore is_full.old is_full.new answer

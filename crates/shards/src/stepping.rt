@@ -9,7 +9,7 @@ use book::Host;
 use driver::{Driver, drive_host_step};
 use handler::Handler;
 use lines::Counted;
-use model::{NoMemory, Reply, Step};
+use model::{AddressedStep, NoMemory, Reply};
 use quick_forms::write_reply;
 use shared_log::Store;
 use std::alloc::Global;
@@ -21,13 +21,10 @@ fn add_line(text: &mut Vec<u8>, bytes: &mut Vec<u8>, reply: &Reply) -> Result<()
     ensures ok { OnOk result (bytes.new.items ≡ bytes.old.items ++ reply_line reply.now) }
     ensures err { OnErr result (bytes.new.items ≡ bytes.old.items) }
 {
-    let empty = Vec::new(*text.allocator());
-    let mut room = mem::replace(text, empty);
-    room.clear();
-    let mut line = write_reply(room, reply)?;
-    line.push(b'\n')?;
-    bytes.extend_from_slice(line.as_slice())?;
-    *text = line;
+    text.clear();
+    write_reply(text, reply)?;
+    text.push(b'\n')?;
+    bytes.extend_from_slice(text.as_slice())?;
     Ok(())
 }
 
@@ -38,7 +35,7 @@ fn drive_step<H: Handler, S: Store>(
     driver: &mut Driver,
     text: &mut Vec<u8>,
     bytes: &mut Vec<u8>,
-    step: Step,
+    step: AddressedStep,
 ) -> Result<(), NoMemory>
     ensures ok { OnOk result ((round : Round) × IsStepRound (HostDoes H.meaning) step host.old round host.new
         × (bytes.new.items ≡ bytes.old.items ++ round_text round)) }
@@ -67,7 +64,7 @@ pub(crate) fn answer_step<H: Handler, S: Store>(
     driver: &mut Driver,
     text: &mut Vec<u8>,
     bytes: &mut Vec<u8>,
-    step: Step,
+    step: AddressedStep,
     drives: bool,
 ) -> Result<(), NoMemory>
     ensures ok { OnOk result ((answer : List ℕ) × Tells H.meaning drives host.old step answer host.new
@@ -83,7 +80,7 @@ pub(crate) fn answer_step<H: Handler, S: Store>(
 }
 
 /// Does a step of which nothing is written, behind one whose answer found no memory. No driver carries on behind it.
-pub(crate) fn pass_step<H: Handler, S: Store>(host: &mut Host<H, S>, step: Step)
+pub(crate) fn pass_step<H: Handler, S: Store>(host: &mut Host<H, S>, step: AddressedStep)
     ensures { (drives : _) → (answer : List ℕ) × Tells H.meaning drives host.old step answer host.new }
 {
     host.step(step);

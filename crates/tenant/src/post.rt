@@ -18,7 +18,7 @@ use crate::tenant::Tenant;
 use handler::{AskRef, Handler, Turn};
 use model::{NoMemory, Refusal, Source, TenantName, Text, Unit};
 use std::alloc::Global;
-use unit_steps::post_refusal;
+use unit_steps::arrival_refusal;
 
 impl<H: Handler> Tenant<H> {
     /// The turn that a post needs, or why it needs none.
@@ -42,9 +42,10 @@ impl<H: Handler> Tenant<H> {
                 return Err(Refusal::NoUnit);
             }
         };
-        match post_refusal(
+        match arrival_refusal(
             self.quota.volatile,
             member.unit_state(),
+            Source::Outside,
             u64::from(number),
             text,
         ) {

@@ -21,5 +21,5 @@ pub use frontier::frontier_after;
 pub use letters::{Content, SentLetter, letters_by};
 pub use new_letters::NewLetters;
 pub use receipt::{mark_upon, vector_upon};
-pub use refusals::{TenantView, letter_refusal, post_refusal, turn_refusal};
+pub use refusals::{TenantView, arrival_refusal, letter_refusal, turn_refusal};
 pub use sent_letters::{LetterRef, SentLetters};

@@ -50,23 +50,15 @@ fn any_long_send(sends: &[(Unit, Text)]) -> bool
     sends.iter().any(|s| is_long(&s.1))
 }
 
-/// Whether these are more together than a turn may have.
-fn are_many(sends: usize, outputs: usize) -> bool
-    ensures { result ≡ nat_lt MAX_TURN_EFFECTS (sends + outputs) }
-{
-    outputs > MAX_TURN_EFFECTS || sends > MAX_TURN_EFFECTS - outputs
-}
-
 fn is_large<S>(turn: &Turn<S>) -> bool
     ensures { result ≡ is_large_turn turn.now }
 {
-    if are_many(turn.sends().len(), turn.outputs().len()) {
+    let sends = turn.sends();
+    let outputs = turn.outputs();
+    if outputs.len() > MAX_TURN_EFFECTS || sends.len() > MAX_TURN_EFFECTS - outputs.len() {
         return true;
     }
-    if any_long_send(turn.sends()) {
-        return true;
-    }
-    any_long(turn.outputs())
+    any_long_send(sends) || any_long(outputs)
 }
 
 /// How many sends are to units within the width.
@@ -101,8 +93,9 @@ fn forgotten_refusal<H: Handler>(unit: &RecoveryUnit<H>) -> Option<Refusal>
     }
 }
 
-/// The refusal of a receipt by its number and for want of room.
-fn arrival_refusal<H: Handler>(
+/// Why a receipt is refused before its turn is worked, by its number and for want of room. Of a post it is all.
+#[tactic(auto, unfolding(model::specs::Steps::first_refusal))]
+pub fn arrival_refusal<H: Handler>(
     volatile_quota: u32,
     unit: &RecoveryUnit<H>,
     source: Source,
@@ -112,27 +105,10 @@ fn arrival_refusal<H: Handler>(
     ensures refusal { result ≡ arrival_refusal_of volatile_quota unit.now source number text.now unit.now.progress }
     ensures room { IfNone result (places unit.now < 2 ^ 32) }
 {
-    match unit.progress() {
-        Some(progress) => arrival_refusal_up(volatile_quota, unit, progress, source, number, text),
-        None => Some(Refusal::Down),
-    }
-}
-
-/// The same of a unit that is up.
-#[tactic(auto, unfolding(model::specs::Steps::first_refusal))]
-fn arrival_refusal_up<H: Handler>(
-    volatile_quota: u32,
-    unit: &RecoveryUnit<H>,
-    progress: &Progress<H::State>,
-    source: Source,
-    number: u64,
-    text: &Text,
-) -> Option<Refusal>
-    ensures refusal { result ≡ first_refusal (tests_of_number (taken_from progress.now.sessions source) number
-        ++ receipt_room_tests volatile_quota unit.now text.now) }
-    ensures room { IfNone result (places unit.now < 2 ^ 32) }
-{
-    let count = progress.sessions.taken(source);
+    let count = match unit.progress() {
+        Some(progress) => progress.sessions.taken(source),
+        None => return Some(Refusal::Down),
+    };
     if number < count {
         Some(Refusal::Repeat)
     } else if count < number {
@@ -146,19 +122,6 @@ fn arrival_refusal_up<H: Handler>(
     } else {
         None
     }
-}
-
-/// Why a post is refused before its turn is worked.
-pub fn post_refusal<H: Handler>(
-    volatile_quota: u32,
-    unit: &RecoveryUnit<H>,
-    number: u64,
-    text: &Text,
-) -> Option<Refusal>
-    ensures refusal { result ≡ post_refused volatile_quota unit.now number text.now }
-    ensures room { IfNone result (places unit.now < 2 ^ 32) }
-{
-    arrival_refusal(volatile_quota, unit, Source::Outside, number, text)
 }
 
 /// Whether a letter depends on more unstable units than the optimism lets through, or on more units than there are.

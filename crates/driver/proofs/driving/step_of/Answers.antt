@@ -1,7 +1,7 @@
 use Rattle.std.proofs.Common.{◌∙◌, ap}
 use Rattle.flows.specs.Chores.{chore_step}
-use Rattle.quick_forms.specs.Apart.{whole}
-use Rattle.quick_forms.proofs.Apart.{whole_is}
+use Rattle.model.specs.Addresses.{whole}
+use Rattle.model.proofs.Apart.{whole_is}
 use Rattle.driver.proofs.driving.step_of.Goals as goal
 
 pub returns : goal.returns

@@ -13,8 +13,8 @@ loop-found-init g c = record {
 pub loop-found-preserved : goal.loop-found-preserved
 loop-found-preserved g c =
     let so_far = c.loop-found.invariant.read in
-    let grown : c.push.new.self.items ≡ c.loop-found.found.items ++ c.read_heard-step.result ∷ [] = search rules in
-    let is = rw c.as_slice.ensures.value at c.read_heard-step.ensures in
+    let grown : c.push.new.self.items ≡ c.loop-found.found.items ++ c.in_one_piece.result ∷ [] = search rules in
+    let is = rw (c.as_slice.ensures.value, ← c.in_one_piece.ensures) at c.read_heard-read.ensures in
     record {
       room = c.feed_line.ensures.room;
       same = omega (arith, c.loop-found.invariant.same, c.in_ok-kind.ensures.same);

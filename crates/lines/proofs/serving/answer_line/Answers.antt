@@ -6,7 +6,7 @@ use Rattle.lines.proofs.serving.answer_line.Goals as goal
 
 pub returns-in-Ok : goal.returns-in-Ok
 returns-in-Ok g c = (
-  subst (λ s. AnsweredStepBy (DoesBy g.F.Fn c.args.step.now) s c.args.book.now c.do_step.result c.do_step.new.book)
-      (sym (line_step-held c.args.line.now c.requires.short ∙ c.in-Ok.ensures)) (inr c.do_step.ensures),
+  subst (λ s. AnsweredStepBy (DoesBy g.F.Fn c.args.step.now) s c.args.book.now c.step.result c.step.new.book)
+      (sym (line_step-held c.args.line.now c.requires.short ∙ c.in-Ok.ensures)) (inr c.step.ensures),
   λ long. absurd (omega (arith, long, c.requires.short)),
 )

@@ -1,6 +1,6 @@
 use Rattle.std.proofs.Common.{◌∙◌, sym, true≢false}
 use Rattle.forms.proofs.Lines.{step_of_line-read, step_of_line-none}
-use Rattle.forms.proofs.reading.read_step.Goals as goal
+use Rattle.forms.proofs.reading.read_addressed.Goals as goal
 
 pub returns-in-Ok : goal.returns-in-Ok
 returns-in-Ok c = rw (step_of_line-read c.args.line.now _ c.in-Ok.ensures.ok.0 c.in-Ok.ensures.ok.1) c.step.ensures

@@ -1,7 +1,7 @@
 use Rattle.std.proofs.Common.{subst, sym, OnOk, ◌≡◌, ◌++◌}
 use Rattle.model.specs.declared.replies.Reply.{Reply}
 use Rattle.forms.specs.Writing.{reply_text}
-use Rattle.quick_forms.proofs.replies.put.Goals as goal
+use Rattle.quick_forms.proofs.replies.write_reply.Goals as goal
 
 pub returns-in-Status : goal.returns-in-Status
 returns-in-Status c =

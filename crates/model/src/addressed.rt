@@ -1,13 +1,13 @@
-//! A step that was read, apart.
+//! A step, apart.
 
-ghost use Rattle.std.specs.Prelude.{◌≡◌, IfOk};
-ghost use Rattle.model.specs.Addresses.{addressed};
-ghost use Rattle.quick_forms.specs.Apart.{whole};
+ghost use Rattle.std.specs.Prelude.{◌≡◌};
+ghost use Rattle.model.specs.Addresses.{addressed, whole};
 
-use model::{NoMemory, Step, TenantName, TenantStep};
+use crate::steps::{Step, TenantStep};
+use crate::text::TenantName;
 use std::marker::Model;
 
-/// A step, apart where it was read: the name of its tenant, and the tenant's own step. Contracts see it as the step.
+/// A step, apart: the name of its tenant, and the tenant's own step. Contracts see it as the step.
 #[derive(Drop)]
 pub struct AddressedStep {
     tenant: TenantName,
@@ -16,7 +16,7 @@ pub struct AddressedStep {
 
 impl Model for AddressedStep {
     ghost use Rattle.model.specs.declared.steps.Step.{Step as StepOf};
-    ghost use Rattle.quick_forms.specs.Apart.{whole};
+    ghost use Rattle.model.specs.Addresses.{whole};
 
     ghost Value = { StepOf };
 
@@ -29,19 +29,6 @@ impl AddressedStep {
         ensures { result ≡ whole tenant own }
     {
         AddressedStep { tenant, own }
-    }
-
-    /// An equal step, apart.
-    ///
-    /// # Errors
-    ///
-    /// `NoMemory` where there are 2^63 - 1 copies of its texts already.
-    #[tactic(auto, using(crate::proofs::Apart::whole_of_addressed))]
-    pub fn of(step: &Step) -> Result<AddressedStep, NoMemory>
-        ensures { IfOk result (λ s. s ≡ step.now) }
-    {
-        let own = step.tenant_step()?;
-        Ok(AddressedStep::new(step.tenant().copy(), own))
     }
 
     /// The name of its tenant.
@@ -70,7 +57,7 @@ impl AddressedStep {
         (tenant, own)
     }
 
-    /// The step. Takes no memory.
+    /// The step, in one piece. Takes no memory.
     pub fn into_step(self) -> Step
         ensures { result ≡ self }
     {

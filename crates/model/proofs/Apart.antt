@@ -1,13 +1,12 @@
 -- A step taken apart, and put together again.
 use Rattle.std.proofs.Common.{◌≡◌, ◌∙◌, ℕ, List, ap, refl, sym}
-use Rattle.model.specs.Addresses.{addressed}
+use Rattle.model.specs.Addresses.{addressed, whole}
 use Rattle.model.specs.declared.steps.Step.{Step}
 use Rattle.model.specs.declared.steps.Step.TheVariants.{Open, Join, Post, Deliver, Flush, Checkpoint, Kill, Restart}
 use Rattle.model.specs.declared.steps.Step.TheVariants.{Notice, Release, Status}
 use Rattle.model.specs.declared.steps.TenantStep.{TenantStep}
 use Rattle.model.specs.declared.steps.TenantStep.TheVariants.{Open, Join, Post, Deliver, Flush, Checkpoint, Kill}
 use Rattle.model.specs.declared.steps.TenantStep.TheVariants.{Restart, Notice, Release, Status}
-use Rattle.quick_forms.specs.Apart.{whole}
 
 -- a name and a step put together are taken apart again
 pub addressed_of_whole : (tenant : List ℕ) (own : TenantStep) → addressed (whole tenant own) ≡ (tenant, own)
