@@ -11,6 +11,7 @@ pub struct NoZeros<R> {
 }
 
 impl<R> NoZeros<R> {
+    /// One over this reader, from where it stands. Takes no memory.
     pub fn new(inner: R) -> NoZeros<R> {
         NoZeros { inner }
     }

@@ -66,26 +66,6 @@ pub(crate) fn ask_upon<'a, H: Handler>(
 }
 
 impl<H: Handler> Tenant<H> {
-    /// What a receipt is answered, whose turn makes so many letters.
-    fn reply_upon(
-        &self,
-        alloc: Global,
-        by: &Receiver<'_, H>,
-        made: usize,
-        turn: &Turn<H::State>,
-    ) -> Result<PendingAccept, NoMemory>
-        requires mark { by.now.mark ≡ next_mark_of self.now by.now.unit by.now.member.now }
-        requires held { length by.now.member.now.outputs + length turn.now.outputs < 2 ^ 32 }
-        requires letters { length self.now.letters + length (sends_within (length self.now.members) turn.now) < 2 ^ 32 }
-        requires made { made ≡ length (sends_within (length self.now.members) turn.now) }
-        ensures reply { IfOk result (λ a. a.reply ≡ next_reply_of self.now by.now.unit by.now.member.now turn.now) }
-        ensures plain { IfOk result IsPlain }
-    {
-        let letters = Letters::from_first(alloc, self.letters.len(), made)?;
-        let held = by.member.held_count() as u64 + turn.outputs().len() as u64;
-        PendingAccept::new(alloc, by.mark, held, letters)
-    }
-
     /// What a receipt adds and answers that passed all tests, where the unit's sessions are these.
     fn plan(
         &self,
@@ -121,7 +101,9 @@ impl<H: Handler> Tenant<H> {
             turn.sends(),
             by.width,
         )?;
-        let answer = self.reply_upon(alloc, by, made.len(), turn)?;
+        let letters = Letters::from_first(alloc, self.letters.len(), made.len())?;
+        let held = by.member.held_count() as u64 + turn.outputs().len() as u64;
+        let answer = PendingAccept::new(alloc, by.mark, held, letters)?;
         let logged = RecordDraft {
             unit: by.unit,
             mark: by.mark,
