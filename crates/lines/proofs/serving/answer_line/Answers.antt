@@ -13,7 +13,7 @@ returns-in-Ok g c =
       call = c.step.ensures;
       left = refl;
     } in (
-  subst (λ s. AnsweredStepBy (DoesBy g.F.Fn c.args.step.now) s c.args.book.now c.step.result c.step.new.arg2)
-      (sym (line_step-held c.args.line.now c.requires.short ∙ c.in-Ok.ensures)) (inr does),
-  λ long. absurd (omega (arith, long, c.requires.short)),
-)
+      subst (λ s. AnsweredStepBy (DoesBy g.F.Fn c.args.step.now) s c.args.book.now c.step.result c.step.new.arg2)
+          (sym (line_step-held c.args.line.now c.requires.short ∙ c.in-Ok.ensures)) (inr does),
+      λ long. absurd (omega (arith, long, c.requires.short)),
+    )
