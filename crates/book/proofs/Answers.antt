@@ -1,6 +1,6 @@
 -- What the calls of a tenant say of a tenant that may be unopened.
 use Rattle.std.proofs.Common.{◌≡◌, ◌≤◌, ◌⊎◌, ◌+◌, inl, inr, ℕ, List, [], ◌∷◌, Bool, true, false, if◌then◌else◌, refl}
-use Rattle.std.proofs.Common.{sym, ap, subst}
+use Rattle.std.proofs.Common.{◌∙◌, ◌++◌, append-nil, sym, ap, subst}
 use Rattle.std.specs.Prelude.{Option, None, Some, Result, Ok, Err, IfOk, IfSome, IsOkAnd, IsSomeAnd, OnErr, bytes_eq}
 use Rattle.model.specs.Alone.{step_open}
 use Rattle.model.specs.Handler.{Meaning}
@@ -18,8 +18,13 @@ use Rattle.model.specs.declared.steps.TenantStep.TheVariants.{Open}
 use Rattle.shared_log.specs.Logged.{Logged}
 use Rattle.tenant.specs.Outcomes.{done}
 use Rattle.tenant.specs.Answers.{Answer}
+use Rattle.tenant.specs.Live.{KeepsJust, OthersLive}
+use Rattle.tenant.specs.Past.{KeepsOn}
 use Rattle.tenant.specs.Stands.{TenantState, Stands, StandsAt, Did, IsOpened}
 use Rattle.book.specs.History.{DidAt, Holding, IsAnsweredAt, KeepsOthers, LogsAt, StepsAt, named_if_opened, opened_by}
+use Rattle.book.specs.Past.{KeepsJustAt, KeepsOnAt}
+use Rattle.book.proofs.Live.{just_open}
+use Rattle.book.proofs.PastKept.{keeps_open}
 
 -- what follows from a clause on `Ok`
 pub if_ok : {A E : Type 0} {P Q : A → Type 0} (r : Result A E) → ((a : A) → P a → Q a) → IfOk r P → IfOk r Q
@@ -170,6 +175,41 @@ module _ {S : Type 0} (M : Meaning S) where
       only_world None stands = did
       only_world (Some w) stands =
           absurd (subst (λ t. StandsAt M tenant t (Some w) log.records) (sym none) stands)
+
+  -- a step of an open tenant was done
+  pub answered_open : (name : List ℕ) (step : TenantStep) (said : Said) (answer : Reply) (old new : TenantState S)
+      (at after : List ℕ → Option (TenantState S)) (names names_after : List (List ℕ)) (log log_after : Logged)
+      → Some old ≡ at name → Some new ≡ after name → names_after ≡ names
+      → ((other : List ℕ) → bytes_eq other name ≡ false → after other ≡ at other)
+      → ((w : World) → Stands M name old w log.records → Did M name w new step said answer log log_after)
+      → KeepsOn M name old step said answer new log.records
+      → KeepsJust M name old step said answer log.records log_after.records
+      → ((k : TenantState S) (w : World) (other : List ℕ) → bytes_eq other name ≡ false
+      → Stands M other k w log.records → Stands M other k w log_after.records)
+      → OthersLive name log.records log_after.records
+      → log.failures ≤ log_after.failures → ((said.end ≡ Device → ⊥) → log_after.failures ≡ log.failures)
+      → log_after.failures ≤ log.failures + 1
+      → IsAnsweredAt M name step said answer (record { at = at; names = names; log = log })
+      (record { at = after; names = names_after; log = log_after })
+  answered_open name step said answer old new at after names names_after log log_after here there same others did
+      keeps just others_stand others_live up steady once =
+      record {
+        did = λ w stands. let stood = subst (λ t. StandsAt M name t w log.records) (sym here) stands in record {
+          steps = subst (λ t. StepsAt M name w t step said answer log_after.records) there
+              (steps_open name old new step said answer log log_after did w stood);
+          keeps = subst (λ t. KeepsOnAt M w t (record { step = step; said = said }) (after name)) here
+              (subst (λ t. KeepsOnAt M w (Some old) (record { step = step; said = said }) t) there
+              (keeps_open M name old new step said answer log log_after did keeps w stood));
+          just = subst (λ t. KeepsJustAt M name w t (record { step = step; said = said }) log.records
+              log_after.records) here (just_open M name old new step said answer log log_after did just w stood);
+          logs = logs_open name old new step said answer log log_after did up steady once w stood;
+          order = same ∙ sym (ap (λ (opened : List (List ℕ)). names ++ opened)
+              (unopened name old new step said answer log log_after did w stood) ∙ append-nil names);
+        };
+        others = others;
+        others_stand = keeps_others name log.records log_after.records others_stand;
+        others_live = others_live;
+      }
 
   -- what holds of each world that an open tenant stands for holds of the one that it has
   pub of_open : (name : List ℕ)

@@ -250,6 +250,24 @@ none_then old new name step t v was is others gives but =
       | false ↦ λ e. but.others other k e (sym (others other e) ∙ there)
     ] refl
 
+-- where no unit keeps a text, whatever the step was
+pub none_still : {S : Type 0} (at : List ℕ → Option (TenantState S)) (name : List ℕ) (step : TenantStep)
+    → KeepNoTexts at → KeepNoTextsBut name step at
+none_still at name step none = record {
+  own = λ k there unit texts has. inl (none name k there unit texts has);
+  others = λ other k apart there. none other k there;
+}
+
+-- where no unit kept a text, none does but the one that the tenant's step released
+pub none_but : {S : Type 0} (old new : List ℕ → Option (TenantState S)) (name : List ℕ) (step : TenantStep)
+    (t v : TenantState S) → old name ≡ Some t → new name ≡ Some v
+    → ((other : List ℕ) → bytes_eq other name ≡ false → new other ≡ old other)
+    → (KeepsNoText t → KeepsNoTextBut step v) → KeepNoTexts old → KeepNoTextsBut name step new
+none_but old new name step t v was is others leaves none = record {
+  own = λ k there. subst (KeepsNoTextBut step) (same_Some v k (sym is ∙ there)) (leaves (none name t was));
+  others = λ other k apart there. none other k (sym (others other apart) ∙ there);
+}
+
 -- where its tenant is not there
 pub none_there : {S : Type 0} (at : List ℕ → Option (TenantState S)) (name : List ℕ) (step : TenantStep)
     → at name ≡ None → KeepNoTextsBut name step at → KeepNoTexts at

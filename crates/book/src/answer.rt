@@ -3,7 +3,7 @@
 ghost use Rattle.std.specs.Prelude.{◌≡◌, ◌≤◌, [], ◌∷◌, ◌++◌, ℕ, List, IfOk, IfNone, IfSome, IsOk, OnOk, OnErr, Option};
 ghost use Rattle.std.specs.Prelude.{None, Some, false, bytes_eq};
 ghost use Rattle.indexmap.specs.IndexMap.{IsUnchanged, get, keys};
-ghost use Rattle.model.specs.Addresses.{addressed};
+ghost use Rattle.model.specs.Addresses.{addressed, whole};
 ghost use Rattle.model.specs.World.{World};
 ghost use Rattle.model.specs.declared.records.Record.{Record};
 ghost use Rattle.tenant.specs.Live.{OthersLive};
@@ -152,46 +152,9 @@ fn open_new<H: Handler>(
     }
 }
 
-/// Does a step of an open tenant.
-fn answer_open<H: Handler, S: Store>(
-    alloc: Global,
-    handler: &H,
-    tenant: &mut Tenant<H>,
-    name: &TenantName,
-    step: TenantStep,
-    log: &mut SharedLog<S>,
-) -> Result<Answer, NoMemory>
-    ensures steps { IfOk result (λ a. (w : Option World)
-        → StandsAt H.meaning name.now (Some tenant.old) w log.old.records
-        → StepsAt H.meaning name.now w (Some tenant.new) step a.said a.reply log.new.records) }
-    ensures keeps { IfOk result (λ a. (w : Option World)
-        → StandsAt H.meaning name.now (Some tenant.old) w log.old.records
-        → KeepsOnAt H.meaning w (Some tenant.old) (record { step = step; said = a.said }) (Some tenant.new)) }
-    ensures just { IfOk result (λ a. (w : Option World)
-        → StandsAt H.meaning name.now (Some tenant.old) w log.old.records
-        → KeepsJustAt H.meaning name.now w (Some tenant.old) (record { step = step; said = a.said })
-        log.old.records log.new.records) }
-    ensures logs { IfOk result (λ a. (w : Option World)
-        → StandsAt H.meaning name.now (Some tenant.old) w log.old.records
-        → LogsAt H.meaning name.now w step a.said log.old log.new) }
-    ensures unopened { IfOk result (λ a. (w : Option World)
-        → StandsAt H.meaning name.now (Some tenant.old) w log.old.records → opened_by name.now step a.reply ≡ []) }
-    ensures others_stand { KeepsOthers H.meaning name.now log.old.records log.new.records }
-    ensures others_live { OthersLive name.now log.old.records log.new.records }
-    ensures up { log.old.failures ≤ log.new.failures }
-    ensures kill { (unit : ℕ) → step ≡ TenantStep.Kill unit → IsOk result }
-    ensures err { OnErr result (tenant.new ≡ tenant.old) }
-    ensures err_log { OnErr result (log.new.records ≡ log.old.records) }
-    ensures err_failures { OnErr result (log.new.failures ≡ log.old.failures) }
-    ensures texts { KeepsTexts tenant.old → KeepsTexts tenant.new }
-    ensures none { KeepsNoText tenant.old → KeepsNoTextBut step tenant.new }
-{
-    tenant.step(alloc, handler, name, step, log)
-}
-
 /// Does a step of a tenant that is not open.
 #[tactic(auto, using(shared_log::proofs::LeftLaws::same_grows, crate::proofs::Live::unopened_just))]
-fn answer_unopened<H: Handler>(
+pub(crate) fn answer_unopened<H: Handler>(
     alloc: Global,
     handler: &H,
     tenants: &mut Tenants<H>,
@@ -229,26 +192,66 @@ pub(crate) fn step_within(step: &Step) -> Result<TenantStep, NoMemory>
     }
 }
 
-/// Does a step of the tenant of this name. Where no memory was found nothing is changed; a kill takes none.
-pub(crate) fn answer<H: Handler, S: Store>(
-    alloc: Global,
-    handler: &H,
-    tenants: &mut Tenants<H>,
-    log: &mut SharedLog<S>,
-    name: &TenantName,
-    step: TenantStep,
-) -> Result<Answer, NoMemory>
-    ensures answered { IfOk result (λ a. IsAnsweredAt H.meaning name.now step a.said a.reply
-        (holding tenants.old log.old) (holding tenants.new log.new)) }
-    ensures kill { (unit : ℕ) → step ≡ TenantStep.Kill unit → IsOk result }
-    ensures err { OnErr result (HoldsAsBefore (holding tenants.old log.old) (holding tenants.new log.new)) }
-    ensures texts { KeepTexts (get bytes_eq tenants.old) → KeepTexts (get bytes_eq tenants.new) }
-    ensures none { KeepNoTexts (get bytes_eq tenants.old) → KeepNoTextsBut name.now step (get bytes_eq tenants.new) }
+/// The step of the tenant of this name that is this one for the tenant, a copy. `NoMemory` comes where its texts can't
+/// be copied.
+pub(crate) fn whole_copy(name: &TenantName, own: &TenantStep) -> Result<Step, NoMemory>
+    ensures { IfOk result (λ s. s ≡ whole name.now own.now) }
 {
-    if let Some(tenant) = tenants.get_mut(name) {
-        return answer_open(alloc, handler, tenant, name, step, log);
+    let tenant = name.copy();
+    match own {
+        TenantStep::Open {
+            kinds,
+            quota,
+            optimism,
+        } => Ok(Step::Open {
+            tenant,
+            kinds: kinds.copy()?,
+            quota: *quota,
+            optimism: *optimism,
+        }),
+        TenantStep::Join { kind } => Ok(Step::Join {
+            tenant,
+            kind: kind.copy()?,
+        }),
+        TenantStep::Post { unit, number, text } => Ok(Step::Post {
+            unit: *unit,
+            number: *number,
+            tenant,
+            text: text.copy()?,
+        }),
+        TenantStep::Deliver { letter } => Ok(Step::Deliver {
+            tenant,
+            letter: *letter,
+        }),
+        TenantStep::Flush { unit } => Ok(Step::Flush {
+            tenant,
+            unit: *unit,
+        }),
+        TenantStep::Checkpoint { unit } => Ok(Step::Checkpoint {
+            tenant,
+            unit: *unit,
+        }),
+        TenantStep::Kill { unit } => Ok(Step::Kill {
+            tenant,
+            unit: *unit,
+        }),
+        TenantStep::Restart { unit } => Ok(Step::Restart {
+            tenant,
+            unit: *unit,
+        }),
+        TenantStep::Notice { unit } => Ok(Step::Notice {
+            tenant,
+            unit: *unit,
+        }),
+        TenantStep::Release { unit } => Ok(Step::Release {
+            tenant,
+            unit: *unit,
+        }),
+        TenantStep::Status { unit } => Ok(Step::Status {
+            tenant,
+            unit: *unit,
+        }),
     }
-    answer_unopened(alloc, handler, tenants, name, step)
 }
 
 /// Gives up the texts that a unit of the tenant of this name released, if both are there.
@@ -284,82 +287,4 @@ pub(crate) fn ask<H: Handler>(
     };
     let own_step = step.tenant_step()?;
     tenant.prepare(alloc, handler, &own_step)
-}
-
-/// Does a step of an open tenant by a turn that was worked, if it needs no other.
-fn answer_open_with<H: Handler, S: Store>(
-    alloc: Global,
-    handler: &H,
-    tenant: &mut Tenant<H>,
-    name: &TenantName,
-    step: TenantStep,
-    worked: Done<H>,
-    log: &mut SharedLog<S>,
-) -> Result<Option<Answer>, NoMemory>
-    ensures fresh { IfOk result (λ o. (w : Option World)
-        → StandsAt H.meaning name.now (Some tenant.old) w log.old.records
-        → WasFresh (needs_at H.meaning w step) worked.input o) }
-    ensures steps { IfOk result (λ o. IfSome o (λ a. (w : Option World)
-        → StandsAt H.meaning name.now (Some tenant.old) w log.old.records
-        → StepsAt H.meaning name.now w (Some tenant.new) step a.said a.reply log.new.records)) }
-    ensures keeps { IfOk result (λ o. IfSome o (λ a. (w : Option World)
-        → StandsAt H.meaning name.now (Some tenant.old) w log.old.records
-        → KeepsOnAt H.meaning w (Some tenant.old) (record { step = step; said = a.said }) (Some tenant.new))) }
-    ensures just { IfOk result (λ o. IfSome o (λ a. (w : Option World)
-        → StandsAt H.meaning name.now (Some tenant.old) w log.old.records
-        → KeepsJustAt H.meaning name.now w (Some tenant.old) (record { step = step; said = a.said })
-        log.old.records log.new.records)) }
-    ensures logs { IfOk result (λ o. IfSome o (λ a. (w : Option World)
-        → StandsAt H.meaning name.now (Some tenant.old) w log.old.records
-        → LogsAt H.meaning name.now w step a.said log.old log.new)) }
-    ensures unopened { IfOk result (λ o. IfSome o (λ a. (w : Option World)
-        → StandsAt H.meaning name.now (Some tenant.old) w log.old.records → opened_by name.now step a.reply ≡ [])) }
-    ensures others_stand { KeepsOthers H.meaning name.now log.old.records log.new.records }
-    ensures others_live { OthersLive name.now log.old.records log.new.records }
-    ensures up { log.old.failures ≤ log.new.failures }
-    ensures stale { IfOk result (λ o. IfNone o (tenant.new ≡ tenant.old)) }
-    ensures stale_log { IfOk result (λ o. IfNone o (log.new ≡ log.old)) }
-    ensures kill { (unit : ℕ) → step ≡ TenantStep.Kill unit → IsOk result }
-    ensures err { OnErr result (tenant.new ≡ tenant.old) }
-    ensures err_log { OnErr result (log.new.records ≡ log.old.records) }
-    ensures err_failures { OnErr result (log.new.failures ≡ log.old.failures) }
-    ensures texts { KeepsTexts tenant.old → KeepsTexts tenant.new }
-    ensures none { KeepsNoText tenant.old → KeepsNoTextBut step tenant.new }
-{
-    tenant.step_with(alloc, handler, name, step, worked, log)
-}
-
-/// Does a step of any tenant by a turn that was worked, if it needs no other. Where there is no
-/// answer, or no memory was found, nothing is changed; a kill takes none.
-pub(crate) fn answer_with<H: Handler, S: Store>(
-    alloc: Global,
-    handler: &H,
-    tenants: &mut Tenants<H>,
-    log: &mut SharedLog<S>,
-    step: &Step,
-    worked: Done<H>,
-) -> Result<Option<Answer>, NoMemory>
-    ensures fresh { IfOk result (λ o. (w : Option World)
-        → StandsAt H.meaning (addressed step.now).0
-        (get bytes_eq tenants.old (addressed step.now).0) w log.old.records
-        → WasFresh (needs_at H.meaning w (addressed step.now).1) worked.input o) }
-    ensures answered { IfOk result (λ o.
-        IfSome o (λ a.
-        IsAnswered H.meaning step.now a.said a.reply (holding tenants.old log.old) (holding tenants.new log.new))) }
-    ensures stale { IfOk result (λ o. IfNone o
-        (HoldsAsBefore (holding tenants.old log.old) (holding tenants.new log.new))) }
-    ensures stale_log { IfOk result (λ o. IfNone o (log.new ≡ log.old)) }
-    ensures kill { (tenant : List ℕ) (unit : ℕ) → step.now ≡ Step.Kill tenant unit → IsOk result }
-    ensures err { OnErr result (HoldsAsBefore (holding tenants.old log.old) (holding tenants.new log.new)) }
-    ensures texts { KeepTexts (get bytes_eq tenants.old) → KeepTexts (get bytes_eq tenants.new) }
-    ensures none { KeepNoTexts (get bytes_eq tenants.old)
-        → KeepNoTextsBut (addressed step.now).0 (addressed step.now).1 (get bytes_eq tenants.new) }
-{
-    let own_step = step_within(step)?;
-    let name = step.tenant();
-    if let Some(opened) = tenants.get_mut(name) {
-        return answer_open_with(alloc, handler, opened, name, own_step, worked, log);
-    }
-    let answer = answer_unopened(alloc, handler, tenants, name, own_step)?;
-    Ok(Some(answer))
 }

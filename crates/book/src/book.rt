@@ -2,6 +2,7 @@
 
 ghost use Rattle.std.specs.Prelude.{◌≡◌, ◌+◌, ◌≤◌, [], ◌∷◌, ◌++◌, IfOk, OnOk, OnErr, MatchOption, None, Some, vec_len};
 ghost use Rattle.std.specs.Prelude.{vec_capacity};
+ghost use Rattle.model.specs.Addresses.{addressed};
 ghost use Rattle.model.specs.Alone.{alone};
 ghost use Rattle.model.specs.History.{IsLegal, own, pairs, replies_to};
 ghost use Rattle.model.specs.declared.replies.Who.TheVariants.{Caller};
@@ -13,11 +14,14 @@ ghost use Rattle.book.specs.Standing.{IsHostOf};
 ghost use Rattle.book.specs.History.{IsIsolated, IsRecordedIn, IsSaidHonestly, Ran, entries_of, opened, released_at};
 ghost use Rattle.book.specs.History.{table_at, world_of};
 
-use crate::answer::memory_reply;
+use crate::answer::{is_flush, memory_reply, memory_reply_to, step_within, whole_copy};
 use crate::committed::Committed;
 use crate::host::Host;
 use handler::{Ask, Done, Handler};
-use model::{Entry, Kept, Move, NoMemory, Reply, Row, Seat, Step, TenantName, Text, Unit, Who};
+use model::{
+    AddressedStep, Entry, Kept, Move, NoMemory, Reply, Row, Seat, Step, TenantName, TenantStep,
+    Text, Unit, Who,
+};
 use shared_log::Store;
 use std::alloc::Global;
 use std::marker::Model;
@@ -83,16 +87,41 @@ impl<H: Handler, S: Store> Book<H, S> {
     ///
     /// Where there is no memory for the step it is answered `memory` (a flush: stopped after no
     /// record), it is not entered, and history, tenants and records are as they were. A flush that
-    /// is stopped later has had its effect, and is entered.
+    /// is stopped later has had its effect, and is entered. The history keeps the step, and its tenant
+    /// does a copy.
     pub fn step_as(&mut self, who: Who, step: Step) -> Reply
+        ensures entered { IsEntered self.old who step result self.new }
+        ensures honest { IsSaidHonestly H.meaning self.old self.new }
+    {
+        match step_within(&step) {
+            Err(_) => memory_reply(&step),
+            Ok(own_step) => self.enter_own(who, step, own_step),
+        }
+    }
+
+    /// Does a step of a caller that is apart, and enters it with its reply, as `step` does. Its tenant does the step
+    /// itself, and the history keeps a copy.
+    pub fn step_addressed(&mut self, step: AddressedStep) -> Reply
+        ensures entered { IsEntered self.old Caller step result self.new }
+        ensures honest { IsSaidHonestly H.meaning self.old self.new }
+    {
+        let (name, own_step) = step.into_parts();
+        match whole_copy(&name, &own_step) {
+            Err(_) => memory_reply_to(is_flush(&own_step)),
+            Ok(step) => self.enter_own(Who::Caller, step, own_step),
+        }
+    }
+
+    /// Has its tenant do a tenant's own step, and enters it as the step that it is, with the reply.
+    fn enter_own(&mut self, who: Who, step: Step, own_step: TenantStep) -> Reply
+        requires { (addressed step).1 ≡ own_step }
         ensures entered { IsEntered self.old who step result self.new }
         ensures honest { IsSaidHonestly H.meaning self.old self.new }
     {
         if reserve_place(&mut self.history).is_err() {
             return memory_reply(&step);
         }
-        let done = self.host.answer(&step);
-        match done {
+        match self.host.answer_own(step.tenant(), own_step) {
             Err(_) => memory_reply(&step),
             Ok(answer) => enter(&mut self.history, who, step, answer),
         }

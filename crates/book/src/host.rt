@@ -18,8 +18,8 @@ ghost use Rattle.book.specs.Standing.{Carries, CommitsHonestly, EntersHonestly, 
 ghost use Rattle.book.specs.Standing.{KeepNoTextsBut, KeepTexts, Releases, ReplaysAsWell, held_by};
 
 use crate::answer::{
-    Tenants, answer, answer_with, ask, give_up, is_flush, memory_reply, memory_reply_to,
-    released_unit, step_within, unit_released,
+    Tenants, answer_unopened, ask, give_up, is_flush, memory_reply, memory_reply_to, released_unit,
+    step_within, unit_released,
 };
 use crate::committed::Committed;
 use handler::{Ask, Done, Handler};
@@ -110,9 +110,13 @@ impl<H: Handler, S: Store> Host<H, S> {
         &self.handler
     }
 
-    /// Does a step of the tenant of this name. Where no memory was found nothing is changed.
+    /// Does a step of the tenant of this name. Where no memory was found nothing is changed; a kill takes none.
     #[inline(always)]
-    fn answer_own(&mut self, name: &TenantName, step: TenantStep) -> Result<Answer, NoMemory>
+    pub(crate) fn answer_own(
+        &mut self,
+        name: &TenantName,
+        step: TenantStep,
+    ) -> Result<Answer, NoMemory>
         ensures answered { IfOk result (λ a. IsAnsweredAt H.meaning name.now step a.said a.reply
             (held_by self.old) (held_by self.new)) }
         ensures kill { (unit : ℕ) → step ≡ TenantStep.Kill unit → IsOk result }
@@ -120,27 +124,11 @@ impl<H: Handler, S: Store> Host<H, S> {
         ensures texts { KeepTexts (held_by self.old).at → KeepTexts (held_by self.new).at }
         ensures none { KeepNoTexts (held_by self.old).at → KeepNoTextsBut name.now step (held_by self.new).at }
     {
-        answer(
-            self.alloc,
-            &self.handler,
-            &mut self.tenants,
-            &mut self.log,
-            name,
-            step,
-        )
-    }
-
-    /// Does a step of any tenant, which its giver keeps. Where no memory was found nothing is changed.
-    #[inline(always)]
-    pub(crate) fn answer(&mut self, step: &Step) -> Result<Answer, NoMemory>
-        ensures answered { IfOk result (λ a. IsAnswered H.meaning step.now a.said a.reply
-            (held_by self.old) (held_by self.new)) }
-        ensures kill { (tenant : List ℕ) (unit : ℕ) → step.now ≡ Step.Kill tenant unit → IsOk result }
-        ensures err { OnErr result (HoldsAsBefore (held_by self.old) (held_by self.new)) }
-        ensures texts { KeepTexts (held_by self.old).at → KeepTexts (held_by self.new).at }
-    {
-        let own_step = step_within(step)?;
-        self.answer_own(step.tenant(), own_step)
+        let alloc = self.alloc;
+        if let Some(tenant) = self.tenants.get_mut(name) {
+            return tenant.step(alloc, &self.handler, name, step, &mut self.log);
+        }
+        answer_unopened(alloc, &self.handler, &mut self.tenants, name, step)
     }
 
     /// Does a step of any tenant by a turn that was worked, if it needs no other. Where there is no
@@ -164,14 +152,14 @@ impl<H: Handler, S: Store> Host<H, S> {
         ensures none { KeepNoTexts (held_by self.old).at
             → KeepNoTextsBut (addressed step.now).0 (addressed step.now).1 (held_by self.new).at }
     {
-        answer_with(
-            self.alloc,
-            &self.handler,
-            &mut self.tenants,
-            &mut self.log,
-            step,
-            worked,
-        )
+        let own_step = step_within(step)?;
+        let name = step.tenant();
+        let alloc = self.alloc;
+        if let Some(tenant) = self.tenants.get_mut(name) {
+            return tenant.step_with(alloc, &self.handler, name, own_step, worked, &mut self.log);
+        }
+        let answer = answer_unopened(alloc, &self.handler, &mut self.tenants, name, own_step)?;
+        Ok(Some(answer))
     }
 
     /// Does a step. Whichever book the host stood for, and whoever gave the step: it is entered there with its reply,

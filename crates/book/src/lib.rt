@@ -14,7 +14,7 @@
 //!   `step_with` are as those of a book, and `Host::tenants` and `kept` read what follows from the
 //!   history. `Book::host` lends a book's host. A host keeps no text that was released
 //!   (`KeepNoTexts`), since the replies have them.
-//! - `Book::step`, `step_as` and `run` do steps. A step is entered with the reply that is given,
+//! - `Book::step`, `step_as`, `step_addressed` and `run` do steps. A step is entered with the reply that is given,
 //!   or there was no memory for it, and then nothing changed. Both copies of a reply are made
 //!   before the step has any effect.
 //! - `Book::prepare` and `step_with` part a step from the working of its turn: the turn can be
@@ -30,7 +30,7 @@
 //!
 //! The words of the contracts are in `specs/`: `Entries` says how a step is entered, `History` what a
 //! history makes of tenants and log, `Standing` which books a host stands for, and `Past` what is
-//! left of the past. The work of one step is `answer::answer`, and the lemma `entered` of
+//! left of the past. The work of one step is `Host::answer_own`, and the lemma `entered` of
 //! `proofs/Replays` shows that the host is the replay of the history with one entry more after it.
 //!
 //! For a program that does steps by calls, and for whoever relies on what was released. A caller:

@@ -61,7 +61,7 @@ pub fn drive<R: BufRead, W: Write, H: Handler, S: Store>(
         book,
         &|book: &mut Book<H, S>, step: AddressedStep| -> Reply
             ensures { IsEntered book.entry.now Caller step result book.exit.now }
-        { book.step(step.into_step()) },
+        { book.step_addressed(step) },
         &|book: &Book<H, S>, tenant: &TenantName, letter: Letter| -> Option<Unit> {
             book.host().receiver(tenant, letter)
         },

@@ -62,7 +62,7 @@ pub fn serve<R: BufRead, W: Write, H: Handler, S: Store>(
         book,
         &|book: &mut Book<H, S>, step: AddressedStep| -> Reply
             ensures { IsEntered book.entry.now Caller step result book.exit.now }
-        { book.step(step.into_step()) },
+        { book.step_addressed(step) },
     )
 }
 
