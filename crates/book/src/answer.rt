@@ -1,29 +1,25 @@
 //! The work of one step, whichever the tenant.
 
-ghost use Rattle.std.specs.Prelude.{◌≡◌, ◌≤◌, [], ◌∷◌, ◌++◌, ℕ, List, IfOk, IfNone, IfSome, IsOk, OnOk, OnErr, Option};
+ghost use Rattle.std.specs.Prelude.{◌≡◌, [], ◌∷◌, ◌++◌, ℕ, List, IfOk, IsOk, OnOk, OnErr, Option};
 ghost use Rattle.std.specs.Prelude.{None, Some, false, bytes_eq};
 ghost use Rattle.indexmap.specs.IndexMap.{IsUnchanged, get, keys};
 ghost use Rattle.model.specs.Addresses.{addressed, whole};
 ghost use Rattle.model.specs.World.{World};
 ghost use Rattle.model.specs.declared.records.Record.{Record};
-ghost use Rattle.tenant.specs.Live.{OthersLive};
-ghost use Rattle.tenant.specs.Needs.{WasFresh};
 ghost use Rattle.tenant.specs.Outcomes.{IsPlain};
-ghost use Rattle.tenant.specs.Stands.{IsOpened, KeepsNoText, KeepsNoTextBut, KeepsTexts, StandsAt};
+ghost use Rattle.tenant.specs.Stands.{IsOpened, StandsAt};
 ghost use Rattle.shared_log.specs.Logged.{Logged};
 ghost use Rattle.book.specs.Commits.{needs_at};
 ghost use Rattle.book.specs.Entries.{memory_reply as reply_of_memory, memory_reply_to as reply_by_kind};
 ghost use Rattle.book.specs.Entries.{own_memory_reply as reply_of_own};
 ghost use Rattle.model.specs.Keeping.{Keeping};
-ghost use Rattle.book.specs.Past.{KeepsAt, KeepsJustAt, KeepsOnAt};
+ghost use Rattle.book.specs.Past.{KeepsAt, KeepsOnAt};
 ghost use Rattle.book.specs.Standing.{KeepNoTexts, KeepNoTextsBut, KeepTexts, Releases};
-ghost use Rattle.book.specs.History.{DidAt, IsAnswered, IsAnsweredAt, HoldsAsBefore, KeepsOthers, LogsAt, StepsAt};
-ghost use Rattle.book.specs.History.{holding, opened_by};
+ghost use Rattle.book.specs.History.{DidAt, holding, opened_by};
 
-use handler::{Ask, Done, Handler};
+use handler::{Ask, Handler};
 use indexmap::IndexMap;
 use model::{NoMemory, Quota, Refusal, Reply, Step, TenantName, TenantStep, Texts, Unit};
-use shared_log::{SharedLog, Store};
 use std::alloc::Global;
 use tenant::{Answer, Tenant};
 

@@ -1,6 +1,6 @@
 //! All tenants, without a history.
 
-ghost use Rattle.std.specs.Prelude.{◌≡◌, ◌≤◌, [], IfNone, IfOk, IfSome, IsOk, MatchOption, OnErr, List, None, Some, ℕ};
+ghost use Rattle.std.specs.Prelude.{◌≡◌, [], IfNone, IfOk, IfSome, IsOk, MatchOption, OnErr, List, None, Some, ℕ};
 ghost use Rattle.model.specs.Addresses.{addressed};
 ghost use Rattle.model.specs.declared.replies.Entry.{Entry};
 ghost use Rattle.model.specs.declared.replies.Reply.{Reply as ReplyOf};

@@ -1,7 +1,7 @@
 //! Serving.
 
-ghost use Rattle.std.specs.Prelude.{◌≡◌, ◌≢◌, ◌<◌, ◌≤◌, ℕ, List, [], IfErr, IfOk, OnOk, OnErr, All, length};
-ghost use Rattle.std.specs.Prelude.{vec_capacity, Some};
+ghost use Rattle.std.specs.Prelude.{◌≡◌, ◌≢◌, ◌<◌, ◌≤◌, ℕ, List, IfOk, OnOk, OnErr, All, length};
+ghost use Rattle.std.specs.Prelude.{vec_capacity};
 ghost use Rattle.std.specs.Io.KnownBytes.{Appends};
 ghost use Rattle.model.specs.Failures.{HasRisen};
 ghost use Rattle.model.specs.declared.replies.Reply.{Reply as ReplyOf};
@@ -12,7 +12,7 @@ ghost use Rattle.model.specs.declared.replies.Who.TheVariants.{Caller};
 ghost use Rattle.book.specs.Entries.{IsEntered};
 ghost use Rattle.book.specs.Standing.{Carries, EntersHonestly, IsHostOf};
 ghost use Rattle.lines.specs.Doing.{DoesBy, TakesSteps};
-ghost use Rattle.lines.specs.Serving.{AnsweredLineBy, Serves, EntersEach, HostDoes, HostServes, IsRemembered};
+ghost use Rattle.lines.specs.Serving.{AnsweredLineBy, Serves, EntersEach, HostServes, IsRemembered};
 ghost use Rattle.lines.specs.Serving.{reply_line};
 ghost use Rattle.lines.specs.Serving.{reply_upon, ServedAll, ServedAllBy, ServedSome, ServedSomeBy, ServesBy, Took};
 ghost use Rattle.lines.specs.Serving.{Broken};
