@@ -1,7 +1,7 @@
-"""Hostile use of the built program: python3 tests/hostile PROGRAM [WORD]
+"""Hostile use of the built program: python3 tests/hostile [--book] PROGRAM [WORD]
 
 Each check prints a line where it fails; the last line is `N passed, M failed`. With WORD, only the checks whose names
-have it.
+have it. With --book each run stores its history, so that a book answers it, and not a host.
 """
 
 import os
@@ -35,10 +35,9 @@ def named(word):
     return [(suite, name) for suite, module in SUITES for name, _ in module.checks() if word in name]
 
 
-def begin(path, room):
+def begin(made):
     global program
-    program = Program.__new__(Program)
-    program.path, program.room, program.shim = path, room, os.path.join(room, "faults.so")
+    program = made
 
 
 def work(task):
@@ -53,13 +52,14 @@ def work(task):
 
 
 def main():
-    if len(sys.argv) not in (2, 3):
+    words = [word for word in sys.argv[1:] if word != "--book"]
+    if len(words) not in (1, 2):
         sys.exit(__doc__)
-    tasks, begun = named(sys.argv[2] if len(sys.argv) == 3 else ""), time.time()
+    tasks, begun = named(words[1] if len(words) == 2 else ""), time.time()
     passed, failed, runs_of = 0, 0, {}
     with tempfile.TemporaryDirectory() as room:
-        made = Program(sys.argv[1], room)
-        with Pool(os.cpu_count(), begin, (made.path, room)) as pool:
+        made = Program(words[0], room, "--book" in sys.argv)
+        with Pool(os.cpu_count(), begin, (made,)) as pool:
             for suite, name, runs, wrong in pool.imap_unordered(work, tasks):
                 runs_of[suite] = runs_of.get(suite, 0) + runs
                 passed, failed = passed + (not wrong), failed + bool(wrong)

@@ -4,7 +4,8 @@ Long texts go down a chain of units that put them out and send them on. The run 
 peak: kept once, they and all else take less than that, and eight times as much where each unit keeps its own.
 
 Short posts are all logged. Each may take 290 bytes for its record, its interval, its letter and its place in the log.
-They take more where each record has a name of its own for its tenant, and where a history is stored.
+They take more where each record has a name of its own for its tenant, and by a book, which stores its history: there
+a post may take the bytes of an entry besides.
 """
 
 import json
@@ -12,7 +13,7 @@ import re
 
 UNITS = ["tee", "tee", "tee", "echo"]
 TEXTS, BATCH, BYTES = 4000, 100, 4096
-FIRST, POSTS, POST_BYTES = 10000, 50000, 290
+FIRST, POSTS, POST_BYTES, ENTRY_BYTES = 10000, 50000, 290, 184
 
 
 def line(**members):
@@ -77,7 +78,7 @@ def small_records(program):
     wrong = []
     if status or done != 1 + (FIRST + POSTS) * (BATCH + 1) // BATCH:
         wrong.append(f"status {status}, and {done} steps were done")
-    if each > POST_BYTES:
+    if each > POST_BYTES + program.by_book * ENTRY_BYTES:
         wrong.append(f"a post took {each:.0f} bytes")
     return 1, wrong
 

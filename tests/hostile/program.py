@@ -11,18 +11,27 @@ ROWS = os.path.join(HERE, "..", "..", "crates", "rows", "data")
 # The rows' own program, as `rt ci` builds it.
 ROWS_PROGRAM = os.path.join(HERE, "..", "..", "crates", "rows", "out", "rows")
 SECONDS = 60
+# The word by which a run stores its history: a book answers it then, and a host else.
+BY_BOOK = "--explain"
 
 
 class Program:
-    """Where the program is, and the shim that plants its faults."""
+    """Where the program is, the shim that plants its faults, and whether a book answers its runs."""
 
-    def __init__(self, path, room):
+    def __init__(self, path, room, by_book=False):
         self.path = os.path.abspath(path)
         self.room = room
+        self.by_book = by_book
         self.shim = os.path.join(room, "faults.so")
         subprocess.run(
             ["cc", "-O1", "-fPIC", "-shared", "-o", self.shim, os.path.join(HERE, "faults.c"), "-ldl"], check=True
         )
+
+    def command(self, *words):
+        """The program with these words, or with `run` alone. By a book each `run` has one word more."""
+        words = words or ("run",)
+        more = [BY_BOOK] if self.by_book and words[0] == "run" else []
+        return [self.path, words[0], *more, *words[1:]]
 
     def environment(self, **faults):
         """The environment in which these faults come: RECALL_REFUSE and its kin, without the prefix and in lower
@@ -40,7 +49,7 @@ class Program:
             file.write(given)
             file.seek(0)
             ran = subprocess.run(
-                [self.path, *(words or ["run"])],
+                self.command(*words),
                 stdin=file,
                 capture_output=True,
                 timeout=SECONDS,
@@ -70,7 +79,7 @@ class Program:
                 return int.from_bytes(counted.read(8), sys.byteorder)
 
     def talk(self, *words, **faults):
-        return Talk([self.path, *(words or ["run"])], self.environment(**faults))
+        return Talk(self.command(*words), self.environment(**faults))
 
 
 class Talk:

@@ -1,7 +1,8 @@
-"""Runs with a journal that are ended in their midst, and go on: python3 tests/journal PROGRAM [WORD]
+"""Runs with a journal that are ended in their midst, and go on: python3 tests/journal [--book] PROGRAM [WORD]
 
 Each check prints a line where it fails; the last line is `N passed, M failed`. With WORD, only the checks whose names
-have it.
+have it. With --book each run stores its history, so that a book answers it, and not a host; it goes on from no
+snapshot then, so that the checks that ask for that are left out.
 """
 
 import os
@@ -22,13 +23,14 @@ QUICK = "/dev/shm" if os.access("/dev/shm", os.W_OK) else None
 
 
 def main():
-    if len(sys.argv) not in (2, 3):
+    words = [word for word in sys.argv[1:] if word != "--book"]
+    if len(words) not in (1, 2):
         sys.exit(__doc__)
-    word, begun = sys.argv[2] if len(sys.argv) == 3 else "", time.time()
+    word, begun = words[1] if len(words) == 2 else "", time.time()
     passed, failed, counts = 0, 0, 0
     with tempfile.TemporaryDirectory() as room, tempfile.TemporaryDirectory(dir=QUICK) as quick:
-        program = Program(sys.argv[1], room)
-        checks = crashes.checks(program.path, room) + faults.checks(program, quick) + snapshots.checks(program, quick)
+        program = Program(words[0], room, "--book" in sys.argv)
+        checks = crashes.checks(program, room) + faults.checks(program, quick) + snapshots.checks(program, quick)
         for name, check in checks:
             if word not in name:
                 continue

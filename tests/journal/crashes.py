@@ -13,7 +13,7 @@ import threading
 import time
 
 from inputs import small_input
-from program import whole_lines
+from program import BY_BOOK, whole_lines
 
 INPUTS = 20
 KILLS = 10
@@ -120,10 +120,11 @@ def crash(program, room, seed, words=()):
     were killed, and what was wrong."""
     lines, chance = small_input(seed), random.Random(seed + 1000)
     journal = os.path.join(room, "-".join(("journal", str(seed), *words)))
-    wanted, collected, killed = plain(program, lines), b"", 0
+    wanted, collected, killed = plain(program.path, lines), b"", 0
+    more = (BY_BOOK, *words) if program.by_book else words
     for count in range(KILLS + 1):
         seen = collected.count(b"\n")
-        written, was_killed, wrong = run_once(program, journal, lines, seen, chance, count == KILLS, words)
+        written, was_killed, wrong = run_once(program.path, journal, lines, seen, chance, count == KILLS, more)
         if wrong:
             return killed, wrong
         collected += written[: written.rfind(b"\n") + 1]

@@ -13,6 +13,7 @@ import subprocess
 from crashes import first_difference, plain, whole_lines
 from inputs import small_input
 
+REASON = re.compile(rb"recall: line \d+: .*\n")
 NAMED = re.compile(rb"(?:give those from line|the journal, which has|the journal has) (\d+)")
 SEED = 77
 LINES = 24
@@ -105,12 +106,19 @@ def interrupted(own):
     return 1, wrong or ("the run ended early" if came else None)
 
 
+def first_run(own, given, journal):
+    """Whether a first run answers all, and tells nothing but the reasons of refusals, and those by a book alone."""
+    out, said, status = own.program.run(given, "run", "--journal", journal)
+    reasons = REASON.findall(said) if own.program.by_book else []
+    return (out, said, status) == (own.wanted, b"".join(reasons), 0) and own.program.by_book == bool(reasons)
+
+
 def words(own):
     """The words that go with a journal, its mode, its lock, and what a second run is told."""
     journal = own.new("words")
     given = b"".join(own.lines)
     run = ("run", "--journal", journal)
-    if own.program.run(given, *run) != (own.wanted, b"", 0):
+    if not first_run(own, given, journal):
         return 1, "a first run"
     if stat.S_IMODE(os.stat(journal).st_mode) != 0o600 or open(journal, "rb").read() != given:
         return 1, "the file and its mode"

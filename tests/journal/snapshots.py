@@ -423,20 +423,23 @@ class Room:
 def checks(program, room):
     """Each check's name, and what does it."""
     own = Room(program, room)
-    named = (
+    # A run that stores its history goes on from no snapshot.
+    gone_on_from = () if program.by_book else (
         ("random scripts behind a snapshot", scripts),
         ("rows behind a snapshot", rows),
         ("snapshots that are changed", changed),
         ("snapshots that don't fit", misfits),
-        ("snapshots that can't be written", faults),
-        ("memory of a snapshot that is refused", memory),
         ("journals that are trimmed", trimmed),
         ("trims that fail", trims_that_fail),
         ("a snapshot of the first form", lambda own: earlier_form(own, "first", 35, 3)),
         ("a snapshot of the second form", lambda own: earlier_form(own, "second", 347, 0)),
     )
+    kept = (
+        ("snapshots that can't be written", faults),
+        ("memory of a snapshot that is refused", memory),
+    )
     killed = [
-        (f"kills with snapshots of input {seed}", lambda seed=seed: killed_runs(program.path, room, seed))
+        (f"kills with snapshots of input {seed}", lambda seed=seed: killed_runs(program, room, seed))
         for seed in range(KILLED)
     ]
-    return killed + [(name, lambda check=check: check(own)) for name, check in named]
+    return killed + [(name, lambda check=check: check(own)) for name, check in (*gone_on_from, *kept)]

@@ -6,7 +6,7 @@ ghost use Rattle.model.specs.FailureFree.{is_between as is_between_of, next_text
 ghost use Rattle.model.specs.FailureFree.{Worker as WorkerOf};
 ghost use Rattle.audit.specs.Working.{AreInOrder, after_turn, packets_from, IsNowhere, IsFirst};
 
-use handler::{Handler, Turn};
+use handler::{AskRef, Handler, Turn};
 use model::{Flaw, NoMemory, Seat, Source, Text, Unit};
 use std::marker::Model;
 
@@ -175,7 +175,7 @@ impl<S> Worker<S> {
     }
 }
 
-/// What a unit does upon a receipt.
+/// What a unit does upon a receipt. What it passes on of the text shares the text's place.
 fn turn_at<H: Handler>(
     handler: &H,
     workers: &Vec<Worker<H::State>>,
@@ -188,8 +188,7 @@ fn turn_at<H: Handler>(
 {
     let worker = &workers[i];
     let alloc = *workers.allocator();
-    let text = receipt.1.as_str();
-    handler.handle(alloc, worker.seat, &worker.state, receipt.0, text)
+    AskRef::new(worker.seat, &worker.state, receipt.0, &receipt.1).work(alloc, handler)
 }
 
 /// Keeps a receipt and what its turn puts out.

@@ -1,7 +1,7 @@
 -- What the calls of a tenant say of a tenant that may be unopened.
 use Rattle.std.proofs.Common.{◌≡◌, ◌≤◌, ◌⊎◌, ◌+◌, inl, inr, ℕ, List, [], ◌∷◌, Bool, true, false, if◌then◌else◌, refl}
 use Rattle.std.proofs.Common.{◌∙◌, ◌++◌, append-nil, sym, ap, subst}
-use Rattle.std.specs.Prelude.{Option, None, Some, Result, Ok, Err, IfOk, IfSome, IsOkAnd, IsSomeAnd, OnErr, bytes_eq}
+use Rattle.std.specs.Prelude.{Option, None, Some, Result, Ok, Err, IfOk, IfSome, IsOkAnd, IsSomeAnd, bytes_eq}
 use Rattle.model.specs.Alone.{step_open}
 use Rattle.model.specs.Handler.{Meaning}
 use Rattle.model.specs.Steps.{Outcome, can_open}
@@ -60,12 +60,6 @@ pub steady_ok : {A E P : Type 0} (Says : A → Type 0) (r : Result A E)
 steady_ok Says (Ok a) (inl stays) = λ not. stays
 steady_ok Says (Ok a) (inr says) = λ not. absurd (not says)
 steady_ok Says (Err e) h = tt
-
--- and where there is no answer
-pub steady_err : {A E P : Type 0} (Says : A → Type 0) (r : Result A E) → P ⊎ IsOkAnd r Says → OnErr r P
-steady_err Says (Ok a) h = tt
-steady_err Says (Err e) (inl stays) = stays
-steady_err Says (Err e) (inr says) = absurd says
 
 -- an answer that may be there says so only where it is
 pub says_some : {A P : Type 0} (Says : A → Type 0) (o : Option A)

@@ -19,7 +19,9 @@ ghost use Rattle.book.specs.History.{DidAt, holding, opened_by};
 
 use handler::{Ask, Handler};
 use indexmap::IndexMap;
-use model::{NoMemory, Quota, Refusal, Reply, Step, TenantName, TenantStep, Texts, Unit};
+use model::{
+    AddressedStep, NoMemory, Quota, Refusal, Reply, Step, TenantName, TenantStep, Texts, Unit,
+};
 use std::alloc::Global;
 use tenant::{Answer, Tenant};
 
@@ -193,61 +195,8 @@ pub(crate) fn step_within(step: &Step) -> Result<TenantStep, NoMemory>
 pub(crate) fn whole_copy(name: &TenantName, own: &TenantStep) -> Result<Step, NoMemory>
     ensures { IfOk result (λ s. s ≡ whole name.now own.now) }
 {
-    let tenant = name.copy();
-    match own {
-        TenantStep::Open {
-            kinds,
-            quota,
-            optimism,
-        } => Ok(Step::Open {
-            tenant,
-            kinds: kinds.copy()?,
-            quota: *quota,
-            optimism: *optimism,
-        }),
-        TenantStep::Join { kind } => Ok(Step::Join {
-            tenant,
-            kind: kind.copy()?,
-        }),
-        TenantStep::Post { unit, number, text } => Ok(Step::Post {
-            unit: *unit,
-            number: *number,
-            tenant,
-            text: text.copy()?,
-        }),
-        TenantStep::Deliver { letter } => Ok(Step::Deliver {
-            tenant,
-            letter: *letter,
-        }),
-        TenantStep::Flush { unit } => Ok(Step::Flush {
-            tenant,
-            unit: *unit,
-        }),
-        TenantStep::Checkpoint { unit } => Ok(Step::Checkpoint {
-            tenant,
-            unit: *unit,
-        }),
-        TenantStep::Kill { unit } => Ok(Step::Kill {
-            tenant,
-            unit: *unit,
-        }),
-        TenantStep::Restart { unit } => Ok(Step::Restart {
-            tenant,
-            unit: *unit,
-        }),
-        TenantStep::Notice { unit } => Ok(Step::Notice {
-            tenant,
-            unit: *unit,
-        }),
-        TenantStep::Release { unit } => Ok(Step::Release {
-            tenant,
-            unit: *unit,
-        }),
-        TenantStep::Status { unit } => Ok(Step::Status {
-            tenant,
-            unit: *unit,
-        }),
-    }
+    let own_step = own.copy()?;
+    Ok(AddressedStep::new(name.copy(), own_step).into_step())
 }
 
 /// Gives up the texts that a unit of the tenant of this name released, if both are there.

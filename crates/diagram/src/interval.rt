@@ -9,7 +9,7 @@ pub(crate) enum Cause<'a> {
     /// The unit began.
     Begin,
     /// It received a text from outside, under this session number.
-    Outside { number: u32, text: &'a str },
+    Outside { number: u32, text: &'a Text },
     /// It received the letter at this place of the picture's letters.
     Letter { place: usize },
 }

@@ -53,7 +53,7 @@ pub(crate) fn add_source<'a>(svg: &mut Writer, picture: &Picture<'a>, interval: 
         Cause::Begin => svg.push("its beginning"),
         Cause::Outside { number, text } => {
             write!(svg, "from outside, number {number}: ");
-            svg.add_text(text);
+            svg.add_text(text.as_str());
         }
         Cause::Letter { .. } => {
             if let Some(letter) = picture.letter(interval.cause) {

@@ -129,13 +129,13 @@ impl<'a> Picture<'a> {
     }
 
     /// From whom an interval received which text. A beginning received none.
-    pub(crate) fn received(&self, cause: Cause<'a>) -> (Source, &str) {
+    pub(crate) fn received(&self, cause: Cause<'a>) -> Option<(Source, &Text)> {
         match cause {
-            Cause::Outside { text, .. } => (Source::Outside, text),
-            _ => match self.letter(cause) {
-                Some(letter) => (Source::Unit(letter.source), letter.text.as_str()),
-                None => (Source::Outside, ""),
-            },
+            Cause::Outside { text, .. } => Some((Source::Outside, text)),
+            _ => {
+                let letter = self.letter(cause)?;
+                Some((Source::Unit(letter.source), &letter.text))
+            }
         }
     }
 

@@ -3,7 +3,7 @@
 use crate::interval::{Cause, Interval};
 use crate::picture::Picture;
 use depvector::DepVector;
-use handler::{Handler, Turn};
+use handler::{AskRef, Handler, Turn};
 use model::{Entry, Kind, Letter, Mark, NoMemory, Reply, Seat, Step, TenantName, Text, Unit};
 use std::alloc::Global;
 
@@ -119,7 +119,7 @@ impl<'h, 'a, H: Handler> Replay<'h, 'a, H> {
                 *unit,
                 Cause::Outside {
                     number: *number,
-                    text: text.as_str(),
+                    text,
                 },
                 &entry.reply,
             ),
@@ -212,15 +212,15 @@ impl<'h, 'a, H: Handler> Replay<'h, 'a, H> {
         self.picture.end_column()
     }
 
-    /// The turn of the unit, if the tenant has the unit.
+    /// The turn of the unit, if the tenant has the unit. What it passes on of a text shares the text's place.
     fn turn(&self, unit: Unit, cause: Cause<'a>) -> Result<Option<Turn<H::State>>, NoMemory> {
         let (Some(lane), Some(state)) = (self.picture.lane(unit), self.state(unit)) else {
             return Ok(None);
         };
-        let (source, text) = self.picture.received(cause);
-        let turn = self
-            .handler
-            .handle(self.alloc, lane.seat, state, source, text)?;
+        let Some((source, text)) = self.picture.received(cause) else {
+            return Ok(None);
+        };
+        let turn = AskRef::new(lane.seat, state, source, text).work(self.alloc, self.handler)?;
         Ok(Some(turn))
     }
 

@@ -1,8 +1,9 @@
 //! A step, apart.
 
-ghost use Rattle.std.specs.Prelude.{◌≡◌};
+ghost use Rattle.std.specs.Prelude.{◌≡◌, IfOk};
 ghost use Rattle.model.specs.Addresses.{addressed, whole};
 
+use crate::fault::NoMemory;
 use crate::steps::{Step, TenantStep};
 use crate::text::TenantName;
 use std::marker::Model;
@@ -89,5 +90,20 @@ impl AddressedStep {
             TenantStep::Release { unit } => Step::Release { tenant, unit },
             TenantStep::Status { unit } => Step::Status { tenant, unit },
         }
+    }
+}
+
+impl Step {
+    /// An equal step, which takes no memory.
+    ///
+    /// # Errors
+    ///
+    /// `NoMemory` where there are 2^63 - 1 copies of its texts already.
+    #[tactic(auto, using(crate::proofs::Apart::whole_of_addressed))]
+    pub fn copy(&self) -> Result<Step, NoMemory>
+        ensures { IfOk result (λ s. s ≡ self.now) }
+    {
+        let own = self.tenant_step()?;
+        Ok(AddressedStep::new(self.tenant().copy(), own).into_step())
     }
 }

@@ -60,6 +60,43 @@ pub enum TenantStep {
     },
 }
 
+impl TenantStep {
+    /// An equal step, which takes no memory.
+    ///
+    /// # Errors
+    ///
+    /// `NoMemory` where there are 2^63 - 1 copies of its texts already.
+    pub fn copy(&self) -> Result<TenantStep, NoMemory>
+        ensures { IfOk result (λ s. s ≡ self.now) }
+    {
+        match self {
+            TenantStep::Open {
+                kinds,
+                quota,
+                optimism,
+            } => Ok(TenantStep::Open {
+                kinds: kinds.copy()?,
+                quota: *quota,
+                optimism: *optimism,
+            }),
+            TenantStep::Join { kind } => Ok(TenantStep::Join { kind: kind.copy()? }),
+            TenantStep::Post { unit, number, text } => Ok(TenantStep::Post {
+                unit: *unit,
+                number: *number,
+                text: text.copy()?,
+            }),
+            TenantStep::Deliver { letter } => Ok(TenantStep::Deliver { letter: *letter }),
+            TenantStep::Flush { unit } => Ok(TenantStep::Flush { unit: *unit }),
+            TenantStep::Checkpoint { unit } => Ok(TenantStep::Checkpoint { unit: *unit }),
+            TenantStep::Kill { unit } => Ok(TenantStep::Kill { unit: *unit }),
+            TenantStep::Restart { unit } => Ok(TenantStep::Restart { unit: *unit }),
+            TenantStep::Notice { unit } => Ok(TenantStep::Notice { unit: *unit }),
+            TenantStep::Release { unit } => Ok(TenantStep::Release { unit: *unit }),
+            TenantStep::Status { unit } => Ok(TenantStep::Status { unit: *unit }),
+        }
+    }
+}
+
 /// A step, with the tenant that it names.
 #[derive(Debug, PartialEq, Eq, Drop)]
 pub enum Step {
@@ -183,77 +220,6 @@ impl Step {
             Step::Notice { unit, .. } => Ok(TenantStep::Notice { unit: *unit }),
             Step::Release { unit, .. } => Ok(TenantStep::Release { unit: *unit }),
             Step::Status { unit, .. } => Ok(TenantStep::Status { unit: *unit }),
-        }
-    }
-
-    /// An equal step, which takes no memory.
-    ///
-    /// # Errors
-    ///
-    /// `NoMemory` where there are 2^63 - 1 copies of its texts already.
-    pub fn copy(&self) -> Result<Step, NoMemory>
-        ensures { IfOk result (λ s. s ≡ self.now) }
-    {
-        let tenant = self.tenant().copy();
-        match self {
-            Step::Open {
-                kinds,
-                quota,
-                optimism,
-                ..
-            } => Ok(Step::Open {
-                tenant,
-                kinds: kinds.copy()?,
-                quota: *quota,
-                optimism: *optimism,
-            }),
-            Step::Join { kind, .. } => Ok(Step::Join {
-                tenant,
-                kind: kind.copy()?,
-            }),
-            Step::Post {
-                unit,
-                number,
-                text,
-                ..
-            } => Ok(Step::Post {
-                tenant,
-                unit: *unit,
-                number: *number,
-                text: text.copy()?,
-            }),
-            Step::Deliver { letter, .. } => Ok(Step::Deliver {
-                tenant,
-                letter: *letter,
-            }),
-            Step::Flush { unit, .. } => Ok(Step::Flush {
-                tenant,
-                unit: *unit,
-            }),
-            Step::Checkpoint { unit, .. } => Ok(Step::Checkpoint {
-                tenant,
-                unit: *unit,
-            }),
-            Step::Kill { unit, .. } => Ok(Step::Kill {
-                tenant,
-                unit: *unit,
-            }),
-            Step::Restart { unit, .. } => Ok(Step::Restart {
-                tenant,
-                unit: *unit,
-            }),
-            Step::Notice { unit, .. } => Ok(Step::Notice {
-                tenant,
-                unit: *unit,
-            }),
-            Step::Release { unit, .. } => Ok(Step::Release {
-                tenant,
-                unit: *unit,
-            }),
-            Step::Status { unit, .. } => Ok(Step::Status {
-                tenant,
-                unit: *unit,
-            }),
         }
     }
 }

@@ -7,9 +7,11 @@ use book::Book;
 use diagram::{MissingNotice, Situation, why_waits};
 use driver::{Driver, drive};
 use handler::Handler;
-use lines::{Counted, ServeFault, read_step, serve};
+use json::Scratch;
+use lines::{Counted, LineFault, ServeFault, fault_reply, put_reply, read_step};
 use log::{Log, warn};
-use model::{Entry, Letter, MAX_LINE_BYTES, NoMemory, Row, Step, TenantName, Unit};
+use model::{Entry, Letter, MAX_LINE_BYTES, NoMemory, Reply, Row, Step, TenantName, Unit};
+use quick_forms::read_addressed;
 use reasons::{left_behind, reason, refusal_in, wait_reason};
 use shared_log::Store;
 use std::alloc::Global;
@@ -25,6 +27,9 @@ const FOLLOWED: u64 = 4;
 
 const FOLLOWED_BESIDES: u64 = 1_000_000;
 
+/// How the reply to a release begins.
+const RELEASED: &[u8] = b"{\"ok\":\"released\"";
+
 /// Answers each line as `serve` answers it, or as `drive` does where there is a driver, and tells for each that was
 /// refused its number, why, and what would help. Each reply is out before its reason, and before the next line is
 /// read. `before` lines came before the first. Tells how many lines there were.
@@ -39,6 +44,8 @@ pub fn serve_explained<L: Log, R: BufRead, W: Write, H: Handler, S: Store>(
     before: u64,
 ) -> Result<u64, ServeFault> {
     let mut line = Vec::new(alloc);
+    let mut scratch = Scratch::new(alloc);
+    let mut text = Vec::new(alloc);
     let mut left = FOLLOWED_BESIDES;
     for count in 1..u64::MAX {
         line.clear();
@@ -46,7 +53,10 @@ pub fn serve_explained<L: Log, R: BufRead, W: Write, H: Handler, S: Store>(
             return Ok(count - 1);
         }
         left = left.saturating_add(FOLLOWED);
-        let reply = reply_to(alloc, line.as_slice(), book, driver)?;
+        let reply = match driver {
+            Some(driver) => drive_line(alloc, line.as_slice(), book, driver)?,
+            None => answer_line(alloc, &mut scratch, &mut text, line.as_slice(), book)?,
+        };
         put(writer, reply.as_slice())?;
         let number = before.saturating_add(count);
         explain(
@@ -58,15 +68,17 @@ pub fn serve_explained<L: Log, R: BufRead, W: Write, H: Handler, S: Store>(
             line.as_slice(),
             reply.as_slice(),
         );
-        explain_release(
-            told,
-            alloc,
-            hosted,
-            book,
-            number,
-            line.as_slice(),
-            &mut left,
-        );
+        if reply.as_slice().starts_with(RELEASED) {
+            explain_release(
+                told,
+                alloc,
+                hosted,
+                book,
+                number,
+                line.as_slice(),
+                &mut left,
+            );
+        }
         if let Some(driver) = driver {
             tell_news(told, alloc, driver, line.as_slice());
         }
@@ -119,24 +131,58 @@ fn skip_rest<R: BufRead>(alloc: Global, reader: &mut R) -> Result<(), ServeFault
     Ok(())
 }
 
+/// The reply line to a line. Its text is made in a buffer that is kept for the next.
+fn answer_line<H: Handler, S: Store>(
+    alloc: Global,
+    scratch: &mut Scratch,
+    text: &mut Vec<u8>,
+    line: &[u8],
+    book: &mut Book<H, S>,
+) -> Result<Vec<u8>, ServeFault> {
+    let reply = step_line(alloc, scratch, without_end(line), book);
+    let mut writer = Counted::new(Vec::new(alloc));
+    match put_reply(&mut writer, text, &reply) {
+        Ok(()) => Ok(writer.inner),
+        // A list fails to take bytes for want of memory alone.
+        Err(_) => Err(ServeFault::NoMemory),
+    }
+}
+
+/// Does the step that a line is, if it is one.
+fn step_line<H: Handler, S: Store>(
+    alloc: Global,
+    scratch: &mut Scratch,
+    line: &[u8],
+    book: &mut Book<H, S>,
+) -> Reply {
+    if line.len() > MAX_LINE_BYTES {
+        return fault_reply(LineFault::Bad);
+    }
+    match read_addressed(alloc, scratch, line) {
+        Ok(step) => book.step_addressed(step),
+        Err(fault) => fault_reply(fault),
+    }
+}
+
 /// The reply line to a line, and the lines of what left behind it.
-fn reply_to<H: Handler, S: Store>(
+fn drive_line<H: Handler, S: Store>(
     alloc: Global,
     line: &[u8],
     book: &mut Book<H, S>,
-    driver: &mut Option<Driver>,
+    driver: &mut Driver,
 ) -> Result<Vec<u8>, ServeFault> {
     let mut reader = Counted::new(line);
     let mut writer = Counted::new(Vec::new(alloc));
-    let answered = match driver {
-        Some(driver) => drive(alloc, &mut reader, &mut writer, book, driver),
-        None => serve(alloc, &mut reader, &mut writer, book),
-    };
-    match answered {
+    match drive(alloc, &mut reader, &mut writer, book, driver) {
         Ok(_) => Ok(writer.inner),
         // A list fails to take bytes for want of memory alone.
         Err(_) => Err(ServeFault::NoMemory),
     }
+}
+
+/// A line without its line feed.
+fn without_end(line: &[u8]) -> &[u8] {
+    line.strip_suffix(b"\n").unwrap_or(line)
 }
 
 /// Writes these lines, each in one piece.
@@ -168,8 +214,7 @@ fn explain<L: Log, H: Handler, S: Store>(
     let Some(refusal) = refusal_in(reply) else {
         return;
     };
-    let line = line.strip_suffix(b"\n").unwrap_or(line);
-    match reason_of(alloc, hosted, book, line, refusal) {
+    match reason_of(alloc, hosted, book, without_end(line), refusal) {
         Ok(reason) => warn!(told; "line {number}: {reason}"),
         Err(_) => warn!(told; "line {number}: {refusal}"),
     }

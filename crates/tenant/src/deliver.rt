@@ -135,7 +135,7 @@ impl<H: Handler> Tenant<H> {
             text,
             vector: content.vector().as_slice(),
         };
-        match self.admit(alloc, unit, member, arrival, &turn)? {
+        match self.plan(alloc, unit, member, arrival, &turn)? {
             Err(refusal) => Ok(Answer::refused(refusal)),
             Ok(plan) => {
                 let answer = self.apply(name, unit, plan, turn)?;

@@ -18,7 +18,6 @@ use crate::tenant::Tenant;
 use handler::{AskRef, Handler, Turn};
 use model::{Letter, Letters, Mark, NoMemory, Refusal, Source, TenantName, Text, Unit};
 use rollback::RecordDraft;
-use session::Sessions;
 use std::alloc::Global;
 use unit_steps::{NewLetters, letters_by, mark_upon, turn_refusal, vector_upon};
 
@@ -30,16 +29,6 @@ pub(crate) struct Incoming<'a> {
     pub(crate) number: u64,
     pub(crate) text: Text,
     pub(crate) vector: &'a [Mark],
-}
-
-/// The unit that receives, what is kept of it, the mark of the interval that the receipt makes, and how many units
-/// there are.
-#[derive(Drop)]
-struct Receiver<'a, H: Handler> {
-    unit: Unit,
-    member: &'a Member<H>,
-    mark: Mark,
-    width: usize,
 }
 
 /// What a receipt adds and answers. The unit makes the record where it keeps it.
@@ -66,64 +55,9 @@ pub(crate) fn ask_upon<'a, H: Handler>(
 }
 
 impl<H: Handler> Tenant<H> {
-    /// What a receipt adds and answers that passed all tests, where the unit's sessions are these.
-    fn plan(
-        &self,
-        alloc: Global,
-        by: &Receiver<'_, H>,
-        sessions: &Sessions,
-        arrival: Incoming<'_>,
-        turn: &Turn<H::State>,
-    ) -> Result<Plan, NoMemory>
-        requires mark { by.now.mark ≡ next_mark_of self.now by.now.unit by.now.member.now }
-        requires width { by.now.width ≡ length self.now.members }
-        requires there { by.now.unit < length self.now.members }
-        requires held { length by.now.member.now.outputs + length turn.now.outputs < 2 ^ 32 }
-        requires letters { length self.now.letters + length (sends_within (length self.now.members) turn.now) < 2 ^ 32 }
-        ensures { IfOk result (IsPlan self.now by.now.unit by.now.member.now (arrived arrival.entry) turn.now
-            sessions.now) }
-    {
-        let unit_state = by.member.unit_state();
-        let vector = vector_upon(
-            alloc,
-            by.width,
-            by.unit,
-            unit_state,
-            by.mark,
-            arrival.vector,
-        )?;
-        let made = letters_by(
-            alloc,
-            by.unit,
-            &vector,
-            sessions,
-            arrival.source,
-            turn.sends(),
-            by.width,
-        )?;
-        let letters = Letters::from_first(alloc, self.letters.len(), made.len())?;
-        let held = by.member.held_count() as u64 + turn.outputs().len() as u64;
-        let answer = PendingAccept::new(alloc, by.mark, held, letters)?;
-        let logged = RecordDraft {
-            unit: by.unit,
-            mark: by.mark,
-            source: arrival.source,
-            letter: arrival.letter,
-            number: arrival.number,
-            text: arrival.text,
-            vector,
-        };
-        Ok(Plan {
-            logged,
-            made,
-            answer,
-        })
-    }
-
     /// What a receipt adds and answers that passed the tests before its turn, or why it is refused for what its turn
     /// makes.
-    #[inline(always)]
-    pub(crate) fn admit(
+    pub(crate) fn plan(
         &self,
         alloc: Global,
         unit: Unit,
@@ -137,24 +71,46 @@ impl<H: Handler> Tenant<H> {
         ensures { IfOk result (IsPlanned self.now unit member.now (arrived arrival.entry) turn.now) }
     {
         let held = member.held_count();
+        let letters = self.letters.len();
         let width = self.member_count();
-        match turn_refusal(self.quota, held, self.letters.len(), width, turn) {
+        match turn_refusal(self.quota, held, letters, width, turn) {
             Some(refusal) => return Ok(Err(refusal)),
             None => {}
         }
+        let unit_state = member.unit_state();
         // The tests before the turn refuse a unit that is down.
-        let progress = match member.unit_state().progress() {
+        let progress = match unit_state.progress() {
             Some(progress) => progress,
             None => unreachable!(),
         };
-        let by = Receiver {
+        let mark = mark_upon(&self.table, unit, unit_state);
+        let vector = vector_upon(alloc, width, unit, unit_state, mark, arrival.vector)?;
+        let made = letters_by(
+            alloc,
             unit,
-            member,
-            mark: mark_upon(&self.table, unit, member.unit_state()),
+            &vector,
+            &progress.sessions,
+            arrival.source,
+            turn.sends(),
             width,
+        )?;
+        let numbers = Letters::from_first(alloc, letters, made.len())?;
+        let held = held as u64 + turn.outputs().len() as u64;
+        let answer = PendingAccept::new(alloc, mark, held, numbers)?;
+        let logged = RecordDraft {
+            unit,
+            mark,
+            source: arrival.source,
+            letter: arrival.letter,
+            number: arrival.number,
+            text: arrival.text,
+            vector,
         };
-        let plan = self.plan(alloc, &by, &progress.sessions, arrival, turn)?;
-        Ok(Ok(plan))
+        Ok(Ok(Plan {
+            logged,
+            made,
+            answer,
+        }))
     }
 
     /// Takes a receipt as it was planned, with the turn that it was planned for.

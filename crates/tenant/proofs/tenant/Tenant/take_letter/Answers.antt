@@ -48,8 +48,8 @@ returns-in-None-content-clause-done g c = λ live w log s.
     (c.requires.own sent c.in-Some-member.member.now there c.in-Some-member.ensures) in
     absurd none
 
-pub admit-requires-clause-room : goal.admit-requires-clause-room
-admit-requires-clause-room g c κs within =
+pub plan-requires-clause-room : goal.plan-requires-clause-room
+plan-requires-clause-room g c κs within =
     let sent : CompactLetter = record {
       source = c.sent.inside.source;
       receiver = c.sent.inside.receiver;
@@ -71,8 +71,8 @@ admit-requires-clause-room g c κs within =
     (c.requires.own sent c.in-Some-member.member.now there c.in-Some-member.ensures) in
     is.asking.room
 
-pub admit-requires-clause-up : goal.admit-requires-clause-up
-admit-requires-clause-up g c κs within =
+pub plan-requires-clause-up : goal.plan-requires-clause-up
+plan-requires-clause-up g c κs within =
     let sent : CompactLetter = record {
       source = c.sent.inside.source;
       receiver = c.sent.inside.receiver;
@@ -94,8 +94,8 @@ admit-requires-clause-up g c κs within =
     (c.requires.own sent c.in-Some-member.member.now there c.in-Some-member.ensures) in
     asked_is_up c.in-Some-member.member.now.unit_state (FromUnit sent.source) content.text is.input is.asking.asked
 
-pub admit-requires-clause-there : goal.admit-requires-clause-there
-admit-requires-clause-there g c κs within =
+pub plan-requires-clause-there : goal.plan-requires-clause-there
+plan-requires-clause-there g c κs within =
     slice_get_within c.args.self.now.members c.sent.inside.receiver _ c.in-Some-member.ensures
 
 pub apply-requires-clause-within : goal.apply-requires-clause-within

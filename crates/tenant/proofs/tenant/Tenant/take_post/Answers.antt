@@ -24,16 +24,16 @@ returns-in-Err-clause-done g c = λ live w log s.
     live c.args.self.now w log s c.args.unit c.args.number c.args.text c.in-Some.member.now c.in-Some.ensures
     r.input r.asking c.in-Err.refusal planned)
 
-pub admit-requires-clause-room : goal.admit-requires-clause-room
-admit-requires-clause-room g c κs within = (c.requires.own c.in-Some.member.now c.in-Some.ensures).asking.room
+pub plan-requires-clause-room : goal.plan-requires-clause-room
+plan-requires-clause-room g c κs within = (c.requires.own c.in-Some.member.now c.in-Some.ensures).asking.room
 
-pub admit-requires-clause-up : goal.admit-requires-clause-up
-admit-requires-clause-up g c κs within =
+pub plan-requires-clause-up : goal.plan-requires-clause-up
+plan-requires-clause-up g c κs within =
     let r = c.requires.own c.in-Some.member.now c.in-Some.ensures in
     asked_is_up c.in-Some.member.now.unit_state Outside c.args.text r.input r.asking.asked
 
-pub admit-requires-clause-there : goal.admit-requires-clause-there
-admit-requires-clause-there g c κs within = slice_get_within c.args.self.now.members c.args.unit _ c.in-Some.ensures
+pub plan-requires-clause-there : goal.plan-requires-clause-there
+plan-requires-clause-there g c κs within = slice_get_within c.args.self.now.members c.args.unit _ c.in-Some.ensures
 
 pub apply-requires-clause-within : goal.apply-requires-clause-within
 apply-requires-clause-within g c κs within = slice_get_within c.args.self.now.members c.args.unit _ c.in-Some.ensures
