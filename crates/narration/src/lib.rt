@@ -1,7 +1,8 @@
 //! What `run` and `drive` tell people beside the replies.
 //!
 //! - `serve_explained` (`explained`): each refusal with its reason, each letter that came to wait, and what a release
-//!   left behind, over the parts that `serve` of `lines` has, or `drive` of `driver`, for each line, and over `reasons`;
+//!   left behind, over the parts that `serve` of `lines` has, or over `drive` of `driver` for each line, and over
+//!   `reasons`;
 //! - `tell_driven`, `tell_done`, `tell_waiting`, `total` (`waits`): what drivers did, and the letters that wait;
 //! - `Hosted`: a handler, and the names of the kinds that it knows.
 //!
