@@ -18,6 +18,8 @@ BY_BOOK = "--explain"
 class Program:
     """Where the program is, the shim that plants its faults, and whether a book answers its runs."""
 
+    by_book = False
+
     def __init__(self, path, room, by_book=False):
         self.path = os.path.abspath(path)
         self.room = room
