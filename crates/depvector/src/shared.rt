@@ -13,7 +13,7 @@ use std::marker::Model;
 /// Copies of a long one share one place in memory; a short one lies in the value itself.
 #[derive(Drop)]
 pub struct SharedVector {
-    marks: Marks,
+    pub(crate) marks: Marks,
 }
 
 impl Model for SharedVector {
@@ -40,15 +40,6 @@ impl SharedVector {
     {
         let begun = DepVector::new(alloc, n)?;
         begun.into_shared(alloc)
-    }
-
-    /// The vector of these marks. Takes no memory.
-    #[inline(always)]
-    pub(crate) fn from_marks(marks: Marks) -> SharedVector
-        requires { length marks ≤ 256 }
-        ensures { result ≡ marks }
-    {
-        SharedVector { marks }
     }
 
     /// The vector of these marks, unit 0 first, which shares their place.
@@ -91,7 +82,8 @@ impl SharedVector {
     pub fn copy(&self, alloc: Global) -> Result<SharedVector, NoMemory>
         ensures { IfOk result (λ v. v ≡ self.now) }
     {
-        SharedVector::of(alloc, &self.marks)
+        let marks = self.marks.copy(alloc)?;
+        Ok(SharedVector { marks })
     }
 
     /// The marks as a record holds them. Takes no memory.

@@ -3,7 +3,7 @@
 ghost use Rattle.std.specs.Prelude.{◌≡◌, ◌<◌, ◌≤◌, IfOk, OnErr, length, slice_set};
 ghost use Rattle.depvector.specs.Vectors.{begun_vector, joined, mark_for, widened};
 
-use crate::marks::{beginning, join_marks, mark_of};
+use crate::marks::{beginning, mark_of};
 use crate::shared::SharedVector;
 use model::{MAX_INLINE_MARKS, Mark, Marks, NoMemory, Unit};
 use smallvec::SmallVec;
@@ -108,13 +108,16 @@ impl DepVector {
     }
 
     /// As [`DepVector::join`], with the other's marks.
-    #[tactic(auto, using(crate::proofs::Joins::joins))]
+    #[tactic(auto, using(crate::proofs::Joins::joins, crate::proofs::Joins::joined_step))]
     #[inline(always)]
     pub fn join_marks(&mut self, other: &[Mark])
         requires { length other.now ≤ length self.old }
         ensures { self.new ≡ joined self.old other.now }
     {
-        join_marks(self.marks.as_mut_slice(), other);
+        let own = self.marks.as_mut_slice();
+        for (unit, mark) in other.iter().enumerate() {
+            own[unit] = own[unit].later(*mark);
+        }
     }
 
     /// Sets the mark of a unit that has an entry. Takes no memory.
@@ -168,11 +171,11 @@ impl DepVector {
         let _units = self.len();
         if self.len() <= MAX_INLINE_MARKS {
             let marks = Marks::of(alloc, self.as_slice())?;
-            return Ok(SharedVector::from_marks(marks));
+            return Ok(SharedVector { marks });
         }
         let DepVector { marks } = self;
         let all = marks.into_vec()?;
         let marks = Marks::shared(all)?;
-        Ok(SharedVector::from_marks(marks))
+        Ok(SharedVector { marks })
     }
 }

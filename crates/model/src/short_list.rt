@@ -1,6 +1,6 @@
 //! Where the items of a list lie that is mostly short.
 
-ghost use Rattle.std.specs.Prelude.{◌≡◌, ◌≤◌, IfOk, IfSome, IsSome, length};
+ghost use Rattle.std.specs.Prelude.{◌≡◌, IfOk};
 ghost use Rattle.model.specs.Storage.{stored_items};
 
 use crate::fault::NoMemory;
@@ -23,21 +23,6 @@ pub(crate) enum ShortList<T> {
 }
 
 impl<T: Copy> ShortList<T> {
-    /// The items in the value itself, where there are so few.
-    #[inline(always)]
-    fn inline(items: &[T]) -> Option<ShortList<T>>
-        ensures few { length items.now ≤ MAX_INLINE_ITEMS → IsSome result }
-        ensures same { IfSome result (λ l. stored_items l ≡ items.now) }
-    {
-        match items {
-            [] => Some(ShortList::Zero),
-            [a] => Some(ShortList::One([*a, *a, *a])),
-            [a, b] => Some(ShortList::Two([*a, *b, *b])),
-            [a, b, c] => Some(ShortList::Three([*a, *b, *c])),
-            _ => None,
-        }
-    }
-
     #[inline(always)]
     pub(crate) fn as_slice(&self) -> &[T]
         ensures { result.now ≡ stored_items self.now }
@@ -56,9 +41,12 @@ impl<T: Copy> ShortList<T> {
     pub(crate) fn of_slice(alloc: Global, items: &[T]) -> Result<ShortList<T>, NoMemory>
         ensures { IfOk result (λ l. stored_items l ≡ items.now) }
     {
-        match ShortList::inline(items) {
-            Some(list) => Ok(list),
-            None => Ok(ShortList::Shared(ArcSlice::from_slice(alloc, items)?)),
+        match items {
+            [] => Ok(ShortList::Zero),
+            [a] => Ok(ShortList::One([*a, *a, *a])),
+            [a, b] => Ok(ShortList::Two([*a, *b, *b])),
+            [a, b, c] => Ok(ShortList::Three([*a, *b, *c])),
+            _ => Ok(ShortList::Shared(ArcSlice::from_slice(alloc, items)?)),
         }
     }
 

@@ -1,6 +1,6 @@
 //! Texts and lists that contracts see by their content.
 
-ghost use Rattle.std.specs.Prelude.{◌≡◌, ◌+◌, ◌<◌, ◌^◌, ℕ, List, Some, None, if◌then◌else◌, IfOk, IfSome, length};
+ghost use Rattle.std.specs.Prelude.{◌≡◌, ◌+◌, ◌<◌, ◌^◌, ℕ, List, Some, None, if◌then◌else◌, IfOk, length};
 ghost use Rattle.std.specs.Prelude.{string_bytes, IsTrue};
 ghost use Rattle.std.specs.List.{list_all};
 ghost use Rattle.std.specs.Str.{bytes_eq};
@@ -35,17 +35,6 @@ enum Storage {
 }
 
 impl Storage {
-    /// The characters in the value itself, where they fit.
-    #[inline(always)]
-    fn inline(text: &str) -> Option<Storage>
-        ensures { IfSome result (λ s. stored_bytes s ≡ text.now) }
-    {
-        match ArrayString::from(text) {
-            Ok(string) => Some(Storage::Inline(string)),
-            Err(_) => None,
-        }
-    }
-
     #[inline(always)]
     fn as_str(&self) -> &str
         ensures { result.now ≡ stored_bytes self.now }
@@ -97,13 +86,11 @@ impl Text {
     pub fn new(string: String) -> Result<Text, NoMemory>
         ensures { IfOk result (λ t. t ≡ string_bytes string) }
     {
-        if let Some(storage) = Storage::inline(string.as_str()) {
-            return Ok(Text { storage });
-        }
-        let shared = ArcStr::from_string(string)?;
-        Ok(Text {
-            storage: Storage::Shared(shared),
-        })
+        let storage = match ArrayString::from(string.as_str()) {
+            Ok(inline) => Storage::Inline(inline),
+            Err(_) => Storage::Shared(ArcStr::from_string(string)?),
+        };
+        Ok(Text { storage })
     }
 
     /// A text of its own with these characters. A short one takes no memory.
@@ -111,13 +98,11 @@ impl Text {
     pub fn of(alloc: Global, text: &str) -> Result<Text, NoMemory>
         ensures { IfOk result (λ t. t ≡ text.now) }
     {
-        if let Some(storage) = Storage::inline(text) {
-            return Ok(Text { storage });
-        }
-        let shared = ArcStr::from_str(alloc, text)?;
-        Ok(Text {
-            storage: Storage::Shared(shared),
-        })
+        let storage = match ArrayString::from(text) {
+            Ok(inline) => Storage::Inline(inline),
+            Err(_) => Storage::Shared(ArcStr::from_str(alloc, text)?),
+        };
+        Ok(Text { storage })
     }
 
     #[inline(always)]

@@ -3,7 +3,6 @@
 ghost use Rattle.std.specs.Prelude.{◌≡◌, ◌+◌, ◌-◌, ◌<◌, ◌≤◌, ◌∷◌, [], ◌++◌, IfOk, MatchOption, OnErr, Some, true};
 ghost use Rattle.std.specs.Prelude.{false, length, drop, nat_lt, slice_get, None};
 ghost use Rattle.std.specs.List.{prefix_len};
-ghost use Rattle.std.specs.VecDeque.{deque_capacity, deque_len};
 ghost use Rattle.output_commit.specs.Holds.{held_below, front_is_firm as is_front_firm, held_of};
 
 use crate::held::Held;
@@ -112,7 +111,9 @@ impl Hold {
         ensures unit { self.new.unit ≡ self.old.unit }
         ensures outputs { self.new.outputs ≡ self.old.outputs ++ held_of mark texts.items }
     {
-        push_all(&mut self.outputs, mark, texts);
+        for text in texts {
+            self.outputs.push_back_reserved(Held { mark, text });
+        }
     }
 
     /// The output at this place, the first at 0. Takes no memory, and a constant time.
@@ -190,14 +191,4 @@ fn count_below(outputs: &VecDeque<Held>, index: u32) -> usize
         }
     }
     outputs.len()
-}
-
-/// Adds the outputs of one interval, for which there is room.
-fn push_all(outputs: &mut VecDeque<Held>, mark: Mark, texts: Vec<Text>)
-    requires { deque_len outputs.old + length texts.items ≤ deque_capacity outputs.old }
-    ensures { outputs.new.items ≡ outputs.old.items ++ held_of mark texts.items }
-{
-    for text in texts {
-        outputs.push_back_reserved(Held { mark, text });
-    }
 }

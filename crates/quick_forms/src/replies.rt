@@ -233,21 +233,13 @@ fn number_between(out: &mut Vec<u8>, before: &str, n: u64, behind: &str) -> Resu
     Ok(())
 }
 
+/// A number behind these words. Most have one digit, which needs no room.
 #[inline(always)]
+#[tactic(auto, using(std::proofs::lemmas::Fmt::decimal_digit))]
 fn number_after(out: &mut Vec<u8>, before: &str, n: u64) -> Result<(), NoMemory>
     ensures { OnOk result (out.new.items ≡ out.old.items ++ (before.now ++ decimal n)) }
 {
     words(out, before)?;
-    digits(out, n)?;
-    Ok(())
-}
-
-/// The digits of a number. Most have one, which needs no room.
-#[inline(always)]
-#[tactic(auto, using(std::proofs::lemmas::Fmt::decimal_digit))]
-fn digits(out: &mut Vec<u8>, n: u64) -> Result<(), NoMemory>
-    ensures { OnOk result (out.new.items ≡ out.old.items ++ decimal n) }
-{
     if n < 10 {
         out.push(b'0' + n as u8)?;
         return Ok(());

@@ -44,7 +44,7 @@ fn delivery_line(line: &str) -> Option<AddressedStep>
 fn post_line(alloc: Global, line: &str) -> Result<Option<AddressedStep>, NoMemory>
     ensures { IfOk result (λ o. IfSome o (λ s. step_of_tokens (tokens line.now) ≡ Some s)) }
 {
-    let Some(rest) = behind_post(line) else {
+    let Some(rest) = after(line, "{\"do\":\"post\",\"number\":") else {
         return Ok(None);
     };
     let Some((number, tenant, text, unit)) = post_parts(rest) else {
@@ -69,15 +69,6 @@ fn behind_deliver(line: &str) -> Option<&str>
         line.now ≡ codes "{\"do\":" ++ (quoted_text (codes "deliver") ++ (codes ",\"letter\":" ++ rest.now))) }
 {
     after(line, "{\"do\":\"deliver\",\"letter\":")
-}
-
-/// What stands behind the verb of a post and the key of its number.
-#[tactic(auto, unfolding(json::specs::Print::escape_byte))]
-fn behind_post(line: &str) -> Option<&str>
-    ensures { IfSome result (λ rest.
-        line.now ≡ codes "{\"do\":" ++ (quoted_text (codes "post") ++ (codes ",\"number\":" ++ rest.now))) }
-{
-    after(line, "{\"do\":\"post\",\"number\":")
 }
 
 /// The verb, and what stands behind it.
@@ -170,32 +161,17 @@ fn is_plain(byte: u8) -> bool
 fn whole(text: &str) -> Option<(u64, &str)>
     ensures { IfSome result (λ p. text.now ≡ decimal p.0 ++ p.1.now) }
 {
-    let (digits, rest) = text.split_at_checked(digits_len(text.as_bytes()))?;
-    let number = number_of_digits(digits)?;
-    Some((number, rest))
-}
-
-/// How many bytes stand there that are digits.
-fn digits_len(bytes: &[u8]) -> usize
-    ensures { result ≤ length bytes.now }
-{
-    let mut at = 0;
-    while at < bytes.len() && bytes[at].is_ascii_digit() {
-        at += 1;
-    }
-    at
-}
-
-/// The number whose shortest digits these are.
-fn number_of_digits(digits: &str) -> Option<u64>
-    ensures { IfSome result (λ n. digits.now ≡ decimal n) }
-{
+    let count = text
+        .bytes()
+        .take_while(|byte| byte.is_ascii_digit())
+        .count();
+    let (digits, rest) = text.split_at_checked(count)?;
     let bytes = digits.as_bytes();
     if bytes.is_empty() || bytes[0] == b'+' || (bytes[0] == b'0' && bytes.len() > 1) {
         return None;
     }
     match digits.parse::<u32>() {
-        Ok(number) => Some(u64::from(number)),
+        Ok(number) => Some((u64::from(number), rest)),
         Err(_) => None,
     }
 }

@@ -52,11 +52,11 @@ pub fn read_addressed(
     let Some(text) = text_of(line) else {
         return Err(LineFault::Bad);
     };
-    if begins_no_object(text) {
-        return Err(LineFault::Bad);
-    }
     if let Some(step) = shortest(alloc, text)? {
         return Ok(step);
+    }
+    if begins_no_object(text) {
+        return Err(LineFault::Bad);
     }
     let mut reader = Reader::new(text, scratch)?;
     match quick(alloc, &mut reader) {

@@ -1,6 +1,6 @@
 -- Receipts from outside along what is kept of a path.
 use Rattle.std.proofs.Common.{◌≡◌, refl, ℕ, zero, suc, ◌+◌, ◌-◌, ◌<◌, ◌≤◌, cond, List, [], ◌∷◌, ◌++◌, length, take}
-use Rattle.std.proofs.Common.{drop, arith, add-one, length-drop}
+use Rattle.std.proofs.Common.{drop, arith, add-one}
 use Rattle.std.proofs.lemmas.List.Sums.{sum_by_push, sum_by-take-drop, count_by-le-length}
 use Rattle.std.proofs.lemmas.List.{drop-drop, length-take}
 use Rattle.compact.specs.Compact.{Interval}
@@ -36,14 +36,6 @@ outside_drop (x ∷ xs) (suc k) = rw (drop-drop 1 k xs, add-one k) (sum_by-take-
 pub outside_behind : (base outside : ℕ) (xs : List Interval) (k : ℕ)
     → IsOutside base outside xs → 0 < k → from_outside (drop k xs) ≤ outside
 outside_behind base outside xs k o h = let c = outside_cut xs k h in let a = o.kept in omega (arith, c, a)
-
--- there are fewer than intervals
-pub outside_few : (base outside : ℕ) (xs : List Interval) → IsOutside base outside xs → outside ≤ base + (length xs - 1)
-outside_few base outside xs o =
-    let a = o.before in
-    let b = count_by-le-length (λ (i : Interval). no_letter i.letter) (drop 1 xs) in
-    let c = length-drop 1 xs in
-    omega (arith, a, b, c)
 
 -- with one more interval
 pub outside_taken : (base outside : ℕ) (xs : List Interval) (i : Interval)

@@ -12,7 +12,7 @@ use Rattle.handler.specs.Inputs.{Input, turn_upon_input}
 use Rattle.checkpoint.specs.declared.snapshot.Snapshot.{Snapshot}
 use Rattle.checkpoint.specs.Shelves.{Shelved, IsShelved, IsTop, Rises, put_on, cut_at, based_at, nearest_of}
 use Rattle.depvector.specs.Vectors.{begun_vector}
-use Rattle.session.specs.Counts.{Counts, HasRoom, advanced}
+use Rattle.session.specs.Counts.{advanced}
 use Rattle.volatile_log.specs.Logs.{records_below}
 use Rattle.orphan.specs.Tests.{is_orphan_by}
 use Rattle.layer_laws.specs.Laws.{sent_all}
@@ -66,11 +66,6 @@ pub record IsKept {S : Type 0} (u : Recovering S) : Type 0 where
   pub outside : IsOutside u.base u.outside u.intervals
 
 -- ---- a receipt
-
--- The counts have room for a receipt and so many sends, and an entry for each unit within the width.
-pub record CountsFit (c : Counts) (source : Source) (width count : ℕ) : Type 0 where
-  pub room : HasRoom c source count
-  pub within : width ≤ length c.units
 
 -- the progress after a receipt from the source and its turn
 abbrev pub progress_after_turn : {S : Type 0} → Progress S → Source → ℕ → Turn S → Progress S

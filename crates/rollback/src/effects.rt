@@ -1,9 +1,5 @@
 //! What a turn does beside changing the state.
 
-ghost use Rattle.std.specs.Prelude.{◌≡◌};
-ghost use Rattle.rollback.specs.Units.{effects_of};
-
-use handler::Turn;
 use model::{Text, Unit};
 use std::marker::Model;
 
@@ -20,18 +16,4 @@ impl Model for Effects {
     ghost Value = { EffectsOf };
 
     ghost view = { λ e. record { sends = e.sends.items; outputs = e.outputs.items } };
-}
-
-impl Effects {
-    /// The effects of a turn.
-    pub(crate) fn of<S: Drop>(turn: Turn<S>) -> Effects
-        ensures { result ≡ effects_of turn }
-    {
-        let Turn {
-            state: _,
-            sends,
-            outputs,
-        } = turn;
-        Effects { sends, outputs }
-    }
 }

@@ -1,22 +1,20 @@
 //! What is kept of a path: its intervals from the base on, and the records of the volatile ones.
 
-ghost use Rattle.std.specs.Prelude.{◌≡◌, ◌+◌, ◌<◌, ◌≤◌, ◌^◌, ◌∷◌, [], ◌++◌, ◌-◌, IfOk, OnErr, None, length, drop, cond};
+ghost use Rattle.std.specs.Prelude.{◌≡◌, ◌+◌, ◌<◌, ◌≤◌, ◌^◌, ◌∷◌, [], ◌-◌, IfOk, None, length, drop, cond};
 ghost use Rattle.std.specs.Prelude.{slice_index_or};
 ghost use Rattle.std.specs.List.{position_or_len};
 ghost use Rattle.depvector.specs.Vectors.{begun_vector};
 ghost use Rattle.orphan.specs.Tests.{is_orphan_by};
 ghost use Rattle.compact.specs.Steps.{from_outside, no_letter};
-ghost use Rattle.rollback.specs.Units.{recorded, unknown, OrphansAreTail};
+ghost use Rattle.rollback.specs.Units.{unknown, OrphansAreTail};
 
 use crate::interval::Interval;
-use crate::record_draft::RecordDraft;
 use depvector::SharedVector;
 use incarnation::StartTable;
-use model::{Letter, NoMemory, TenantName};
+use model::{Letter, NoMemory};
 use orphan::any_lost;
 use std::alloc::Global;
 use std::collections::VecDeque;
-use volatile_log::VolatileLog;
 
 /// The path of a unit at its beginning.
 pub(crate) fn begun_path(alloc: Global, width: usize) -> Result<VecDeque<Interval>, NoMemory>
@@ -30,33 +28,6 @@ pub(crate) fn begun_path(alloc: Global, width: usize) -> Result<VecDeque<Interva
         letter: None,
     })?;
     Ok(path)
-}
-
-/// Adds an interval and its record, which is made there. Where that finds no memory, both stay.
-#[inline(always)]
-pub(crate) fn append(
-    tenant: &TenantName,
-    logged: RecordDraft,
-    intervals: &mut VecDeque<Interval>,
-    volatile: &mut VolatileLog,
-) -> Result<(), NoMemory>
-    ensures intervals { IfOk result (λ _.
-        intervals.new.items ≡ intervals.old.items ++ record { vector = logged.vector; letter = logged.letter } ∷ []) }
-    ensures volatile { IfOk result (λ _.
-        volatile.new.records ≡ volatile.old.records ++ recorded tenant.now logged ∷ []) }
-    ensures no_intervals { OnErr result (intervals.new.items ≡ intervals.old.items) }
-    ensures no_volatile { OnErr result (volatile.new.records ≡ volatile.old.records) }
-{
-    let alloc = *intervals.allocator();
-    intervals.reserve(1)?;
-    volatile.reserve(1)?;
-    let vector = logged.vector.copy(alloc)?;
-    intervals.push_back_reserved(Interval {
-        vector,
-        letter: logged.letter,
-    });
-    volatile.push(logged.into_record(tenant));
-    Ok(())
 }
 
 /// The index of the last interval.

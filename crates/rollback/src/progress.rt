@@ -1,16 +1,14 @@
 //! How far a unit has come.
 
-ghost use Rattle.std.specs.Prelude.{◌≡◌, ◌+◌, ◌<◌, ◌≤◌, ◌^◌, ◌↔◌, ℕ, IfOk, IsTrue, OnErr, Some, length, nat_lt};
+ghost use Rattle.std.specs.Prelude.{◌≡◌, ◌<◌, ℕ, IfOk, OnErr, Some, nat_lt};
 ghost use Rattle.std.specs.Prelude.{option_map};
 ghost use Rattle.std.specs.List.{filter};
-ghost use Rattle.session.specs.Counts.{sent_to, widened_counts};
+ghost use Rattle.session.specs.Counts.{advanced, widened_counts};
 ghost use Rattle.layer_laws.specs.Laws.{sent_all};
 ghost use Rattle.compact.specs.Compact.{Progress as ProgressOf, fitted};
 ghost use Rattle.compact.specs.Steps.{first_progress};
-ghost use Rattle.rollback.specs.Units.{progress_after_turn, effects_of, CountsFit};
 
-use crate::effects::Effects;
-use handler::{Handler, Turn};
+use handler::Handler;
 use model::{NoMemory, Seat, Source, Text, Unit};
 use session::Sessions;
 use std::alloc::Global;
@@ -58,65 +56,32 @@ pub(crate) fn copy<H: Handler>(
     Ok(Progress { state, sessions })
 }
 
-/// Whether a receipt from the source can be counted, and so many sends to units within the width.
-pub(crate) fn has_room(sessions: &Sessions, source: Source, sends: usize, width: usize) -> bool
-    ensures { IsTrue result ↔ CountsFit sessions.now source width sends }
-{
-    width <= sessions.len() && sessions.has_room(source, sends)
-}
-
-/// Goes on by one receipt and its turn, of whose sends those within the width count. Takes no memory.
-#[tactic(auto, using(crate::proofs::Sends::room_after_receipt, compact::proofs::Received::length_advanced))]
-pub(crate) fn advance<S: Drop>(
-    progress: &mut Progress<S>,
-    source: Source,
-    turn: Turn<S>,
+/// Counts one receipt from the source, and those sends of its turn that are to units within the width.
+///
+/// # Errors
+///
+/// `NoMemory` where they can't be counted; the counts stay as they were.
+#[tactic(auto, using(crate::proofs::Sends::room_after_receipt, crate::proofs::Sends::room_left, compact::proofs::Received::length_advanced))]
+pub(crate) fn count_receipt(
+    sessions: &mut Sessions,
+    source: &Source,
+    sends: &[(Unit, Text)],
     width: usize,
-) -> Effects
-    requires { CountsFit progress.old.sessions source width (length turn.sends) }
-    ensures progress { progress.new ≡ progress_after_turn progress.old source width turn }
-    ensures effects { result ≡ effects_of turn }
+) -> Result<(), NoMemory>
+    ensures ok { IfOk result (λ _.
+        sessions.new ≡ sent_all (advanced sessions.old source.now) (filter (λ s. nat_lt s.0 width) sends.now)) }
+    ensures err { OnErr result (sessions.new ≡ sessions.old) }
 {
-    let Turn {
-        state,
-        sends,
-        outputs,
-    } = turn;
-    progress.sessions.advance(source);
-    count_sends(&mut progress.sessions, sends.as_slice(), width);
-    progress.state = state;
-    Effects { sends, outputs }
-}
-
-/// Counts the sends to units within the width.
-#[tactic(auto, using(crate::proofs::Sends::room_left))]
-fn count_sends(sessions: &mut Sessions, sends: &[(Unit, Text)], width: usize)
-    requires within { width ≤ length sessions.old.units }
-    requires room { (u : ℕ) → sent_to sessions.old u + length sends.now < 2 ^ 64 }
-    ensures { sessions.new ≡ sent_all sessions.old (filter (λ s. nat_lt s.0 width) sends.now) }
-{
+    if width > sessions.len() || !sessions.has_room(*source, sends.len()) {
+        return Err(NoMemory);
+    }
+    sessions.advance(*source);
     for send in sends {
         if usize::from(send.0.number()) < width {
             sessions.sent(send.0);
         }
     }
-}
-
-/// The progress goes on by one receipt, where there is one.
-pub(crate) fn go_on<S: Drop>(
-    progress: &mut Option<Progress<S>>,
-    source: Source,
-    turn: Turn<S>,
-    width: usize,
-) -> Effects
-    requires { (p : ProgressOf S) → progress.old ≡ Some p → CountsFit p.sessions source width (length turn.sends) }
-    ensures progress { progress.new ≡ option_map (λ p. progress_after_turn p source width turn) progress.old }
-    ensures effects { result ≡ effects_of turn }
-{
-    match progress {
-        Some(progress) => advance(progress, source, turn, width),
-        None => Effects::of(turn),
-    }
+    Ok(())
 }
 
 /// Adds entries to the progress, where there is one. Where that finds no memory, it stays.

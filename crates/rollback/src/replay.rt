@@ -34,10 +34,8 @@ fn replay_one<H: Handler>(
         logged.text.as_str(),
     )?;
     let width = logged.vector.as_slice().len();
-    if !progress::has_room(&progress.sessions, logged.source, turn.sends().len(), width) {
-        return Err(NoMemory);
-    }
-    let _ = progress::advance(progress, logged.source, turn, width);
+    progress::count_receipt(&mut progress.sessions, &logged.source, turn.sends(), width)?;
+    progress.state = turn.state;
     Ok(())
 }
 

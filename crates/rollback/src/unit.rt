@@ -15,7 +15,7 @@ ghost use Rattle.compact.specs.Laws.{replayed};
 ghost use Rattle.compact.specs.Steps.{from_outside};
 ghost use Rattle.rollback.specs.Units.{asking, begun_unit, checkpointed, cut_behind, effects_of, forgotten};
 ghost use Rattle.rollback.specs.Units.{killed_recovering, marked_stable, places, recorded, records_to, restored};
-ghost use Rattle.rollback.specs.Units.{took, widened_to, BeginsBy, CountsFit, CountsOutside, IsTarget, KeepsShelved};
+ghost use Rattle.rollback.specs.Units.{took, widened_to, BeginsBy, CountsOutside, IsTarget, KeepsShelved};
 ghost use Rattle.rollback.specs.Units.{IsKept, IsTurnUpon, OrphansAreTail};
 
 use crate::effects::Effects;
@@ -310,28 +310,28 @@ impl<H: Handler> RecoveryUnit<H> {
             → CountsOutside before self.new) }
         ensures err { OnErr result (self.new ≡ self.old) }
     {
-        let source = logged.source;
-        let more = path::one_from_outside(logged.letter);
-        let width = match self.counted_width(&logged, turn.sends().len()) {
-            Some(width) => width,
+        let progress = match &mut self.progress {
+            Some(progress) => progress,
             None => return Err(NoMemory),
         };
-        path::append(tenant, logged, &mut self.intervals, &mut self.volatile)?;
-        let effects = progress::go_on(&mut self.progress, source, turn, width);
-        self.outside += more;
-        Ok(effects)
-    }
-
-    /// How many units the vector of a receipt has an entry for, where the unit is up and can count the receipt and so
-    /// many sends to these.
-    fn counted_width(&self, logged: &RecordDraft, sends: usize) -> Option<usize>
-        ensures width { IfSome result (λ width. width ≡ length logged.now.vector) }
-        ensures fit { IfSome result (λ width. (p : ProgressOf H.State) → self.now.progress ≡ Some p
-            → CountsFit p.sessions logged.now.source width sends) }
-    {
-        let width = logged.vector.as_slice().len();
-        let progress = self.progress.as_ref()?;
-        progress::has_room(&progress.sessions, logged.source, sends, width).then_some(width)
+        self.intervals.reserve(1)?;
+        self.volatile.reserve(1)?;
+        let vector = logged.vector.copy(*self.intervals.allocator())?;
+        let width = vector.as_slice().len();
+        progress::count_receipt(&mut progress.sessions, &logged.source, turn.sends(), width)?;
+        let Turn {
+            state,
+            sends,
+            outputs,
+        } = turn;
+        progress.state = state;
+        self.outside += path::one_from_outside(logged.letter);
+        self.intervals.push_back_reserved(Interval {
+            vector,
+            letter: logged.letter,
+        });
+        self.volatile.push(logged.into_record(tenant));
+        Ok(Effects { sends, outputs })
     }
 
     /// So many of the volatile records are on stable storage now. Takes no memory.

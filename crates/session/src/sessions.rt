@@ -110,23 +110,10 @@ impl Sessions {
     pub fn has_room(&self, source: Source, letters: usize) -> bool
         ensures { IsTrue result ↔ HasRoom self.now source letters }
     {
-        self.can_advance(source) && self.can_send(letters as u64)
-    }
-
-    /// Whether so many more letters to each unit can be counted.
-    fn can_send(&self, letters: u64) -> bool
-        ensures { IsTrue result ↔ ((unit : ℕ) → sent_to self.now unit + letters < 2 ^ 64) }
-    {
-        if self.most_sent <= u64::MAX - letters {
-            return true;
+        let letters = letters as u64;
+        if self.most_sent > u64::MAX - letters && !have_room(self.units.as_slice(), letters) {
+            return false;
         }
-        have_room(self.units.as_slice(), letters)
-    }
-
-    /// Whether one more receipt from the source can be counted.
-    fn can_advance(&self, source: Source) -> bool
-        ensures { IsTrue result ↔ (IsCounted self.now source × (taken_from self.now source + 1 < 2 ^ 64)) }
-    {
         match source {
             Source::Outside => self.outside < u64::MAX,
             Source::Unit(unit) => {

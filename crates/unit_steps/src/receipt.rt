@@ -1,11 +1,10 @@
 //! The mark and the vector of the interval that a receipt makes.
 
-ghost use Rattle.std.specs.Prelude.{◌≡◌, ◌<◌, ◌≤◌, ◌^◌, IfOk, length};
-ghost use Rattle.depvector.specs.Vectors.{joined};
+ghost use Rattle.std.specs.Prelude.{◌≡◌, ◌<◌, ◌^◌, IfOk};
 ghost use Rattle.rollback.specs.Units.{places};
-ghost use Rattle.unit_steps.specs.Receipts.{last_vector_of, mark_upon as mark_upon_of, vector_marked};
+ghost use Rattle.unit_steps.specs.Receipts.{mark_upon as mark_upon_of, vector_marked};
 
-use depvector::{DepVector, SharedVector};
+use depvector::SharedVector;
 use handler::Handler;
 use incarnation::StartTable;
 use model::{Mark, NoMemory, Unit};
@@ -20,22 +19,6 @@ pub fn mark_upon<H: Handler>(table: &StartTable, unit: Unit, unit_state: &Recove
         incarnation: table.latest(unit),
         index: unit_state.last_index().saturating_add(1),
     }
-}
-
-/// The vector of the last interval.
-fn last_vector<H: Handler>(unit_state: &RecoveryUnit<H>) -> &SharedVector
-    ensures { result.now ≡ last_vector_of unit_state.now }
-{
-    let last = unit_state.last_index();
-    &unit_state.interval(last).vector
-}
-
-/// Joins these marks, as far as the vector has entries.
-fn join_known(vector: &mut DepVector, sent: &[Mark])
-    ensures { vector.new ≡ joined vector.old sent.now }
-{
-    let count = sent.len().min(vector.len());
-    vector.join_marks(&sent[..count]);
 }
 
 /// The vector of the interval that a receipt makes, where this is its mark: the last one, with an entry for each unit,
@@ -58,9 +41,11 @@ pub fn vector_upon<H: Handler>(
     if width > 256 {
         return Err(NoMemory);
     }
-    let mut vector = last_vector(unit_state).to_own(alloc)?;
+    let last = unit_state.interval(unit_state.last_index());
+    let mut vector = last.vector.to_own(alloc)?;
     vector.widen(width)?;
-    join_known(&mut vector, letter);
+    let known = letter.len().min(vector.len());
+    vector.join_marks(&letter[..known]);
     vector.set_own(unit, mark);
     vector.into_shared(alloc)
 }

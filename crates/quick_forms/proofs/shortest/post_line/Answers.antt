@@ -1,11 +1,12 @@
 use Rattle.std.proofs.Common.{◌≡◌, ◌<◌, ◌^◌, ap, sym, ◌∙◌, ◌++◌, codes, rules}
-use Rattle.json.specs.Print.{quoted}
+use Rattle.json.specs.Print.{quoted, escape_byte}
 use Rattle.serde_json.specs.Written.{compact_text}
 use Rattle.quick_forms.specs.Seen.{post_data}
 use Rattle.quick_forms.proofs.Compact.{found, post_text, post_parts}
 use Rattle.quick_forms.proofs.shortest.post_line.Goals as goal
 
 pub returns : goal.returns
+unfolding escape_byte
 returns c =
     let verb = codes "post" in
     let at = c.in-Some-post_parts in

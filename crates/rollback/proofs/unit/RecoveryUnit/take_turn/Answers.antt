@@ -1,27 +1,18 @@
-use Rattle.std.proofs.Common.{◌≡◌, sym, ◌∙◌, ap, subst, ◌+◌, ◌<◌, ◌^◌, drop, arith}
+use Rattle.std.proofs.Common.{◌≡◌, sym, ap, subst, ◌+◌, ◌<◌, ◌^◌, ◌++◌, ◌∷◌, [], drop, arith, rules}
 use Rattle.compact.specs.Steps.{from_outside}
 use Rattle.rollback.specs.Units.{Recovering, CountsOutside, places, recorded}
 use Rattle.rollback.proofs.StaysKept.{kept_took}
-use Rattle.rollback.proofs.Outside.{counts_taken, outside_few}
+use Rattle.rollback.proofs.Outside.{counts_taken}
 use Rattle.rollback.proofs.unit.RecoveryUnit.take_turn.Goals as goal
-
-pub go_on-effects-requires : goal.go_on-effects-requires
-go_on-effects-requires g c = λ p e.
-    let was : c.args.self.now.progress ≡ _ = ap (λ (u : Recovering _). u.progress) (sym c.self.view_is) ∙ e in
-    let sends : c.sends.result.now ≡ c.args.turn.sends = c.sends.ensures in
-    rw (← sends) (c.in-Some.ensures.fit p was)
-
-pub overflow_add-self : goal.overflow_add-self
-overflow_add-self g c =
-    let few =
-    outside_few c.self.inside.base c.self.inside.outside c.self.inside.intervals.items c.self.invariant.outside in
-    let short = c.self.invariant.few in
-    let some = c.self.invariant.stable in
-    let one = c.one_from_outside-more.ensures.few in
-    omega (arith, few, short, some, one)
 
 pub invariant_of-self-2 : goal.invariant_of-self-2
 invariant_of-self-2 g c =
+    let intervals : c.push_back_reserved.new.self.items ≡ c.self.inside.intervals.items
+    ++ record { vector = c.args.logged.vector; letter = c.args.logged.letter } ∷ [] =
+    search (c.push_back_reserved.ensures.items, c.in_ok-reserve.ensures.items, c.in_ok-vector.ensures, rules) in
+    let volatile : c.push.new.self.records ≡ c.self.inside.volatile.records
+    ++ recorded c.args.tenant.now c.args.logged ∷ [] =
+    search (c.push.ensures.records, c.in_ok-reserve-2.ensures.same, c.into_record.ensures, rules) in
     kept_took (record {
       seat = c.self.inside.seat;
       progress = c.self.inside.progress;
@@ -31,20 +22,22 @@ invariant_of-self-2 g c =
       intervals = c.self.inside.intervals.items;
       volatile = c.self.inside.volatile.records;
     })
-    c.go_on-effects.new.progress (c.self.inside.outside + c.one_from_outside-more.result)
-    c.append.new.intervals.items c.append.new.volatile.records
+    _ (c.self.inside.outside + c.one_from_outside.result)
+    c.push_back_reserved.new.self.items c.push.new.self.records
     (record { vector = c.args.logged.vector; letter = c.args.logged.letter })
     (recorded c.args.tenant.now c.args.logged) c.self.invariant
     (subst (λ (u : Recovering _). places u < 2 ^ 32) (sym c.self.view_is) c.requires.room)
     (subst (λ (u : Recovering _). c.args.logged.mark.index ≡ places u) (sym c.self.view_is) c.requires.mark)
-    c.in_ok-append.ensures.intervals c.in_ok-append.ensures.volatile
-    (ap (λ k. c.self.inside.outside + k) c.one_from_outside-more.ensures.value)
+    intervals volatile (ap (λ k. c.self.inside.outside + k) c.one_from_outside.ensures.value)
 
 pub returns-clause-outside : goal.returns-clause-outside
 returns-clause-outside g c = λ before was.
+    let intervals : c.push_back_reserved.new.self.items ≡ c.self.inside.intervals.items
+    ++ record { vector = c.args.logged.vector; letter = c.args.logged.letter } ∷ [] =
+    search (c.push_back_reserved.ensures.items, c.in_ok-reserve.ensures.items, c.in_ok-vector.ensures, rules) in
     let some = c.self.invariant.stable in
     let here : c.self.inside.outside ≡ before + from_outside (drop 1 c.self.inside.intervals.items) =
     subst (λ (u : Recovering _). CountsOutside before u) (sym c.self.view_is) was in
-    rw (c.in_ok-append.ensures.intervals, c.one_from_outside-more.ensures.value)
+    rw (intervals, c.one_from_outside.ensures.value)
     (counts_taken c.self.inside.outside before c.self.inside.intervals.items
     (record { vector = c.args.logged.vector; letter = c.args.logged.letter }) (omega (arith, some)) here)
