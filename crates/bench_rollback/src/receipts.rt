@@ -2,7 +2,7 @@
 
 ghost use Rattle.std.specs.Prelude.{◌≡◌, IfOk, length};
 
-use handler::Sample;
+use handler::{Ask, Sample};
 use model::{Kind, Mark, Marks, NoMemory, Record, Seat, Source, TenantName, Text, Unit};
 use rollback::RecoveryUnit;
 use std::alloc::Global;
@@ -61,8 +61,13 @@ pub(crate) fn take(alloc: Global, unit: &mut RecoveryUnit<Sample>) -> Result<usi
         return Ok(0);
     }
     let record = logged(alloc, last + 1)?;
-    let ask = match unit.ask(record.source, &record.text) {
-        Some(ask) => ask.to_ask(alloc, &Sample)?,
+    let ask = match unit.progress() {
+        Some(progress) => Ask::new(
+            unit.seat(),
+            progress.state,
+            record.source,
+            record.text.copy()?,
+        ),
         None => return Ok(0),
     };
     let done = ask.work(alloc, &Sample)?;

@@ -94,16 +94,4 @@ impl SharedVector {
     {
         self.marks
     }
-
-    /// An equal vector to go on from.
-    ///
-    /// # Errors
-    ///
-    /// `NoMemory` where the entries find no memory.
-    #[inline(always)]
-    pub fn to_own(&self, alloc: Global) -> Result<DepVector, NoMemory>
-        ensures { IfOk result (λ v. v ≡ self.now) }
-    {
-        DepVector::of(alloc, self.as_slice())
-    }
 }

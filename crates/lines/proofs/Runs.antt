@@ -13,7 +13,7 @@ use Rattle.std.proofs.lemmas.List.Concat.{flat_map-cons}
 use Rattle.std.specs.Io.KnownBytes.{Appends, Keeps}
 use Rattle.std.proofs.KnownBytes.{Appends-trans, Appends-kept, Keeps-refl}
 use Rattle.model.specs.declared.limits.TheConstants.{MAX_LINE_BYTES}
-use Rattle.model.specs.declared.refusals.Refusal.TheVariants.{BadLine}
+use Rattle.model.specs.declared.refusals.Refusal.TheVariants.{BadLine, Memory}
 use Rattle.model.specs.declared.replies.Entry.{Entry}
 use Rattle.model.specs.declared.replies.Reply.{Reply}
 use Rattle.model.specs.declared.replies.Reply.TheVariants.{Refused}
@@ -22,14 +22,18 @@ use Rattle.model.specs.declared.steps.Step.{Step}
 use Rattle.model.specs.declared.steps.Step.TheVariants.{Open, Join, Post, Deliver, Flush, Checkpoint, Kill, Restart}
 use Rattle.model.specs.declared.steps.Step.TheVariants.{Notice, Release, Status}
 use Rattle.book.specs.Entries.{Ledger, memory_reply}
-use Rattle.forms.specs.Reading.{step_of_line}
+use Rattle.forms.specs.declared.fault.LineFault.{LineFault}
+use Rattle.forms.specs.declared.fault.LineFault.TheVariants.{Bad, NoMemory}
+use Rattle.forms.specs.Reading.{Gives, step_of_line}
 use Rattle.lines.specs.Lines.{LinesRead}
+use Rattle.lines.specs.Parts.{IsLineRead}
+use Rattle.lines.specs.declared.input.LineRead.TheVariants.{Line, Long}
 use Rattle.written.specs.Beginnings.{AppendsBeginning}
 use Rattle.model.specs.Handler.{Meaning}
 use Rattle.book.specs.Standing.{Carries, HostState, IsHostOf}
 use Rattle.lines.specs.Serving.{line_step, AnsweredLineBy, AnsweredStep, AnsweredStepBy}
 use Rattle.lines.specs.Serving.{HostDoes, HostServes, Serves, ServedAllBy, ServedSomeBy, ServesBy, IsRemembered, told}
-use Rattle.lines.specs.Serving.{entered_before, IsBadOr, EntersEach, reply_line, TookLine, Broken}
+use Rattle.lines.specs.Serving.{entered_before, IsBadOr, EntersEach, reply_line, reply_upon, TookLine, Broken}
 use Rattle.lines.proofs.Parts.{LinesRead-more, TakesPart-none}
 
 -- a line that is too long is no step
@@ -50,6 +54,54 @@ long_answered Does line old long = (
       (sym (line_step-long line long)) (inr (refl, refl)),
   λ _. refl,
 )
+
+-- a line that is held, and was not read for want of memory
+unread_answered : {B : Type 0} (Does : B → Step → Reply → B → Type 0) (line : List ℕ) (old : B)
+    → length line ≤ MAX_LINE_BYTES → AnsweredLineBy Does line old (Refused Memory) old
+unread_answered Does line old fits = (unread (line_step line), λ long. absurd (omega (arith, long, fits)))
+  where
+    unread : (read : Option Step) → AnsweredStepBy Does read old (Refused Memory) old
+    unread None = inl (refl, refl)
+    unread (Some step) = inl (refl, refl)
+
+-- one that gave no step, answered
+fault_answered : {B : Type 0} (Does : B → Step → Reply → B → Type 0) (line : List ℕ) (old : B) (fault : LineFault)
+    → length line ≤ MAX_LINE_BYTES → Gives (λ (step : Step). step) (Err fault) (step_of_line line)
+    → AnsweredLineBy Does line old (reply_upon fault) old
+fault_answered Does line old Bad fits is = (
+  subst (λ s. AnsweredStepBy Does s old (Refused BadLine) old)
+      (sym (line_step-held line fits ∙ is)) (inr (refl, refl)),
+  λ _. refl,
+)
+fault_answered Does line old NoMemory fits is = unread_answered Does line old fits
+
+-- one that is a step, answered
+step_answered : {B : Type 0} (Does : B → Step → Reply → B → Type 0) (line : List ℕ) (step : Step)
+    (old : B) (reply : Reply) (new : B)
+    → length line ≤ MAX_LINE_BYTES → step_of_line line ≡ Some step → Does old step reply new
+    → AnsweredLineBy Does line old reply new
+step_answered Does line step old reply new fits is does = (
+  subst (λ s. AnsweredStepBy Does s old reply new) (sym (line_step-held line fits ∙ is)) (inr does),
+  λ long. absurd (omega (arith, long, fits)),
+)
+
+module _ {B : Type 0} (Does : B → Step → Reply → B → Type 0) (held : List ℕ) (input input' : Option (List ℕ)) where
+  -- a line that was taken, and its answer
+  abbrev pub IsTaken : B → Reply → B → Type 0
+  IsTaken old reply new =
+      (line : List ℕ) × LinesRead input input' (line ∷ []) × AnsweredLineBy Does line old reply new
+
+  pub long_taken : (old : B) → IsLineRead Long held input input' → IsTaken old (Refused BadLine) old
+  long_taken old read = (read.0, read.2, long_answered Does read.0 old read.1)
+
+  pub fault_taken : (old : B) (fault : LineFault) → IsLineRead Line held input input'
+      → Gives (λ (step : Step). step) (Err fault) (step_of_line held) → IsTaken old (reply_upon fault) old
+  fault_taken old fault read is = (held, read.1, fault_answered Does held old fault read.0 is)
+
+  pub step_taken : (step : Step) (old : B) (reply : Reply) (new : B) → IsLineRead Line held input input'
+      → step_of_line held ≡ Some step → Does old step reply new → IsTaken old reply new
+  step_taken step old reply new read is does =
+      (held, read.1, step_answered Does held step old reply new read.0 is does)
 
 -- what stays and then grows
 pub Keeps-then : (a b c : Option (List ℕ)) (bs : List ℕ) → Keeps a b → Appends b c bs → Appends a c bs

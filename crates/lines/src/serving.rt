@@ -12,7 +12,7 @@ ghost use Rattle.model.specs.declared.replies.Who.TheVariants.{Caller};
 ghost use Rattle.book.specs.Entries.{IsEntered};
 ghost use Rattle.book.specs.Standing.{Carries, EntersHonestly, IsHostOf};
 ghost use Rattle.lines.specs.Doing.{DoesBy, TakesSteps};
-ghost use Rattle.lines.specs.Serving.{AnsweredLineBy, Serves, EntersEach, HostServes, IsRemembered};
+ghost use Rattle.lines.specs.Serving.{Serves, EntersEach, HostServes, IsRemembered};
 ghost use Rattle.lines.specs.Serving.{reply_line};
 ghost use Rattle.lines.specs.Serving.{reply_upon, ServedAll, ServedAllBy, ServedSome, ServedSomeBy, ServesBy, Took};
 ghost use Rattle.lines.specs.Serving.{Broken};
@@ -169,24 +169,19 @@ fn serve_line<R: BufRead, W: Write, B, F: Fn(&mut B, AddressedStep) -> Reply>(
     ensures write_same { result ≢ Err ServeFault.Write → writer.new.failed ≡ writer.old.failed }
     ensures fewer { OnOk result (reader.new.left < reader.old.left) }
 {
-    match read_line(reader, writer, held, ahead)? {
+    let reply = match read_line(reader, writer, held, ahead)? {
         LineRead::End => {
             flush_unless(writer, false)?;
-            Ok(false)
+            return Ok(false);
         }
-        LineRead::Long => {
-            let reply = Reply::Refused {
-                refusal: Refusal::BadLine,
-            };
-            put_reply(writer, text, &reply)?;
-            Ok(true)
-        }
-        LineRead::Line => {
-            let reply = answer_line(alloc, book, step, scratch, held.as_slice());
-            put_reply(writer, text, &reply)?;
-            Ok(true)
-        }
-    }
+        LineRead::Long => fault_reply(LineFault::Bad),
+        LineRead::Line => match read_addressed(alloc, scratch, held.as_slice()) {
+            Ok(read) => step(book, read),
+            Err(fault) => fault_reply(fault),
+        },
+    };
+    put_reply(writer, text, &reply)?;
+    Ok(true)
 }
 
 /// Writes a reply's line, with its line feed. Its text is made in a buffer that can be kept for the next; what it
@@ -210,25 +205,6 @@ pub fn put_reply<W: Write>(
         return Err(ServeFault::NoMemory);
     }
     put_bytes(writer, text.as_slice())
-}
-
-// Does what a line says.
-#[tactic(auto, unfolding(crate::specs::Serving::line_step))]
-fn answer_line<B, F: Fn(&mut B, AddressedStep) -> Reply>(
-    alloc: Global,
-    book: &mut B,
-    step: &F,
-    scratch: &mut Scratch,
-    line: &[u8],
-) -> Reply
-    requires short { length line.now ≤ MAX_LINE_BYTES }
-    requires takes { TakesSteps F.Fn step.now }
-    ensures { AnsweredLineBy (DoesBy F.Fn step.now) line.now book.old result book.new }
-{
-    match read_addressed(alloc, scratch, line) {
-        Ok(read) => step(book, read),
-        Err(fault) => fault_reply(fault),
-    }
 }
 
 /// The reply to a line that gave no step: `bad-line`, or `memory`.

@@ -36,5 +36,6 @@ pub use names::{Kind, Letter, Mark, Quota, Row, Seat, Source, Start, Unit};
 pub use records::Record;
 pub use refusals::Refusal;
 pub use replies::{End, Entry, Reply, Said, Who};
+pub use short_list::ShortList;
 pub use steps::{Step, TenantStep};
 pub use text::{Letters, TenantName, Text, Texts};

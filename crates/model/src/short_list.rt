@@ -1,10 +1,11 @@
-//! Where the items of a list lie that is mostly short.
+//! Lists that are mostly short.
 
 ghost use Rattle.std.specs.Prelude.{◌≡◌, IfOk};
 ghost use Rattle.model.specs.Storage.{stored_items};
 
 use crate::fault::NoMemory;
 use std::alloc::Global;
+use std::marker::Model;
 use std::sync::ArcSlice;
 
 /// How many items of a list lie in the value itself.
@@ -12,7 +13,7 @@ pub(crate) const MAX_INLINE_ITEMS: usize = 3;
 
 /// Where the items of a list lie.
 #[derive(Debug, Drop)]
-pub(crate) enum ShortList<T> {
+enum ListStorage<T> {
     // In the value itself: the first so many of these.
     Zero,
     One([T; MAX_INLINE_ITEMS]),
@@ -22,48 +23,89 @@ pub(crate) enum ShortList<T> {
     Shared(ArcSlice<T>),
 }
 
+/// A list, seen as its items. A short one lies in the value itself; copies of any other share one place in memory,
+/// which goes with the last of them.
+#[derive(Debug, Drop)]
+pub struct ShortList<T> {
+    storage: ListStorage<T>,
+}
+
+impl<T> Model for ShortList<T> {
+    ghost use Rattle.std.specs.Prelude.{List};
+    ghost use Rattle.model.specs.Storage.{stored_items};
+
+    ghost Value = { List T };
+
+    ghost view = { λ l. stored_items l.storage };
+}
+
 impl<T: Copy> ShortList<T> {
+    /// A list of its own of these items, which copies can share.
+    ///
+    /// # Errors
+    ///
+    /// `NoMemory` where they find no memory. A short list takes none.
     #[inline(always)]
-    pub(crate) fn as_slice(&self) -> &[T]
-        ensures { result.now ≡ stored_items self.now }
+    pub fn of(alloc: Global, items: &[T]) -> Result<ShortList<T>, NoMemory>
+        ensures { IfOk result (λ l. l ≡ items.now) }
     {
-        match self {
-            ShortList::Zero => &[],
-            ShortList::One(items) => &items[..1],
-            ShortList::Two(items) => &items[..2],
-            ShortList::Three(items) => items,
-            ShortList::Shared(items) => items.as_slice(),
-        }
+        let storage = match items {
+            [] => ListStorage::Zero,
+            [a] => ListStorage::One([*a, *a, *a]),
+            [a, b] => ListStorage::Two([*a, *b, *b]),
+            [a, b, c] => ListStorage::Three([*a, *b, *c]),
+            _ => ListStorage::Shared(ArcSlice::from_slice(alloc, items)?),
+        };
+        Ok(ShortList { storage })
     }
 
-    /// A list of its own of these items, which copies can share.
+    /// These items, where they lie, for copies to share. Takes a few bytes.
+    ///
+    /// # Errors
+    ///
+    /// `NoMemory` where these bytes find no memory.
     #[inline(always)]
-    pub(crate) fn of_slice(alloc: Global, items: &[T]) -> Result<ShortList<T>, NoMemory>
-        ensures { IfOk result (λ l. stored_items l ≡ items.now) }
+    pub fn shared(items: Vec<T>) -> Result<ShortList<T>, NoMemory>
+        ensures { IfOk result (λ l. l ≡ items.items) }
     {
-        match items {
-            [] => Ok(ShortList::Zero),
-            [a] => Ok(ShortList::One([*a, *a, *a])),
-            [a, b] => Ok(ShortList::Two([*a, *b, *b])),
-            [a, b, c] => Ok(ShortList::Three([*a, *b, *c])),
-            _ => Ok(ShortList::Shared(ArcSlice::from_slice(alloc, items)?)),
+        let shared = ArcSlice::from_vec(items)?;
+        Ok(ShortList {
+            storage: ListStorage::Shared(shared),
+        })
+    }
+
+    #[inline(always)]
+    pub fn as_slice(&self) -> &[T]
+        ensures { result.now ≡ self.now }
+    {
+        match &self.storage {
+            ListStorage::Zero => &[],
+            ListStorage::One(items) => &items[..1],
+            ListStorage::Two(items) => &items[..2],
+            ListStorage::Three(items) => items,
+            ListStorage::Shared(items) => items.as_slice(),
         }
     }
 
     /// An equal list. It takes memory only where 2^63 - 1 lists share the items already.
+    ///
+    /// # Errors
+    ///
+    /// `NoMemory` where it finds none then.
     #[inline(always)]
-    pub(crate) fn copy(&self, alloc: Global) -> Result<ShortList<T>, NoMemory>
-        ensures { IfOk result (λ l. stored_items l ≡ stored_items self.now) }
+    pub fn copy(&self, alloc: Global) -> Result<ShortList<T>, NoMemory>
+        ensures { IfOk result (λ l. l ≡ self.now) }
     {
-        match self {
-            ShortList::Zero => Ok(ShortList::Zero),
-            ShortList::One(items) => Ok(ShortList::One(*items)),
-            ShortList::Two(items) => Ok(ShortList::Two(*items)),
-            ShortList::Three(items) => Ok(ShortList::Three(*items)),
-            ShortList::Shared(items) => match items.clone() {
-                Ok(shared) => Ok(ShortList::Shared(shared)),
-                Err(_) => ShortList::of_slice(alloc, items.as_slice()),
+        let storage = match &self.storage {
+            ListStorage::Zero => ListStorage::Zero,
+            ListStorage::One(items) => ListStorage::One(*items),
+            ListStorage::Two(items) => ListStorage::Two(*items),
+            ListStorage::Three(items) => ListStorage::Three(*items),
+            ListStorage::Shared(items) => match items.clone() {
+                Ok(shared) => ListStorage::Shared(shared),
+                Err(_) => return ShortList::of(alloc, items.as_slice()),
             },
-        }
+        };
+        Ok(ShortList { storage })
     }
 }

@@ -242,21 +242,8 @@ impl Eq for Texts {
     ghost laws = { Prim.search (comparing, rules) };
 }
 
-/// A list of letters, seen as the list of their numbers. A short one lies in the value itself; copies of any other
-/// share one place in memory, which goes with the last of them.
-#[derive(Debug, Drop)]
-pub struct Letters {
-    letters: ShortList<Letter>,
-}
-
-impl Model for Letters {
-    ghost use Rattle.std.specs.Prelude.{List, ℕ};
-    ghost use Rattle.model.specs.Storage.{stored_items};
-
-    ghost Value = { List ℕ };
-
-    ghost view = { λ l. stored_items l.letters };
-}
+/// A list of letters, seen as the list of their numbers.
+pub type Letters = ShortList<Letter>;
 
 /// The letter that comes so many after the first.
 fn nth(first: usize, i: usize) -> Letter
@@ -278,20 +265,7 @@ fn letters_from(alloc: Global, first: usize, n: usize) -> Result<Vec<Letter>, No
     Ok(letters)
 }
 
-impl Letters {
-    /// A list of its own of these letters.
-    ///
-    /// # Errors
-    ///
-    /// `NoMemory` where they find no memory. A short list takes none.
-    #[inline(always)]
-    pub fn of(alloc: Global, letters: &[Letter]) -> Result<Letters, NoMemory>
-        ensures { IfOk result (λ ls. ls ≡ letters.now) }
-    {
-        let letters = ShortList::of_slice(alloc, letters)?;
-        Ok(Letters { letters })
-    }
-
+impl ShortList<Letter> {
     /// The `n` letters from `first` on.
     ///
     /// # Errors
@@ -302,47 +276,26 @@ impl Letters {
         requires { first + n < 2 ^ 32 }
         ensures { IfOk result (λ ls. ls ≡ numbers_from first n) }
     {
-        let letters = match n {
-            0 => ShortList::Zero,
-            1 => ShortList::of_slice(alloc, &[nth(first, 0)])?,
-            2 => ShortList::of_slice(alloc, &[nth(first, 0), nth(first, 1)])?,
-            _ => ShortList::of_slice(alloc, letters_from(alloc, first, n)?.as_slice())?,
-        };
-        Ok(Letters { letters })
-    }
-
-    #[inline(always)]
-    pub fn as_slice(&self) -> &[Letter]
-        ensures { result.now ≡ self.now }
-    {
-        self.letters.as_slice()
-    }
-
-    /// An equal list. It takes memory only where 2^63 - 1 lists share it already.
-    ///
-    /// # Errors
-    ///
-    /// `NoMemory` where it finds none then.
-    #[inline(always)]
-    pub fn copy(&self, alloc: Global) -> Result<Letters, NoMemory>
-        ensures { IfOk result (λ l. l ≡ self.now) }
-    {
-        let letters = self.letters.copy(alloc)?;
-        Ok(Letters { letters })
+        match n {
+            0 => ShortList::of(alloc, &[]),
+            1 => ShortList::of(alloc, &[nth(first, 0)]),
+            2 => ShortList::of(alloc, &[nth(first, 0), nth(first, 1)]),
+            _ => ShortList::of(alloc, letters_from(alloc, first, n)?.as_slice()),
+        }
     }
 }
 
-impl PartialEq for Letters {
+impl PartialEq for ShortList<Letter> {
     ghost eq = { bytes_eq };
 
     ghost laws = { Prim.search (comparing, rules) };
 
-    fn eq(&self, other: &Letters) -> bool {
+    fn eq(&self, other: &ShortList<Letter>) -> bool {
         self.as_slice() == other.as_slice()
     }
 }
 
-impl Eq for Letters {
+impl Eq for ShortList<Letter> {
     ghost laws = { Prim.search (comparing, rules) };
 }
 

@@ -26,9 +26,9 @@ use crate::record_draft::RecordDraft;
 use crate::{path, replay, shelving};
 use checkpoint::Shelf;
 use depvector::SharedVector;
-use handler::{AskRef, Done, Handler, Turn};
+use handler::{Done, Handler, Turn};
 use incarnation::StartTable;
-use model::{NoMemory, Record, Seat, Source, TenantName, Text};
+use model::{NoMemory, Record, Seat, TenantName};
 use session::Sessions;
 use std::alloc::Global;
 use std::collections::VecDeque;
@@ -232,17 +232,6 @@ impl<H: Handler> RecoveryUnit<H> {
         ensures few { result ≤ 2 ^ 32 }
     {
         self.shelf.len()
-    }
-
-    /// The whole input of the unit's turn upon a receipt of this text from this source, where it lies, and where the
-    /// unit is up. Takes no memory.
-    pub fn ask<'a>(&'a self, source: Source, text: &'a Text) -> Option<AskRef<'a, H>>
-        ensures { result ≡ asking self.now source text.now }
-    {
-        match &self.progress {
-            Some(progress) => Some(AskRef::new(self.seat, &progress.state, source, text)),
-            None => None,
-        }
     }
 
     /// Takes a receipt: its interval with its record, which is volatile, and the turn that was worked

@@ -109,7 +109,7 @@ fn read(alloc: Global, recorded: &Marks) -> Result<SharedVector, NoMemory> {
 }
 
 fn to_own(alloc: Global, read: &SharedVector) -> Result<DepVector, NoMemory> {
-    read.to_own(alloc)
+    DepVector::of(alloc, read.as_slice())
 }
 
 /// Whether marks stay what they are where a vector of them is shared, recorded, read and gone on from.

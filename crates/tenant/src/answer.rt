@@ -212,10 +212,10 @@ impl Answer {
 /// the letters that it made, with a second hold of them.
 #[derive(Drop)]
 pub(crate) struct PendingAccept {
-    at: Mark,
-    held: u64,
-    letters: Letters,
-    spare: Letters,
+    pub(crate) at: Mark,
+    pub(crate) held: u64,
+    pub(crate) letters: Letters,
+    pub(crate) spare: Letters,
 }
 
 impl Model for PendingAccept {
@@ -232,28 +232,6 @@ impl Model for PendingAccept {
 }
 
 impl PendingAccept {
-    /// A receipt is accepted.
-    ///
-    /// # Errors
-    ///
-    /// `NoMemory` where the second hold of the letters finds no memory.
-    pub(crate) fn new(
-        alloc: Global,
-        at: Mark,
-        held: u64,
-        letters: Letters,
-    ) -> Result<PendingAccept, NoMemory>
-        ensures { IfOk result (λ a. (a.reply ≡ Accepted at held letters) × IsPlain a) }
-    {
-        let spare = letters.copy(alloc)?;
-        Ok(PendingAccept {
-            at,
-            held,
-            letters,
-            spare,
-        })
-    }
-
     /// The answer itself.
     pub(crate) fn into_answer(self) -> Answer
         ensures { result ≡ self }

@@ -16,7 +16,7 @@ ghost use Rattle.tenant.specs.Represents.{DoesAs, StandsFor};
 
 use crate::answer::Answer;
 use crate::member::Member;
-use crate::receipts::{Incoming, ask_upon};
+use crate::receipts::Incoming;
 use crate::tenant::Tenant;
 use handler::{AskRef, Handler, Turn};
 use model::{Letter, NoMemory, Refusal, Source, TenantName};
@@ -86,7 +86,7 @@ impl<H: Handler> Tenant<H> {
                 return Err(Refusal::Repeat);
             }
         };
-        ask_upon(member, Source::Unit(sent.source), content.text())
+        member.ask(Source::Unit(sent.source), content.text())
     }
 
     /// A unit receives a letter, by the turn that this needs.

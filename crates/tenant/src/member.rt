@@ -1,15 +1,17 @@
 //! One unit of a tenant.
 
-ghost use Rattle.std.specs.Prelude.{◌≡◌, ◌≢◌, ◌++◌, ◌+◌, ◌-◌, ◌<◌, ◌≤◌, ℕ, IfOk, IfSome, OnErr, Some, min, length};
-ghost use Rattle.std.specs.Prelude.{option_map, slice_index, true};
+ghost use Rattle.std.specs.Prelude.{◌≡◌, ◌≢◌, ◌++◌, ◌+◌, ◌-◌, ◌<◌, ◌≤◌, ℕ, IfErr, IfOk, IfSome, None, OnErr};
+ghost use Rattle.std.specs.Prelude.{Some, length, min, option_map, slice_index, true};
 ghost use Rattle.std.specs.Option.{is_some};
+ghost use Rattle.model.specs.declared.refusals.Refusal.TheVariants.{Down};
 ghost use Rattle.output_commit.specs.Holds.{gone_of as count_of, room_of, line_texts};
 ghost use Rattle.compact.specs.Compact.{CompactUnit};
 ghost use Rattle.compact.specs.Steps.{last_mark as last_mark_of};
 ghost use Rattle.checkpoint.specs.declared.snapshot.Snapshot.{Snapshot as SnapshotOf};
 ghost use Rattle.checkpoint.specs.Shelves.{has_index, nearest_of};
 ghost use Rattle.compact.specs.Compact.{Progress as ProgressOf};
-ghost use Rattle.rollback.specs.Units.{IsKept, IsTarget, OrphansAreTail, places, recorded, restored, stable_places};
+ghost use Rattle.rollback.specs.Units.{asking, IsKept, IsTarget, OrphansAreTail, places, recorded, restored};
+ghost use Rattle.rollback.specs.Units.{stable_places};
 ghost use Rattle.session.specs.Counts.{widened_counts};
 ghost use Rattle.rollback_laws.specs.Seen.{IsSeen};
 ghost use Rattle.tenant.specs.Bases.{next_base, rebased_member};
@@ -19,9 +21,9 @@ ghost use Rattle.tenant.specs.Kept.{outputs_to, released_member, fitted_member, 
 ghost use Rattle.tenant.specs.Kept.{returned_member, IsNext, received_member};
 
 use crate::releasing;
-use handler::{Handler, Turn};
+use handler::{AskRef, Handler, Turn};
 use incarnation::StartTable;
-use model::{Mark, NoMemory, Record, Seat, TenantName, Text, Unit};
+use model::{Mark, NoMemory, Record, Refusal, Seat, Source, TenantName, Text, Unit};
 use output_commit::{Hold, Outlet};
 use rollback::{Progress, RecordDraft, RecoveryUnit};
 use session::Sessions;
@@ -156,6 +158,26 @@ impl<H: Handler> Member<H> {
         ensures { result ≡ self.now.unit_state.seat }
     {
         self.unit_state.seat()
+    }
+
+    /// The turn that it has upon this text from this source, or that it is down. Takes no memory.
+    pub(crate) fn ask<'a>(
+        &'a self,
+        source: Source,
+        text: &'a Text,
+    ) -> Result<AskRef<'a, H>, Refusal>
+        ensures asked { IfOk result (λ input. asking self.now.unit_state source text.now ≡ Some input) }
+        ensures down { IfErr result (λ refusal. (refusal ≡ Down) × (self.now.unit_state.progress ≡ None)) }
+    {
+        match self.unit_state.progress() {
+            Some(progress) => Ok(AskRef::new(
+                self.unit_state.seat(),
+                &progress.state,
+                source,
+                text,
+            )),
+            None => Err(Refusal::Down),
+        }
     }
 
     /// How many outputs are held.

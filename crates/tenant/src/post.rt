@@ -13,7 +13,7 @@ ghost use Rattle.tenant.specs.Outcomes.{IsPlain};
 ghost use Rattle.tenant.specs.Represents.{DoesAs, StandsFor};
 
 use crate::answer::Answer;
-use crate::receipts::{Incoming, ask_upon};
+use crate::receipts::Incoming;
 use crate::tenant::Tenant;
 use handler::{AskRef, Handler, Turn};
 use model::{NoMemory, Refusal, Source, TenantName, Text, Unit};
@@ -52,7 +52,7 @@ impl<H: Handler> Tenant<H> {
             Some(refusal) => return Err(refusal),
             None => {}
         }
-        ask_upon(member, Source::Outside, text)
+        member.ask(Source::Outside, text)
     }
 
     /// A unit receives a text from outside, by the turn that this needs.

@@ -1,6 +1,6 @@
 //! A receipt, once its turn is worked: what it adds and answers.
 
-ghost use Rattle.std.specs.Prelude.{◌≡◌, ◌+◌, ◌<◌, ◌≤◌, ◌^◌, IfOk, IfErr, None, OnErr, Some, length, slice_get};
+ghost use Rattle.std.specs.Prelude.{◌≡◌, ◌+◌, ◌<◌, ◌≤◌, ◌^◌, IfOk, OnErr, Some, length, slice_get};
 ghost use Rattle.std.specs.Prelude.{true};
 ghost use Rattle.std.specs.Option.{is_some};
 ghost use Rattle.model.specs.Lists.{numbers_from};
@@ -37,21 +37,6 @@ pub(crate) struct Plan {
     pub(crate) logged: RecordDraft,
     pub(crate) made: NewLetters,
     pub(crate) answer: PendingAccept,
-}
-
-/// The turn that a unit has upon this text, or that it is down.
-pub(crate) fn ask_upon<'a, H: Handler>(
-    member: &'a Member<H>,
-    source: Source,
-    text: &'a Text,
-) -> Result<AskRef<'a, H>, Refusal>
-    ensures asked { IfOk result (λ input. asking member.now.unit_state source text.now ≡ Some input) }
-    ensures down { IfErr result (λ refusal. (refusal ≡ Down) × (member.now.unit_state.progress ≡ None)) }
-{
-    match member.unit_state().ask(source, text) {
-        Some(ask) => Ok(ask),
-        None => Err(Refusal::Down),
-    }
 }
 
 impl<H: Handler> Tenant<H> {
@@ -96,7 +81,13 @@ impl<H: Handler> Tenant<H> {
         )?;
         let numbers = Letters::from_first(alloc, letters, made.len())?;
         let held = held as u64 + turn.outputs().len() as u64;
-        let answer = PendingAccept::new(alloc, mark, held, numbers)?;
+        let spare = numbers.copy(alloc)?;
+        let answer = PendingAccept {
+            at: mark,
+            held,
+            letters: numbers,
+            spare,
+        };
         let logged = RecordDraft {
             unit,
             mark,

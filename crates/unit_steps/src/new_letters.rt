@@ -1,15 +1,13 @@
 //! The letters of one turn.
 
-ghost use Rattle.std.specs.Prelude.{◌≡◌, ◌+◌, ◌≤◌, [], ◌∷◌, ◌++◌, length};
-ghost use Rattle.std.specs.VecDeque.{deque_capacity, deque_len};
+ghost use Rattle.std.specs.Prelude.{◌≡◌, [], ◌∷◌, length};
 
 use crate::letters::SentLetter;
-use std::collections::VecDeque;
 use std::marker::Model;
 
 /// Where the letters of a turn lie.
 #[derive(Drop)]
-enum LetterStorage {
+pub(crate) enum LetterStorage {
     Zero,
     // In the value itself.
     One(SentLetter),
@@ -19,7 +17,7 @@ enum LetterStorage {
 /// The letters of one turn. Most turns make one at most, for which there is no list.
 #[derive(Drop)]
 pub struct NewLetters {
-    letters: LetterStorage,
+    pub(crate) letters: LetterStorage,
 }
 
 impl Model for NewLetters {
@@ -65,29 +63,5 @@ impl NewLetters {
             LetterStorage::One(_) => 1,
             LetterStorage::Many(letters) => letters.len(),
         }
-    }
-
-    /// Moves them behind other letters, which have room for them. Takes no memory.
-    #[inline(always)]
-    pub(crate) fn move_behind(self, letters: &mut VecDeque<SentLetter>)
-        requires { deque_len letters.old + length self.items ≤ deque_capacity letters.old }
-        ensures { letters.new.items ≡ letters.old.items ++ self.items }
-    {
-        let NewLetters { letters: made } = self;
-        match made {
-            LetterStorage::Zero => {}
-            LetterStorage::One(letter) => letters.push_back_reserved(letter),
-            LetterStorage::Many(more) => push_all(letters, more),
-        }
-    }
-}
-
-/// Moves these letters behind others, which have room for them.
-fn push_all(letters: &mut VecDeque<SentLetter>, more: Vec<SentLetter>)
-    requires { deque_len letters.old + length more.items ≤ deque_capacity letters.old }
-    ensures { letters.new.items ≡ letters.old.items ++ more.items }
-{
-    for letter in more {
-        letters.push_back_reserved(letter);
     }
 }

@@ -4,7 +4,7 @@ ghost use Rattle.std.specs.Prelude.{◌≡◌, ◌<◌, ◌^◌, IfOk};
 ghost use Rattle.rollback.specs.Units.{places};
 ghost use Rattle.unit_steps.specs.Receipts.{mark_upon as mark_upon_of, vector_marked};
 
-use depvector::SharedVector;
+use depvector::{DepVector, SharedVector};
 use handler::Handler;
 use incarnation::StartTable;
 use model::{Mark, NoMemory, Unit};
@@ -42,7 +42,7 @@ pub fn vector_upon<H: Handler>(
         return Err(NoMemory);
     }
     let last = unit_state.interval(unit_state.last_index());
-    let mut vector = last.vector.to_own(alloc)?;
+    let mut vector = DepVector::of(alloc, last.vector.as_slice())?;
     vector.widen(width)?;
     let known = letter.len().min(vector.len());
     vector.join_marks(&letter[..known]);

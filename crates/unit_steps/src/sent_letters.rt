@@ -1,16 +1,16 @@
 //! All letters that a tenant's units sent.
 
-ghost use Rattle.std.specs.Prelude.{◌≡◌, ◌<◌, ◌≤◌, [], ◌∷◌, ◌++◌, ℕ, IfOk, IfSome, MatchOption, None, OnOk, Some};
+ghost use Rattle.std.specs.Prelude.{◌≡◌, ◌+◌, ◌<◌, ◌≤◌, [], ◌∷◌, ◌++◌, ℕ, IfOk, IfSome, MatchOption, None, OnOk, Some};
 ghost use Rattle.std.specs.Prelude.{length, map, slice_get, slice_set, true};
 ghost use Rattle.std.specs.List.{filter};
-ghost use Rattle.std.specs.VecDeque.{deque_len};
+ghost use Rattle.std.specs.VecDeque.{deque_capacity, deque_len};
 ghost use Rattle.compact.specs.Compact.{CompactLetter};
 ghost use Rattle.compact.specs.Forgetting.{without_content};
 ghost use Rattle.spent_letters.specs.declared.spent_letters.TheConstants.{MOST};
 ghost use Rattle.unit_steps.specs.SentLetters.{front, is_spent_to, is_whole_to, spent_letter, spent_of};
 
 use crate::letters::{Content, SentLetter};
-use crate::new_letters::NewLetters;
+use crate::new_letters::{LetterStorage, NewLetters};
 use model::{NoMemory, Unit};
 use spent_letters::{SpentLetter, SpentLetters};
 use std::alloc::Global;
@@ -152,7 +152,12 @@ impl SentLetters {
         requires { length made.items ≤ self.old.room }
         ensures { self.new.items ≡ self.old.items ++ made.items }
     {
-        made.move_behind(&mut self.rest);
+        let NewLetters { letters } = made;
+        match letters {
+            LetterStorage::Zero => {}
+            LetterStorage::One(letter) => self.rest.push_back_reserved(letter),
+            LetterStorage::Many(letters) => push_all(&mut self.rest, letters),
+        }
     }
 
     /// The letters at the front whose contents are forgotten, where all of them are kept packed.
@@ -266,6 +271,16 @@ impl SentLetters {
         }
         let _ = self.rest.pop_front();
         true
+    }
+}
+
+/// Moves these letters behind others, which have room for them.
+fn push_all(letters: &mut VecDeque<SentLetter>, more: Vec<SentLetter>)
+    requires { deque_len letters.old + length more.items ≤ deque_capacity letters.old }
+    ensures { letters.new.items ≡ letters.old.items ++ more.items }
+{
+    for letter in more {
+        letters.push_back_reserved(letter);
     }
 }
 

@@ -24,8 +24,8 @@ returns g c =
     omega (arith, c.last_index.ensures.last) in
     let there : slice_get kept (length kept - 1) ≡ Some c.interval-last.result.now =
     rw place at c.interval-last.ensures in
-    let last : c.in_ok-vector.vector ≡ last_vector_of c.args.unit_state.now = c.in_ok-vector.ensures
-    ∙ ap (λ (i : Interval). i.vector)
+    let last : c.in_ok-vector.vector ≡ last_vector_of c.args.unit_state.now =
+    c.in_ok-vector.ensures ∙ c.as_slice.ensures.marks ∙ ap (λ (i : Interval). i.vector)
     (c.last.view_is ∙ sym (get_or_from_slice_get kept (length kept - 1) c.interval-last.result.now unknown there)) in
     let wide : c.widen.new.self ≡ widened (last_vector_of c.args.unit_state.now) c.args.width =
     c.in_ok-widen.ensures.ok ∙ ap (λ v. widened v c.args.width) last in

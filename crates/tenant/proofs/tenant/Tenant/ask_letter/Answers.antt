@@ -60,4 +60,4 @@ returns-clause-asked g c = λ name live w log s.
     (ap (letter_refusal_of c.args.self.now c.in-Some-member.member.now) c.sent.view_is ∙ sym told) in
     letter_asked g.H.Handler.meaning name live c.args.self.now w log s c.args.letter sent
     there c.in-Some-member.member.now c.in-Some-member.ensures content whole (same ∙ c.in-None-letter_refusal.is)
-    c.ask_upon.result c.ask_upon.ensures.asked c.ask_upon.ensures.down
+    c.ask.result c.ask.ensures.asked c.ask.ensures.down

@@ -25,4 +25,4 @@ returns-clause-asked g c = λ name live w log s.
     c.unit_state.ensures i) (sym c.from.ensures i) c.args.text.now) ∙ sym c.arrival_refusal.ensures.refusal) in
     post_asked g.H.Handler.meaning name live
     c.args.self.now w log s c.args.unit c.args.number c.args.text.now c.in-Some.member.now c.in-Some.ensures (same
-    ∙ c.in-None-arrival_refusal.is) c.ask_upon.result c.ask_upon.ensures.asked c.ask_upon.ensures.down
+    ∙ c.in-None-arrival_refusal.is) c.ask.result c.ask.ensures.asked c.ask.ensures.down

@@ -61,8 +61,7 @@ returns g c =
             made = c.in_ok-made.ensures
                 ∙ (λ i. letters_by c.args.unit (vector i) (advanced (sessions i) c.args.arrival.source)
                 (filter (λ s. nat_lt s.0 (width i)) (c.sends.ensures i)));
-            reply = c.in_ok-answer.ensures.0
-                ∙ (λ i. Accepted (mark i) (c.held_count-held.ensures i + length (c.outputs.ensures i)) (numbers i));
-            plain = c.in_ok-answer.ensures.1;
+            reply = λ i. Accepted (mark i) (c.held_count-held.ensures i + length (c.outputs.ensures i)) (numbers i);
+            plain = search rules;
           },
     )

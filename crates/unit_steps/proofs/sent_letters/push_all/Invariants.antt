@@ -1,6 +1,6 @@
 use Rattle.std.proofs.Common.{◌≡◌, ◌+◌, ◌≤◌, ◌++◌, length}
 use Rattle.std.specs.VecDeque.{deque_capacity, deque_len}
-use Rattle.unit_steps.proofs.new_letters.push_all.Given as goal
+use Rattle.unit_steps.proofs.sent_letters.push_all.Given as goal
 
 -- the letters and those to come are the same all along, and there is room for those
 abbrev pub invariant-loop-letter : goal.invariant-loop-letter
