@@ -12,6 +12,7 @@ use model::{Entry, NoMemory, TenantName};
 use shared_log::Store;
 use std::alloc::Global;
 use std::marker::Model;
+use std::mem;
 
 /// The entries of one tenant, in order.
 #[derive(Drop)]
@@ -73,6 +74,11 @@ impl Model for Parts {
 }
 
 impl Parts {
+    /// Leaves them as they are, where the process ends with them: to let go of the copied entries takes a while.
+    pub fn forget(self) {
+        mem::forget(self);
+    }
+
     /// The tenant's own entries, in order: none where no step named it.
     pub fn of(&self, tenant: &TenantName) -> &[Entry]
         ensures { result.now ≡ part_at self.now tenant.now }

@@ -25,6 +25,7 @@ use model::{
 use shared_log::Store;
 use std::alloc::Global;
 use std::marker::Model;
+use std::mem;
 use tenant::{Answer, Footprint};
 
 /// A host of all tenants with the log of all of them, and the history of their steps. Contracts see a book as its
@@ -59,6 +60,11 @@ impl<H: Handler, S: Store> Book<H, S> {
             host: Host::new(alloc, handler, store),
             history: Vec::new(alloc),
         }
+    }
+
+    /// Leaves it as it is, where the process ends with it: to let go of all that it keeps takes a while.
+    pub fn forget(self) {
+        mem::forget(self);
     }
 
     /// The host that the book is, without its history.

@@ -28,6 +28,7 @@ use model::{AddressedStep, Kept, Letter, NoMemory, Reply, Step, TenantName, Tena
 use shared_log::{SharedLog, Store};
 use std::alloc::Global;
 use std::marker::Model;
+use std::mem;
 use tenant::{Answer, Footprint, Tenant};
 
 /// All tenants, and the log of all of them. It stores no history of their steps. Contracts see a host as its tenants
@@ -67,6 +68,11 @@ impl<H: Handler, S: Store> Host<H, S> {
             log: SharedLog::new(alloc, store),
             tenants: IndexMap::new(alloc),
         }
+    }
+
+    /// Leaves it as it is, where the process ends with it: to let go of all that it keeps takes a while.
+    pub fn forget(self) {
+        mem::forget(self);
     }
 
     /// The host of these tenants, in the order of opening, and this log. Takes no memory.

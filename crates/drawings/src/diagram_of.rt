@@ -8,7 +8,6 @@ use log::{Log, error};
 use model::NoMemory;
 use std::alloc::Global;
 use std::io::Read;
-use std::mem;
 use std::time::Clock;
 use words::DrawWords;
 
@@ -32,8 +31,7 @@ pub(crate) fn diagram_of<R: Eprint + Clock, L: Log, H: Handler + Copy, I: Read +
         }
     };
     let diagram = drawn(told, alloc, &handler, &followed, draw);
-    // The process ends with this: to let go of the history takes a while.
-    mem::forget(followed);
+    followed.forget();
     diagram
 }
 

@@ -10,12 +10,22 @@ use std::io::{BufReader, Read};
 use std::time::Clock;
 use terminal::{BLOCK, Bar, Watched};
 
-/// What the steps of an input have come to.
-#[derive(Drop)]
+/// What the steps of an input have come to. It isn't let go of: the process ends with its picture (`forget`).
 pub(crate) struct Followed<H: Handler> {
     pub book: Book<H, MemoryStore>,
     /// The number of the line of each entry of the book's history, the first line being 1.
     pub lines: Vec<u64>,
+}
+
+impl<H: Handler> Followed<H> {
+    /// Leaves it as it is, for the process to end with.
+    pub(crate) fn forget(self) {
+        let Followed {
+            book,
+            lines: _lines,
+        } = self;
+        book.forget();
+    }
 }
 
 /// Reads the input, and then does its steps. Where the input has so many bytes, a bar tells how far the reading is, and
@@ -64,6 +74,7 @@ fn do_steps<R: Eprint + Clock, H: Handler>(
         if let Ok(step) = line {
             book.step(step);
             if numbers.len() < book.history().len() && numbers.push(number).is_err() {
+                book.forget();
                 return Err(ServeFault::NoMemory);
             }
         }

@@ -12,7 +12,6 @@ use std::alloc::Global;
 use std::cell::Cell;
 use std::fs::{File, Files};
 use std::io::{BufReader, BufWriter, Read, Write};
-use std::mem;
 use std::sync::Wait;
 use std::thread::Threads;
 use std::time::Clock;
@@ -115,8 +114,7 @@ pub fn feeds_asked<
                 faults.as_slice(),
                 asked,
             );
-            // The process ends with this: to let go of the history takes a while.
-            mem::forget(closed);
+            closed.forget();
             status
         }
         Err(fault) => {

@@ -6,7 +6,6 @@ use handler::Handler;
 use model::{Entry, Reply, Step};
 use stable_log::Store;
 use std::alloc::Global;
-use std::mem;
 use std::sync::Wait;
 use std::thread::Threads;
 use workers::{Closed, Gate, run_feeds};
@@ -49,7 +48,7 @@ pub(crate) fn run_through<
     requires store { S.log store ≡ [] }
     requires feeds { vec_len feeds < 2 ^ 32 }
 {
-    mem::forget(run(rt, alloc, handler, store, feeds, gate)?);
+    run(rt, alloc, handler, store, feeds, gate)?.forget();
     Ok(())
 }
 

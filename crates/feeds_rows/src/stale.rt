@@ -13,7 +13,6 @@ use handler::Sample;
 use model::{Mark, NoMemory, Reply, Step};
 use stable_log::MemoryStore;
 use std::alloc::Global;
-use std::mem;
 use std::sync::Wait;
 use std::sync::atomic::{AtomicBool, AtomicU32, Ordering};
 use std::thread::Threads;
@@ -79,7 +78,7 @@ fn asked_when_overtaken<R: Threads + Wait + Sync>(
     let store = MemoryStore::new(alloc);
     let closed = run(rt, alloc, Sample, store, steps(alloc, times)?, &gate)?;
     let is_accepted = is_behind(&closed, times.saturating_add(1));
-    mem::forget(closed);
+    closed.forget();
     Ok(if is_accepted? {
         Some(asked.load(Ordering::SeqCst))
     } else {

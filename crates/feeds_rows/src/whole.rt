@@ -7,7 +7,6 @@ use handler::Sample;
 use model::{Entry, Mark, Reply, Who};
 use stable_log::MemoryStore;
 use std::alloc::Global;
-use std::mem;
 use std::sync::Wait;
 use std::thread::Threads;
 use workers::Closed;
@@ -57,7 +56,7 @@ pub(crate) fn are_entered_whole<R: Threads + Wait + Sync>(
     let steps = feeds(alloc, POSTS, ["x", "y"])?;
     let closed = run(rt, alloc, Sample, store, steps, &Idle)?;
     let found = are_whole(&closed);
-    mem::forget(closed);
+    closed.forget();
     found
 }
 
@@ -89,6 +88,6 @@ pub(crate) fn leave_no_history<R: Threads + Wait + Sync>(
     let store = MemoryStore::new(alloc);
     let closed = run(rt, alloc, Sample, store, Vec::new(alloc), &Idle)?;
     let is_empty = history(&closed).is_empty();
-    mem::forget(closed);
+    closed.forget();
     Ok(is_empty)
 }

@@ -9,7 +9,7 @@ use std::alloc::{AllocError, Global};
 use std::fmt::{Display, Formatter};
 use std::fs::{File, Files};
 use std::io::{BufReader, ErrorKind, Read, Seek, SeekFrom, Take};
-use std::{fmt, io};
+use std::{fmt, io, mem};
 use terminal::{BLOCK, Plural};
 
 /// What a journal has.
@@ -102,6 +102,11 @@ fn lines_of(lines: u64, trimmed: Option<Trimmed>) -> u64 {
 }
 
 impl Told {
+    /// Leaves it as it is, where the process ends with it.
+    pub fn forget(self) {
+        mem::forget(self);
+    }
+
     /// The object that says it.
     pub fn to_json(&self, alloc: Global) -> Result<String, AllocError> {
         let maker = self.about.as_ref().map(|about| &about.maker);

@@ -7,6 +7,7 @@ use crate::flow::{Flow, Waiting};
 use indexmap::IndexMap;
 use model::{Letter, NoMemory, Refusal, Reply, TenantName, TenantStep, Unit};
 use std::alloc::Global;
+use std::mem;
 
 /// How much the driver did.
 #[derive(Clone, Copy, Debug, PartialEq, Eq)]
@@ -147,6 +148,11 @@ impl Driver {
             flows: IndexMap::new(alloc),
             done: Done::none(),
         }
+    }
+
+    /// Leaves it as it is, where the process ends with it: to let go of all that it keeps takes a while.
+    pub fn forget(self) {
+        mem::forget(self);
     }
 
     /// How much it did.

@@ -11,7 +11,6 @@ use model::{NoMemory, TenantName};
 use shared_log::Store;
 use std::alloc::Global;
 use std::io::Write;
-use std::mem;
 
 /// Audits each open tenant, in the order of their names, and writes a line for each. Tells the
 /// status to end with: 0 where all audits say yes, and else 1.
@@ -34,8 +33,7 @@ pub fn audit_all<L: Log, W: Write, H: Handler, S: Store>(
         return 1;
     };
     let status = audit_each(rt, alloc, handler, writer, book, &parts, names);
-    // The process ends with this: to let go of the copied entries takes a while.
-    mem::forget(parts);
+    parts.forget();
     status
 }
 

@@ -13,9 +13,9 @@ use snapshot::{LoadFault, load, load_earlier, save};
 use std::alloc::Global;
 use std::fmt::Display;
 use std::fs::{File, Files};
+use std::io;
 use std::io::ErrorKind;
 use std::time::Clock;
-use std::{io, mem};
 use terminal::Plural;
 use words::RunWords;
 
@@ -31,8 +31,7 @@ pub struct Snapshots<'a, F> {
     pub each: Option<u64>,
 }
 
-/// What a run goes on from.
-#[derive(Drop)]
+/// What a run goes on from. It isn't let go of, but taken apart.
 pub struct Begun<H: Portable> {
     pub stand: Stand,
     pub host: Host<H, MemoryStore>,
@@ -59,14 +58,14 @@ impl<'a, F: Files<File = File>> Snapshots<'a, F> {
             return None;
         }
         let found = find_snapshot(self.files, alloc, locked);
-        if let Some(begun) = self.begun_by(told, alloc, handler, found, asked) {
-            return Some(begun);
+        match self.begun_by(told, alloc, handler, found, asked) {
+            Some(begun) => Some(begun),
+            None if locked.lines_gone() == 0 => None,
+            None => {
+                let found = find_base(self.files, alloc, locked);
+                self.begun_by(told, alloc, handler, found, asked)
+            }
         }
-        if locked.lines_gone() == 0 {
-            return None;
-        }
-        let found = find_base(self.files, alloc, locked);
-        self.begun_by(told, alloc, handler, found, asked)
     }
 
     /// What a run goes on from by this snapshot, where it can.
@@ -92,7 +91,7 @@ impl<'a, F: Files<File = File>> Snapshots<'a, F> {
             }
         };
         let Ok(driver) = remembered(alloc, driver.as_slice(), asked.drives) else {
-            mem::forget(host);
+            host.forget();
             self.leave(told, &"what the driver remembers is damaged");
             return None;
         };
@@ -165,7 +164,7 @@ pub fn trim_on<L: Log, F: Files<File = File> + Clock, H: Portable + Copy>(
         }
     };
     match loaded(alloc, handler, about, found.host.as_slice()) {
-        Ok(host) => mem::forget(host),
+        Ok(host) => host.forget(),
         Err(fault) => {
             error!(told; "the snapshot beside the journal {path:?} can't be gone on from: {fault}");
             return Err(1);
@@ -183,8 +182,9 @@ fn loaded<H: Portable + Copy>(
     bytes: &[u8],
 ) -> Result<Host<H, MemoryStore>, LoadFault> {
     match load(alloc, handler, about, bytes) {
+        Ok(host) => Ok(host),
         Err(LoadFault::AnotherVersion) => load_earlier(alloc, handler, about, bytes),
-        loaded => loaded,
+        Err(fault) => Err(fault),
     }
 }
 

@@ -7,14 +7,13 @@ use crate::answers::answer;
 use crate::calls::{self, Books, audit_of_lists, name_of, new_book, outcome_line};
 use model::{MAX_UNITS, Move, Seat, TenantName, Text, Texts};
 use std::alloc::Global;
-use std::mem;
 
 /// Adds what a new book shows of tenant `a` before and after these lines.
 pub(crate) fn certify(alloc: Global, lines: &str, text: &mut String) -> anyhow::Result<()> {
     let name = name_of("a")?;
     let mut book = new_book(alloc);
     let added = add_before_and_after(alloc, &mut book, &name, lines, text);
-    mem::forget(book);
+    book.forget();
     added
 }
 

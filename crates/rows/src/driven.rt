@@ -8,7 +8,6 @@ use handler::Sample;
 use lines::Counted;
 use stable_log::FuseStore;
 use std::alloc::Global;
-use std::mem;
 
 /// The step lines of a row, each with its line feed.
 fn given(alloc: Global, lines: &str) -> anyhow::Result<String> {
@@ -44,7 +43,7 @@ pub(crate) fn written_by_a_book(alloc: Global, lines: &str) -> anyhow::Result<Wr
     let (appends, fetches) = failing_calls(alloc, lines)?;
     let mut book = Book::new(alloc, Sample, FuseStore::new(alloc, appends, fetches));
     let is_whole = drive_all(alloc, &mut reader, &mut writer, &mut book);
-    mem::forget(book);
+    book.forget();
     let bytes = writer.inner;
     Ok(Written { bytes, is_whole })
 }
@@ -57,7 +56,7 @@ pub(crate) fn written_by_a_host(alloc: Global, lines: &str) -> anyhow::Result<Wr
     let (appends, fetches) = failing_calls(alloc, lines)?;
     let mut host = Host::new(alloc, Sample, FuseStore::new(alloc, appends, fetches));
     let is_whole = drive_all_by_host(alloc, &mut reader, &mut writer, &mut host);
-    mem::forget(host);
+    host.forget();
     let bytes = writer.inner;
     Ok(Written { bytes, is_whole })
 }

@@ -13,7 +13,6 @@ use handler::Sample;
 use model::{Refusal, Reply, Step};
 use stable_log::{FuseStore, FuseWriter, Store, WriterStore};
 use std::alloc::Global;
-use std::mem;
 
 type Books = Book<Sample, FuseStore>;
 
@@ -89,7 +88,7 @@ fn told_by<S: Store>(
         Way::OneByOne => one_by_one(alloc, &mut book, lines),
         Way::AtOnce => all_at_once(alloc, &mut book, lines),
     };
-    mem::forget(book);
+    book.forget();
     told
 }
 
@@ -202,7 +201,7 @@ fn give(
 ) -> anyhow::Result<()> {
     let mut book = failing_book(alloc, appends, fetches);
     let given = give_to(alloc, &mut book, lines, all);
-    mem::forget(book);
+    book.forget();
     given
 }
 

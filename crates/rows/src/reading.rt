@@ -4,7 +4,6 @@ use crate::calls::{new_book, serve_all};
 use lines::{Counted, FuseReader, ServeFault};
 use stable_log::FuseWriter;
 use std::alloc::Global;
-use std::mem;
 
 /// Whether input that fails before each line in turn is answered up to there, and told to have failed.
 pub(crate) fn answers_up_to_each(
@@ -31,7 +30,7 @@ fn answers_up_to(alloc: Global, steps: &str, number: u64, replies: &str) -> anyh
     let mut writer = Counted::new(Vec::new(alloc));
     let mut book = new_book(alloc);
     let ended = serve_all(alloc, &mut reader, &mut writer, &mut book);
-    mem::forget(book);
+    book.forget();
     Ok(matches!(ended, Err(ServeFault::Read)) && writer.inner.as_slice() == replies.as_bytes())
 }
 
@@ -52,6 +51,6 @@ fn writes_up_to(alloc: Global, steps: &str, replies: &[u8]) -> bool {
     let mut writer = Counted::new(FuseWriter::new(alloc, replies.len()));
     let mut book = new_book(alloc);
     let ended = serve_all(alloc, &mut reader, &mut writer, &mut book);
-    mem::forget(book);
+    book.forget();
     matches!(ended, Err(ServeFault::Write)) && writer.inner.bytes() == replies
 }

@@ -10,7 +10,6 @@ use crate::calls::{self, Books, name_of, new_book, outcome_line, step_of};
 use anyhow::Context;
 use model::{Entry, MAX_UNITS, Step, TenantName, Who};
 use std::alloc::Global;
-use std::mem;
 
 /// Adds what a new book tells after these lines.
 pub(crate) fn tell(alloc: Global, lines: &str, text: &mut String) -> anyhow::Result<()> {
@@ -21,7 +20,7 @@ pub(crate) fn tell(alloc: Global, lines: &str, text: &mut String) -> anyhow::Res
 fn add_book_after(alloc: Global, lines: &str, text: &mut String) -> anyhow::Result<()> {
     let book = book_after(alloc, lines)?;
     let added = add_book(alloc, &book, text);
-    mem::forget(book);
+    book.forget();
     added
 }
 
@@ -159,7 +158,7 @@ fn add_run(alloc: Global, lines: &str, text: &mut String) -> anyhow::Result<()> 
 fn run_in_new_book(alloc: Global, steps: &[Step], text: &mut String) -> anyhow::Result<()> {
     let mut book = new_book(alloc);
     let added = add_replies(alloc, &mut book, steps, text);
-    mem::forget(book);
+    book.forget();
     added
 }
 

@@ -11,13 +11,12 @@ use book::Committed;
 use handler::{Ask, Done, Sample};
 use model::Step;
 use std::alloc::Global;
-use std::mem;
 
 /// Adds the replies of a new book to these lines.
 pub(crate) fn turn(alloc: Global, lines: &str, text: &mut String) -> anyhow::Result<()> {
     let mut book = new_book(alloc);
     let done = do_all(alloc, &mut book, lines, text);
-    mem::forget(book);
+    book.forget();
     done
 }
 

@@ -3,6 +3,7 @@
 ghost use Rattle.std.specs.Prelude.{◌≡◌, []};
 
 use book::{Book, Host};
+use codec::Portable;
 use driver::{Done, Driver, drive, drive_host};
 use handler::Handler;
 use lines::{Counted, ServeFault, serve, serve_host};
@@ -10,11 +11,11 @@ use log::{Log, error};
 use model::NoMemory;
 use narration::{Hosted, serve_explained, tell_done, tell_driven, tell_waiting, total};
 use reports::{Amount, Judged, NOTHING, audit_all, kept_by, sum, tell_amount};
+use resumption::Begun;
 use shards::{Shards, drive_shards, serve_shards};
 use shared_log::{MemoryStore, Store};
 use std::alloc::Global;
 use std::io::{BufRead, Write};
-use std::mem;
 use std::thread::Threads;
 use terminal::Plural;
 use words::{RunWords, Verbosity};
@@ -71,11 +72,13 @@ impl<H: Handler + Send, S: Store> Engine<H, S> {
     /// Leaves it as it is, for the process to end with.
     pub(crate) fn forget(self) {
         let Engine { stepped, driver } = self;
-        mem::forget(driver);
+        if let Some(driver) = driver {
+            driver.forget();
+        }
         match stepped {
-            Stepped::Host(host) => mem::forget(host),
-            Stepped::Book(book) => mem::forget(book),
-            Stepped::Shards(shards) | Stepped::DrivenShards(shards) => mem::forget(shards),
+            Stepped::Host(host) => host.forget(),
+            Stepped::Book(book) => book.forget(),
+            Stepped::Shards(shards) | Stepped::DrivenShards(shards) => shards.forget(),
         }
     }
 
@@ -161,18 +164,22 @@ impl<H: Handler + Send, S: Store> Engine<H, S> {
     }
 }
 
-impl<H: Handler + Copy + Send> Engine<H, MemoryStore> {
-    /// One that goes on with a host, and with what a driver remembers of it, where it is driven.
-    pub(crate) fn going_on(
-        host: Host<H, MemoryStore>,
-        driver: Option<Driver>,
-    ) -> Engine<H, MemoryStore> {
+impl<H: Portable> Engine<H, MemoryStore> {
+    /// One that goes on from a snapshot: with its host, and with what a driver remembers of it, where it is driven.
+    pub(crate) fn going_on(begun: Begun<H>) -> Engine<H, MemoryStore> {
+        let Begun {
+            stand: _stand,
+            host,
+            driver,
+        } = begun;
         Engine {
             stepped: Stepped::Host(host),
             driver,
         }
     }
+}
 
+impl<H: Handler + Copy + Send> Engine<H, MemoryStore> {
     /// One of so many hosts, to which tenants are dealt: their steps are done side by side, and each is driven where
     /// that is asked for. `NoMemory` comes where there is none for their list.
     pub(crate) fn on_cores(
@@ -185,7 +192,7 @@ impl<H: Handler + Copy + Send> Engine<H, MemoryStore> {
         for _ in 1..cores {
             let host = Host::new(alloc, handler, MemoryStore::new(alloc));
             if shards.add(host).is_err() {
-                mem::forget(shards);
+                shards.forget();
                 return Err(NoMemory);
             }
         }

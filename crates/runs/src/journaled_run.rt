@@ -148,14 +148,11 @@ fn engine_on<H: Portable + Copy + Send>(
     asked: &RunWords<'_>,
     begun: Option<Begun<H>>,
 ) -> Result<Engine<H, MemoryStore>, NoMemory> {
-    if let Some(begun) = begun {
-        let Begun { host, driver, .. } = begun;
-        return Ok(Engine::going_on(host, driver));
+    match begun {
+        Some(begun) => Ok(Engine::going_on(begun)),
+        None if cores > 1 => Engine::on_cores(alloc, handler, cores, asked.drives),
+        None => Ok(Engine::new(alloc, handler, MemoryStore::new(alloc), asked)),
     }
-    if cores > 1 {
-        return Engine::on_cores(alloc, handler, cores, asked.drives);
-    }
-    Ok(Engine::new(alloc, handler, MemoryStore::new(alloc), asked))
 }
 
 /// The line of the journal from which on lines are answered, where one is asked for. What a driver writes is counted by

@@ -10,6 +10,7 @@ use model::NoMemory;
 use shared_log::Store;
 use std::alloc::Global;
 use std::marker::Model;
+use std::mem;
 
 /// Hosts, one at least, to which tenants are dealt by their names. Contracts see the list of the hosts: which book
 /// they stand for together says `AreShardsOf`.
@@ -50,6 +51,11 @@ impl<H: Handler, S: Store> Shards<H, S> {
         let shard = Shard::new(self.alloc, host);
         self.shards.push(shard)?;
         Ok(())
+    }
+
+    /// Leaves it as it is, where the process ends with it: to let go of all that it keeps takes a while.
+    pub fn forget(self) {
+        mem::forget(self);
     }
 
     /// How many there are.

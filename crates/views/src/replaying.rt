@@ -14,12 +14,22 @@ use std::time::Clock;
 use terminal::{BLOCK, Patient};
 use words::ViewWords;
 
-/// What the lines came to.
-#[derive(Drop)]
+/// What the lines came to. It isn't let go of: the process ends with what is told of it (`forget`).
 pub(crate) struct Replayed<H: Handler> {
     pub book: Book<H, MemoryStore>,
     /// What the journal has, where the lines are of one.
     pub journal: Option<Told>,
+}
+
+impl<H: Handler> Replayed<H> {
+    /// Leaves it as it is, for the process to end with.
+    pub(crate) fn forget(self) {
+        let Replayed { book, journal } = self;
+        book.forget();
+        if let Some(journal) = journal {
+            journal.forget();
+        }
+    }
 }
 
 /// Steps the lines of the journal that is named, or of the input, over a store in memory. Nothing where they can't be
@@ -32,20 +42,10 @@ pub(crate) fn replay_of<
     let alloc = rt.alloc();
     let Some(path) = view.journal else {
         let input = Patient::new(rt, rt.reader());
-        let book = stepped(told, alloc, handler, input, view.drives)?;
-        return Some(Replayed {
-            book,
-            journal: None,
-        });
+        return after_all(told, alloc, handler, input, None, view.drives);
     };
     match read_journal(rt, alloc, path) {
-        Ok((journal, file)) => {
-            let book = stepped(told, alloc, handler, file, view.drives)?;
-            Some(Replayed {
-                book,
-                journal: Some(journal),
-            })
-        }
+        Ok((journal, file)) => after_all(told, alloc, handler, file, Some(journal), view.drives),
         Err(error) => {
             error!(told; "can't read the journal {path:?}: {error}");
             None
@@ -53,22 +53,22 @@ pub(crate) fn replay_of<
     }
 }
 
-/// The book after all lines, whose replies go nowhere.
-fn stepped<L: Log, H: Handler, R: Read + Drop>(
+/// What all lines come to, whose replies go nowhere.
+fn after_all<L: Log, H: Handler, R: Read + Drop>(
     told: &L,
     alloc: Global,
     handler: H,
     lines: R,
+    journal: Option<Told>,
     drives: bool,
-) -> Option<Book<H, MemoryStore>> {
+) -> Option<Replayed<H>> {
     let mut book = Book::new(alloc, handler, MemoryStore::new(alloc));
-    match step_all(alloc, &mut book, lines, drives) {
-        Ok(_) => Some(book),
-        Err(fault) => {
-            tell(told, fault);
-            None
-        }
+    if let Err(fault) = step_all(alloc, &mut book, lines, drives) {
+        book.forget();
+        tell(told, fault);
+        return None;
     }
+    Some(Replayed { book, journal })
 }
 
 fn step_all<H: Handler, R: Read + Drop>(

@@ -14,7 +14,6 @@ use serde_json::{Value, json};
 use std::alloc::Global;
 use std::fs::{File, Files};
 use std::io::{self, Input};
-use std::mem;
 use std::time::Clock;
 use terminal::{Patient, Plural};
 use words::StatusWords;
@@ -36,8 +35,7 @@ pub fn status_on<
         found.journal.as_ref(),
         asked,
     );
-    // The process ends with this: to let go of the history takes a while.
-    mem::forget(found);
+    found.forget();
     match text {
         Ok(text) => put(told, &mut Patient::new(rt, io::writer(rt)), text.as_str()),
         Err(NoMemory) => {

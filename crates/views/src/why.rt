@@ -11,7 +11,6 @@ use serde_json::json;
 use std::alloc::Global;
 use std::fs::{File, Files};
 use std::io::{self, Input, Write};
-use std::mem;
 use std::time::Clock;
 use terminal::{Patient, Plural};
 use words::WhyWords;
@@ -27,8 +26,7 @@ pub fn why_on<
         return 1;
     };
     let text = told_of(told, rt.alloc(), &handler, found.book.history(), asked);
-    // The process ends with this: to let go of the history takes a while.
-    mem::forget(found);
+    found.forget();
     let Some(text) = text else {
         return 1;
     };

@@ -33,6 +33,12 @@ impl<H: Handler, S: Store> Closed<H, S> {
         Closed { alloc, book }
     }
 
+    /// Leaves it as it is, where the process ends with it: to let go of all that it keeps takes a while.
+    pub fn forget(self) {
+        let Closed { book, .. } = self;
+        book.forget();
+    }
+
     /// The book. What its calls say of a book holds of it.
     pub fn book(&self) -> &Book<H, S>
         ensures { result.now ≡ self.now }
