@@ -7,8 +7,10 @@ import shutil
 import sys
 
 TOP = os.path.dirname(os.path.dirname(os.path.abspath(__file__)))
-RATTLE = shutil.which("rattle") or sys.exit("rattle, the prover of the toolchain, is not on the path")
-KIT = os.path.dirname(os.path.dirname(os.path.realpath(RATTLE)))
+RT = shutil.which("rt") or sys.exit("rt, the command of the toolchain, is not on the path")
+KIT = os.path.dirname(os.path.dirname(os.path.realpath(RT)))
+# What proves a crate, and builds it.
+RATTLE = f"{KIT}/bin/rattle"
 # What a check takes of memory at most, in bytes.
 MOST = 2_500_000_000
 
