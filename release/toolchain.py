@@ -69,6 +69,11 @@ def own_digest(crate):
     return found.digest()
 
 
+def is_changed(crate):
+    """Whether the crate's own sources are others than when its digest was taken."""
+    return own_digest.__wrapped__(crate) != own_digest(crate)
+
+
 def digest(crate, *more):
     """The digest of all that a check of the crate reads: the crate, those below it, the kit; and of these bytes."""
     found = hashlib.sha256(b"".join(map(own_digest, [crate, *below(crate)])))
