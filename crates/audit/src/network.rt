@@ -188,7 +188,13 @@ fn turn_at<H: Handler>(
 {
     let worker = &workers[i];
     let alloc = *workers.allocator();
-    AskRef::new(worker.seat, &worker.state, receipt.0, &receipt.1).work(alloc, handler)
+    let ask = AskRef {
+        seat: worker.seat,
+        state: &worker.state,
+        source: receipt.0,
+        text: &receipt.1,
+    };
+    ask.work(alloc, handler)
 }
 
 /// Keeps a receipt and what its turn puts out.

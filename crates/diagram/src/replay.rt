@@ -220,8 +220,13 @@ impl<'h, 'a, H: Handler> Replay<'h, 'a, H> {
         let Some((source, text)) = self.picture.received(cause) else {
             return Ok(None);
         };
-        let turn = AskRef::new(lane.seat, state, source, text).work(self.alloc, self.handler)?;
-        Ok(Some(turn))
+        let ask = AskRef {
+            seat: lane.seat,
+            state,
+            source,
+            text,
+        };
+        Ok(Some(ask.work(self.alloc, self.handler)?))
     }
 
     /// The state of the unit at the end of its path.

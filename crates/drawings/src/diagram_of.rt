@@ -46,7 +46,7 @@ fn drawn<L: Log, H: Handler>(
     let history = followed.book.history();
     let tenant = find_tenant(history, asked.tenant);
     if let (None, Some(name)) = (tenant, asked.tenant) {
-        error!(told; "the tenant {name:?} is not open");
+        tell_closed(told, name);
         return None;
     }
     let drawn = if asked.html {
@@ -62,6 +62,11 @@ fn drawn<L: Log, H: Handler>(
             None
         }
     }
+}
+
+/// Says that the tenant that is named is not open.
+fn tell_closed<L: Log>(told: &L, name: &str) {
+    error!(told; "the tenant {name:?} is not open");
 }
 
 /// Says why nothing is drawn.

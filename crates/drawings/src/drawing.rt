@@ -27,11 +27,13 @@ pub fn draw_on<
     };
     match make_picture(rt, path) {
         Ok(mut file) => put_diagram(told, &mut file, diagram.as_str()),
-        Err(error) => {
-            error!(told; "can't make {path:?}: {error}");
-            1
-        }
+        Err(error) => cannot_make(told, path, &error),
     }
+}
+
+fn cannot_make<L: Log>(told: &L, path: &str, error: &io::Error) -> u8 {
+    error!(told; "can't make {path:?}: {error}");
+    1
 }
 
 /// Makes the picture's file anew, which must not be the input.

@@ -95,8 +95,7 @@ pub fn feeds_asked<
     };
     let Feeds { steps, faults } = read;
     if steps.len() > MAX_FEEDS {
-        error!(told; "there are too many feeds: name at most {MAX_FEEDS} files");
-        return 1;
+        return too_many(told);
     }
     let count = count_steps(steps.as_slice());
     let bar = Bar::new(rt, shows.then_some(count));
@@ -225,23 +224,41 @@ fn write_all<L: Log, H: Handler, W: Write + Drop>(
     asked: &FeedsWords<'_>,
 ) -> u8 {
     let Ok(writer) = BufWriter::with_capacity(alloc, BLOCK, output) else {
-        error!(told; "there is no memory for the replies: all steps are done, and none is answered");
-        return 1;
+        return no_replies(told);
     };
     let mut writer = Counted::new(writer);
     let written = write_feeds(alloc, &mut writer, closed, faults);
     let flushed = writer.inner.flush();
     if written.is_err() || flushed.is_err() {
-        error!(told; "the replies can't be written: all steps are done, and replies are missing");
-        return 1;
+        return cannot_write(told);
     }
-    info!(told; "answered {} of {}", Plural(count_lines(faults), "line"), Plural(faults.len() as u64, "feed"));
+    tell_answered(told, count_lines(faults), faults.len());
     tell_kept(told, closed.book().host(), asked.verbosity);
     if asked.audit {
         audit_all(told, alloc, handler, &mut writer.inner, closed.book())
     } else {
         0
     }
+}
+
+fn too_many<L: Log>(told: &L) -> u8 {
+    error!(told; "there are too many feeds: name at most {MAX_FEEDS} files");
+    1
+}
+
+fn no_replies<L: Log>(told: &L) -> u8 {
+    error!(told; "there is no memory for the replies: all steps are done, and none is answered");
+    1
+}
+
+fn cannot_write<L: Log>(told: &L) -> u8 {
+    error!(told; "the replies can't be written: all steps are done, and replies are missing");
+    1
+}
+
+/// Tells how many lines of how many feeds were answered.
+fn tell_answered<L: Log>(told: &L, lines: u64, feeds: usize) {
+    info!(told; "answered {} of {}", Plural(lines, "line"), Plural(feeds as u64, "feed"));
 }
 
 /// How many lines all feeds have.

@@ -64,21 +64,35 @@ pub fn make_log<R: Files<File = File>, L: Log>(rt: &R, told: &L, path: &str) -> 
         Err(_) => None,
     };
     match kind {
-        Some(Unfit::Pipe) =>
-            warn!(told; "the log {path:?} is a pipe: waiting for whoever reads it"),
+        Some(Unfit::Pipe) => tell_pipe(told, path),
         None | Some(Unfit::Device) => {}
         Some(why) => {
-            error!(told; "{path:?} can't be the log: {why}");
+            tell_unfit(told, path, why);
             return None;
         }
     }
     match make(rt, path, kind.is_none()) {
         Ok(file) => Some(file),
         Err(error) => {
-            error!(told; "can't make the log {path:?}: {error}");
+            tell_unmade(told, path, &error);
             None
         }
     }
+}
+
+/// Warns that a run waits for the reader of its log.
+fn tell_pipe<L: Log>(told: &L, path: &str) {
+    warn!(told; "the log {path:?} is a pipe: waiting for whoever reads it");
+}
+
+/// Says why the file can't be the log.
+fn tell_unfit<L: Log>(told: &L, path: &str, why: Unfit) {
+    error!(told; "{path:?} can't be the log: {why}");
+}
+
+/// Says why the log can't be made.
+fn tell_unmade<L: Log>(told: &L, path: &str, error: &io::Error) {
+    error!(told; "can't make the log {path:?}: {error}");
 }
 
 /// Makes the file empty; where it is to be its owner's, it is so before it has a byte.

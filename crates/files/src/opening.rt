@@ -111,10 +111,7 @@ pub fn lock_journal<'a, R: Files<File = File>, L: Log>(
         Err(error) => return Err(cannot_read(told, path, &error)),
     };
     let trimmed = match (trimmed, &ownership) {
-        (Some(_), Ownership::New) => {
-            error!(told; "the journal {path:?} begins as one whose first lines were trimmed away, and no page beside it says so: it can't be taken over");
-            return Err(1);
-        }
+        (Some(_), Ownership::New) => return Err(cannot_take_trimmed(told, path)),
         _ => trimmed.filter(|said| lines_gone(rt, alloc, path) == Some(said.lines)),
     };
     Ok(LockedJournal {
@@ -124,6 +121,11 @@ pub fn lock_journal<'a, R: Files<File = File>, L: Log>(
         ownership,
         trimmed,
     })
+}
+
+fn cannot_take_trimmed<L: Log>(told: &L, path: &str) -> u8 {
+    error!(told; "the journal {path:?} begins as one whose first lines were trimmed away, and no page beside it says so: it can't be taken over");
+    1
 }
 
 /// Cuts the journal to whole lines that last, and writes its page beside it. A last line that isn't whole is cut off,
@@ -152,15 +154,13 @@ pub fn open_journal<'a, R: Files<File = File> + Clock, L: Log>(
     check_gone(told, path, gone, from, &begun)?;
     let extent = measured(told, alloc, path, &file, length, from, &begun)?;
     if let Err(error) = make_whole(alloc, &file, length, &extent) {
-        error!(told; "can't cut, write or sync the journal {path:?}: {error}");
-        return Err(1);
+        return Err(cannot_make_whole(told, path, &error));
     }
     if let Err(error) = make_page(rt, alloc, path, owner, ownership, extent.lines) {
-        error!(told; "can't write the page beside the journal {path:?}: {error}");
-        return Err(1);
+        return Err(cannot_write_page(told, path, &error));
     }
     if sync_folder(rt, path).is_err() {
-        warn!(told; "the folder of the journal {path:?} can't be synced: a crash of the machine may lose a new journal");
+        tell_unsynced(told, path);
     }
     tell_extent(told, path, &extent, length);
     match LastingFile::new(rt, path, file, extent.whole) {
@@ -169,11 +169,23 @@ pub fn open_journal<'a, R: Files<File = File> + Clock, L: Log>(
             extent,
             begun,
         }),
-        Err(error) => {
-            error!(told; "can't read the journal {path:?}: {error}");
-            Err(1)
-        }
+        Err(error) => Err(cannot_read(told, path, &error)),
     }
+}
+
+fn cannot_make_whole<L: Log>(told: &L, path: &str, error: &io::Error) -> u8 {
+    error!(told; "can't cut, write or sync the journal {path:?}: {error}");
+    1
+}
+
+fn cannot_write_page<L: Log>(told: &L, path: &str, error: &io::Error) -> u8 {
+    error!(told; "can't write the page beside the journal {path:?}: {error}");
+    1
+}
+
+/// Warns that a new journal may not last.
+fn tell_unsynced<L: Log>(told: &L, path: &str) {
+    warn!(told; "the folder of the journal {path:?} can't be synced: a crash of the machine may lose a new journal");
 }
 
 /// Sees to it that no line is needed that went before the journal's first one.

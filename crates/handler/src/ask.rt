@@ -13,10 +13,10 @@ use std::marker::Model;
 /// place, and it can be had as a value.
 #[derive(Drop)]
 pub struct AskRef<'a, H: Handler> {
-    seat: Seat,
-    state: &'a H::State,
-    source: Source,
-    text: &'a Text,
+    pub seat: Seat,
+    pub state: &'a H::State,
+    pub source: Source,
+    pub text: &'a Text,
 }
 
 impl<'a, H: Handler> Model for AskRef<'a, H> {
@@ -28,18 +28,6 @@ impl<'a, H: Handler> Model for AskRef<'a, H> {
 }
 
 impl<'a, H: Handler> AskRef<'a, H> {
-    /// Asks for the turn of this input.
-    pub fn new(seat: Seat, state: &'a H::State, source: Source, text: &'a Text) -> AskRef<'a, H>
-        ensures { result ≡ record { seat = seat; state = state.now; source = source; text = text.now } }
-    {
-        AskRef {
-            seat,
-            state,
-            source,
-            text,
-        }
-    }
-
     /// Works the turn, whose texts share the place of this one's where they are equal. `NoMemory` comes where the
     /// handler found none.
     pub fn work(&self, alloc: Global, handler: &H) -> Result<Turn<H::State>, NoMemory>
@@ -133,7 +121,12 @@ impl<H: Handler> Ask<H> {
     pub fn as_ref(&self) -> AskRef<'_, H>
         ensures { result ≡ self.now }
     {
-        AskRef::new(self.seat, &self.state, self.source, &self.text)
+        AskRef {
+            seat: self.seat,
+            state: &self.state,
+            source: self.source,
+            text: &self.text,
+        }
     }
 
     /// Works the turn. `NoMemory` comes where the handler found none.

@@ -1,6 +1,7 @@
 //! Whose a journal and its snapshots are.
 
 use files::Owner;
+use log::{Log, error};
 use std::alloc::{AllocError, Global};
 use words::Program;
 
@@ -21,4 +22,10 @@ pub(crate) fn about_of(
 ) -> Result<String, AllocError> {
     let command = if drives { "drive" } else { "run" };
     format!(in alloc; "{command} {} {}", owner.handler, owner.handler_version)
+}
+
+/// Tells that what a snapshot is about can't be said, and the status to end with.
+pub(crate) fn no_name<L: Log>(told: &L) -> u8 {
+    error!(told; "there is no memory for the name of the handler");
+    1
 }

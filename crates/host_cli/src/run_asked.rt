@@ -3,11 +3,11 @@
 ghost use denote.Param.Send.{IsSend};
 
 use crate::cores::cores_for;
-use crate::owners::{about_of, owner_of};
+use crate::owners::{about_of, no_name, owner_of};
 use crate::program_run::Terminals;
 use codec::Portable;
 use files::{LogFile, Takeover, has_snapshot, lock_journal, make_log};
-use log::{Log, Logged, error, info, warn};
+use log::{Log, Logged, info, warn};
 use resumption::Snapshots;
 use runs::{Hosted, run_asked, run_journaled, run_on_cores};
 use shared_log::MemoryStore;
@@ -18,7 +18,9 @@ use std::sync::Wait;
 use std::thread;
 use std::thread::{Threads, scope_env};
 use std::time::Clock;
-use terminal::{Bar, Diagnostics, Patient, Plural, Progress, Watched, input_size, report_each};
+use terminal::{
+    Bar, Diagnostics, Pace, Patient, Plural, Progress, Watched, input_size, report_each,
+};
 use words::{Program, RunWords, Verbosity};
 
 /// Whether a bar may be drawn.
@@ -61,17 +63,25 @@ pub(crate) fn run_as_asked<
     };
     let told = Logged::new(rt, run.verbosity.level(), diagnostics);
     if terminals.input {
-        let name = program.name;
-        let command = if run.drives { "drive" } else { "run" };
-        warn!(&told; "waiting for step lines from the terminal, up to Ctrl-D: `{name} {command} --help` lists them");
+        tell_waiting(&told, program.name, run.drives);
     }
     let cores = cores_for(rt, &told, terminals, &run, goes_on(rt, &run));
     let status = run_reported(rt, &told, handler, program, &run, cores, &bar);
     bar.clear();
-    let pace = bar.pace_so_far();
-    let (lines, rate) = (Plural(pace.lines, "line"), Plural(pace.rate(), "line"));
-    info!(&told; "read {lines} in {} ms, {rate} a second", pace.millis);
+    tell_pace(&told, bar.pace_so_far());
     status
+}
+
+/// Tells who sits at a terminal that step lines are waited for.
+fn tell_waiting<L: Log>(told: &L, name: &str, drives: bool) {
+    let command = if drives { "drive" } else { "run" };
+    warn!(told; "waiting for step lines from the terminal, up to Ctrl-D: `{name} {command} --help` lists them");
+}
+
+/// Tells how many lines were read, and how fast.
+fn tell_pace<L: Log>(told: &L, pace: Pace) {
+    let (lines, rate) = (Plural(pace.lines, "line"), Plural(pace.rate(), "line"));
+    info!(told; "read {lines} in {} ms, {rate} a second", pace.millis);
 }
 
 /// `run`, while a thread writes a line of progress after each so many seconds, where that is asked for: also while
@@ -199,8 +209,7 @@ fn run_in_journal<
         Err(status) => return status,
     };
     let Ok(about) = about_of(alloc, &owner, run.drives) else {
-        error!(told; "there is no memory for the name of the handler");
-        return 1;
+        return no_name(told);
     };
     let snapshots = Snapshots {
         files: rt,

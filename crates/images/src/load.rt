@@ -1,6 +1,7 @@
 //! `load`.
 
 use crate::image::Image;
+use crate::unfit::Unfit;
 use base64::engine::general_purpose::STANDARD;
 use log::{Log, error};
 use model::TenantName;
@@ -54,28 +55,38 @@ pub fn load_on<R: Files<File = File> + Clock + Print + AllocGlobal, L: Log>(
     let path = load.image;
     let file = match read_file(rt, path) {
         Ok(Some(file)) => file,
-        Ok(None) => {
-            error!(told; "{path:?} can't be loaded: it has more than {MAX_FILE_BYTES} bytes");
-            return 1;
-        }
-        Err(error) => {
-            error!(told; "can't read the image {path:?}: {error}");
-            return 1;
-        }
+        Ok(None) => return too_large(told, path),
+        Err(error) => return cannot_read(told, path, &error),
     };
     let image = match Image::of(rt.alloc(), file) {
         Ok(image) => image,
-        Err(unfit) => {
-            error!(told; "{path:?} can't be loaded: {unfit}");
-            return 1;
-        }
+        Err(unfit) => return cannot_load(told, path, &unfit),
     };
     let mut output = Patient::new(rt, io::writer(rt));
-    if put_lines(rt.alloc(), &mut output, load, image.as_slice()).is_err() {
-        error!(told; "the output can't be written");
-        return 1;
+    match put_lines(rt.alloc(), &mut output, load, image.as_slice()) {
+        Ok(()) => 0,
+        Err(_) => no_output(told),
     }
-    0
+}
+
+fn too_large<L: Log>(told: &L, path: &str) -> u8 {
+    error!(told; "{path:?} can't be loaded: it has more than {MAX_FILE_BYTES} bytes");
+    1
+}
+
+fn cannot_read<L: Log>(told: &L, path: &str, error: &io::Error) -> u8 {
+    error!(told; "can't read the image {path:?}: {error}");
+    1
+}
+
+fn cannot_load<L: Log>(told: &L, path: &str, why: &Unfit) -> u8 {
+    error!(told; "{path:?} can't be loaded: {why}");
+    1
+}
+
+fn no_output<L: Log>(told: &L) -> u8 {
+    error!(told; "the output can't be written");
+    1
 }
 
 /// Whether tenant, unit and number are such as a line may have. Tells which are not.

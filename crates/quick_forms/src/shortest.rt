@@ -27,7 +27,10 @@ pub(crate) fn shortest(alloc: Global, line: &str) -> Result<Option<AddressedStep
     }
     match line.as_bytes().get(VERB) {
         Some(b'd') => Ok(delivery_line(line)),
-        Some(b'p') => post_line(alloc, line),
+        Some(b'p') => match post_parts(line) {
+            Some((number, tenant, text, unit)) => Ok(posted(alloc, number, tenant, text, unit)?),
+            None => Ok(None),
+        },
         _ => Ok(place_line(line)),
     }
 }
@@ -38,19 +41,6 @@ fn delivery_line(line: &str) -> Option<AddressedStep>
 {
     let (letter, tenant) = deliver_parts(behind_deliver(line)?)?;
     delivery(letter, tenant)
-}
-
-/// The step, where the line is a post in its shortest form.
-fn post_line(alloc: Global, line: &str) -> Result<Option<AddressedStep>, NoMemory>
-    ensures { IfOk result (λ o. IfSome o (λ s. step_of_tokens (tokens line.now) ≡ Some s)) }
-{
-    let Some(rest) = after(line, "{\"do\":\"post\",\"number\":") else {
-        return Ok(None);
-    };
-    let Some((number, tenant, text, unit)) = post_parts(rest) else {
-        return Ok(None);
-    };
-    Ok(posted(alloc, number, tenant, text, unit)?)
 }
 
 /// The step, where the line is the shortest form of one that names a tenant and a unit alone.
@@ -78,11 +68,12 @@ fn head(line: &str) -> Option<(&str, &str)>
     plain_before(after(line, "{\"do\":\"")?, "\"")
 }
 
-/// What a post says behind the key of its number: that number, tenant, text and unit.
-fn post_parts(rest: &str) -> Option<(u64, &str, &str, u64)>
-    ensures { IfSome result (λ p. codes ",\"number\":" ++ rest.now ≡ post_tail p.0 p.1.now p.2.now p.3) }
+/// What a post in its shortest form says: its number, tenant, text and unit.
+fn post_parts(line: &str) -> Option<(u64, &str, &str, u64)>
+    ensures { IfSome result (λ p. line.now
+        ≡ codes "{\"do\":" ++ (quoted_text (codes "post") ++ post_tail p.0 p.1.now p.2.now p.3)) }
 {
-    let (number, rest) = whole(rest)?;
+    let (number, rest) = whole(after(line, "{\"do\":\"post\",\"number\":")?)?;
     let (tenant, rest) = plain_before(after(rest, ",\"tenant\":\"")?, "\",\"text\":\"")?;
     let (text, rest) = plain_before(rest, "\",\"unit\":")?;
     let (unit, rest) = whole(rest)?;

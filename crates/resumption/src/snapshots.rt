@@ -52,8 +52,7 @@ impl<'a, F: Files<File = File>> Snapshots<'a, F> {
     ) -> Option<Begun<H>> {
         if asked.audit || asked.explain {
             if has_snapshot(self.files, alloc, self.path) {
-                let word = if asked.audit { "--audit" } else { "--explain" };
-                warn!(told; "{word} needs the history: the lines of the journal are stepped from the first");
+                tell_history(told, asked.audit);
             }
             return None;
         }
@@ -95,7 +94,7 @@ impl<'a, F: Files<File = File>> Snapshots<'a, F> {
             self.leave(told, &"what the driver remembers is damaged");
             return None;
         };
-        info!(told; "a snapshot stands behind {} of the journal", Plural(stand.lines, "line"));
+        tell_standing(told, stand.lines);
         Some(Begun {
             stand,
             host,
@@ -124,7 +123,7 @@ impl<'a, F: Files<File = File>> Snapshots<'a, F> {
         };
         if let Some(from) = asked.from {
             if from < behind {
-                warn!(told; "the snapshot stands behind line {from}: the lines of the journal are stepped from the first");
+                tell_behind(told, from);
                 return None;
             }
         }
@@ -136,6 +135,37 @@ impl<'a, F: Files<File = File>> Snapshots<'a, F> {
         let path = self.path;
         warn!(told; "the snapshot beside the journal {path:?} is left aside: {why}: the lines of the journal are stepped from the first");
     }
+}
+
+/// Warns that what needs the history takes the journal from the first line on.
+fn tell_history<L: Log>(told: &L, is_audit: bool) {
+    let word = if is_audit { "--audit" } else { "--explain" };
+    warn!(told; "{word} needs the history: the lines of the journal are stepped from the first");
+}
+
+/// Tells behind how many lines of the journal a snapshot stands.
+fn tell_standing<L: Log>(told: &L, lines: u64) {
+    info!(told; "a snapshot stands behind {} of the journal", Plural(lines, "line"));
+}
+
+/// Warns that the snapshot stands behind the line from which on replies are asked for.
+fn tell_behind<L: Log>(told: &L, from: u64) {
+    warn!(told; "the snapshot stands behind line {from}: the lines of the journal are stepped from the first");
+}
+
+/// Warns that a snapshot can't be written.
+fn tell_unwritten<L: Log>(told: &L, path: &str, error: &io::Error) {
+    warn!(told; "can't write the snapshot beside the journal {path:?}: {error}: the run goes on without it");
+}
+
+fn no_snapshot<L: Log>(told: &L, path: &str) -> u8 {
+    error!(told; "there is no snapshot beside the journal {path:?}: `run --snapshot` keeps one");
+    1
+}
+
+fn cannot_go_on<L: Log>(told: &L, path: &str, why: &impl Display) -> u8 {
+    error!(told; "the snapshot beside the journal {path:?} can't be gone on from: {why}");
+    1
 }
 
 /// Takes the lines of a journal away that the snapshot beside it stands behind, where a run can go on from that. Tells
@@ -154,21 +184,12 @@ pub fn trim_on<L: Log, F: Files<File = File> + Clock, H: Portable + Copy>(
     let path = locked.path();
     let found = match find_snapshot(files, alloc, locked) {
         Ok(Some(found)) => found,
-        Ok(None) => {
-            error!(told; "there is no snapshot beside the journal {path:?}: `run --snapshot` keeps one");
-            return Err(1);
-        }
-        Err(misfit) => {
-            error!(told; "the snapshot beside the journal {path:?} can't be gone on from: {misfit}");
-            return Err(1);
-        }
+        Ok(None) => return Err(no_snapshot(told, path)),
+        Err(misfit) => return Err(cannot_go_on(told, path, &misfit)),
     };
     match loaded(alloc, handler, about, found.host.as_slice()) {
         Ok(host) => host.forget(),
-        Err(fault) => {
-            error!(told; "the snapshot beside the journal {path:?} can't be gone on from: {fault}");
-            return Err(1);
-        }
+        Err(fault) => return Err(cannot_go_on(told, path, &fault)),
     }
     let count = trim_journal(files, told, alloc, locked, &found)?;
     Ok((count, found.stand.lines))
@@ -267,8 +288,7 @@ impl<'a, F: Files<File = File>> Keeper<'a, F> {
         }
         self.since = 0;
         if let Err(error) = self.write(alloc, handler, host, driver, journal) {
-            let path = self.snapshots.path;
-            warn!(told; "can't write the snapshot beside the journal {path:?}: {error}: the run goes on without it");
+            tell_unwritten(told, self.snapshots.path, &error);
         }
     }
 

@@ -319,7 +319,16 @@ impl<H: Handler> RecoveryUnit<H> {
             vector,
             letter: logged.letter,
         });
-        self.volatile.push(logged.into_record(tenant));
+        self.volatile.push(Record {
+            tenant: tenant.copy(),
+            unit: logged.unit,
+            mark: logged.mark,
+            source: logged.source,
+            letter: logged.letter,
+            number: logged.number,
+            text: logged.text,
+            vector: logged.vector.into_marks(),
+        });
         Ok(Effects { sends, outputs })
     }
 

@@ -157,11 +157,16 @@ impl<H: Handler + Send, S: Store> Engine<H, S> {
             _ => 0,
         };
         if audited == 0 && asked.strict && writer.refused > 0 {
-            error!(told; "{} refused", Plural(writer.refused, "line"));
-            return REFUSED;
+            return refused(told, writer.refused);
         }
         audited
     }
+}
+
+/// Tells how many lines were refused, and the status to end with.
+fn refused<L: Log>(told: &L, count: u64) -> u8 {
+    error!(told; "{} refused", Plural(count, "line"));
+    REFUSED
 }
 
 impl<H: Portable> Engine<H, MemoryStore> {

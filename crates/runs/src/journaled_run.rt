@@ -250,11 +250,16 @@ fn go_on<
     );
     match answered {
         Ok(count) => {
-            info!(told; "answered {}, behind {} of the journal", Plural(count, "line"), Plural(lines, "line"));
+            tell_answered(told, count, lines);
             Ok(())
         }
         Err(fault) => Err(stop_at_input(reader.inner.get_ref(), fault, lines)),
     }
+}
+
+/// Tells how many lines of the input were answered, behind so many of the journal.
+fn tell_answered<L: Log>(told: &L, count: u64, lines: u64) {
+    info!(told; "answered {}, behind {} of the journal", Plural(count, "line"), Plural(lines, "line"));
 }
 
 /// Answers each line of the input, and keeps a snapshot behind each so many, where that is asked for. Tells how many

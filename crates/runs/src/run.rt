@@ -126,7 +126,7 @@ fn run_by<T: Threads + Sync, L: Log, R: Read + Drop, W: Write + Drop, H: Handler
     let answered = engine.answer_all(rt, told, alloc, hosted, &mut reader, &mut writer, explained);
     let status = match answered {
         Ok(count) => {
-            info!(told; "answered {}", Plural(count, "line"));
+            tell_answered(told, count);
             engine.end_well(told, alloc, hosted, &mut writer.inner, asked)
         }
         Err(fault) => {
@@ -138,6 +138,11 @@ fn run_by<T: Threads + Sync, L: Log, R: Read + Drop, W: Write + Drop, H: Handler
     };
     engine.forget();
     status
+}
+
+/// Tells how many lines were answered.
+fn tell_answered<L: Log>(told: &L, count: u64) {
+    info!(told; "answered {}", Plural(count, "line"));
 }
 
 /// Says that there is no memory to begin with, and tells the status to end with.

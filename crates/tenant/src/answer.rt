@@ -14,7 +14,7 @@ use std::marker::Model;
 /// What an equal reply needs that a copy may not find: a second hold of a list that lies in memory. Every other part of
 /// a reply is copied without memory.
 #[derive(Drop)]
-enum Spare {
+pub(crate) enum Spare {
     Nothing,
     Letters(Letters),
     Outputs(Texts),
@@ -95,9 +95,9 @@ impl Spare {
 /// reply needs, which whoever keeps a history asks for once the step is done.
 #[derive(Drop)]
 pub struct Answer {
-    said: Said,
-    reply: Reply,
-    spare: Spare,
+    pub(crate) said: Said,
+    pub(crate) reply: Reply,
+    pub(crate) spare: Spare,
 }
 
 impl Model for Answer {
@@ -111,7 +111,7 @@ impl Model for Answer {
 }
 
 /// The store was not asked.
-fn quiet() -> Said
+pub(crate) fn quiet() -> Said
     ensures { result ≡ quiet_said }
 {
     Said {
@@ -229,23 +229,4 @@ impl Model for PendingAccept {
     ghost view = { λ a. record { said = quiet; reply = Accepted a.at a.held a.letters } };
 
     ghost invariant = { λ a. a.spare ≡ a.letters };
-}
-
-impl PendingAccept {
-    /// The answer itself.
-    pub(crate) fn into_answer(self) -> Answer
-        ensures { result ≡ self }
-    {
-        let PendingAccept {
-            at,
-            held,
-            letters,
-            spare,
-        } = self;
-        Answer {
-            said: quiet(),
-            reply: Reply::Accepted { at, held, letters },
-            spare: Spare::Letters(spare),
-        }
-    }
 }

@@ -170,12 +170,12 @@ impl<H: Handler> Member<H> {
         ensures down { IfErr result (λ refusal. (refusal ≡ Down) × (self.now.unit_state.progress ≡ None)) }
     {
         match self.unit_state.progress() {
-            Some(progress) => Ok(AskRef::new(
-                self.unit_state.seat(),
-                &progress.state,
+            Some(progress) => Ok(AskRef {
+                seat: self.unit_state.seat(),
+                state: &progress.state,
                 source,
                 text,
-            )),
+            }),
             None => Err(Refusal::Down),
         }
     }

@@ -12,11 +12,11 @@ ghost use Rattle.tenant.specs.Kept.{received_kept};
 ghost use Rattle.tenant.specs.Outcomes.{IsPlain};
 ghost use Rattle.tenant.specs.Plans.{IsPlan, IsPlanned, arrived};
 
-use crate::answer::{Answer, PendingAccept};
+use crate::answer::{Answer, PendingAccept, Spare, quiet};
 use crate::member::Member;
 use crate::tenant::Tenant;
 use handler::{AskRef, Handler, Turn};
-use model::{Letter, Letters, Mark, NoMemory, Refusal, Source, TenantName, Text, Unit};
+use model::{Letter, Letters, Mark, NoMemory, Refusal, Reply, Source, TenantName, Text, Unit};
 use rollback::RecordDraft;
 use std::alloc::Global;
 use unit_steps::{NewLetters, letters_by, mark_upon, turn_refusal, vector_upon};
@@ -133,6 +133,16 @@ impl<H: Handler> Tenant<H> {
         let member = &mut self.members[usize::from(unit.number())];
         member.receive(name, logged, turn)?;
         self.letters.add(made);
-        Ok(answer.into_answer())
+        let PendingAccept {
+            at,
+            held,
+            letters,
+            spare,
+        } = answer;
+        Ok(Answer {
+            said: quiet(),
+            reply: Reply::Accepted { at, held, letters },
+            spare: Spare::Letters(spare),
+        })
     }
 }

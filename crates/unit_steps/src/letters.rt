@@ -6,7 +6,7 @@ ghost use Rattle.std.specs.List.{filter};
 ghost use Rattle.session.specs.Counts.{advanced, sent_one, sent_to};
 ghost use Rattle.compact.specs.Steps.{letters_by as letters_of};
 
-use crate::new_letters::NewLetters;
+use crate::new_letters::{LetterStorage, NewLetters};
 use depvector::SharedVector;
 use model::{NoMemory, Source, Text, Unit};
 use session::Sessions;
@@ -185,12 +185,16 @@ fn letters_of_one(
         nat_lt s.0 width) (send.now ∷ []))) }
 {
     if usize::from(send.0.number()) >= width {
-        return Ok(NewLetters::none());
+        return Ok(NewLetters {
+            letters: LetterStorage::Zero,
+        });
     }
     let number = sessions.number_to(send.0);
     let text = send.1.copy()?;
     let letter = letter_of(alloc, unit, vector, send.0, text, number)?;
-    Ok(NewLetters::one(letter))
+    Ok(NewLetters {
+        letters: LetterStorage::One(letter),
+    })
 }
 
 /// The counts after a receipt from the source, which have room for so many sends.
@@ -227,12 +231,16 @@ pub fn letters_by(
         nat_lt s.0 width) sends.now)) }
 {
     if sends.is_empty() {
-        return Ok(NewLetters::none());
+        return Ok(NewLetters {
+            letters: LetterStorage::Zero,
+        });
     }
     if sends.len() == 1 {
         return letters_of_one(alloc, unit, vector, sessions, &source, &sends[0], width);
     }
     let mut counts = counts_after(sessions, &source, sends.len())?;
     let letters = letters_from(alloc, unit, vector, &mut counts, sends, width)?;
-    Ok(NewLetters::many(letters))
+    Ok(NewLetters {
+        letters: LetterStorage::Many(letters),
+    })
 }

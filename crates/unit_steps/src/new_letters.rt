@@ -1,6 +1,6 @@
 //! The letters of one turn.
 
-ghost use Rattle.std.specs.Prelude.{◌≡◌, [], ◌∷◌, length};
+ghost use Rattle.std.specs.Prelude.{◌≡◌, length};
 
 use crate::letters::SentLetter;
 use std::marker::Model;
@@ -29,30 +29,6 @@ impl Model for NewLetters {
 }
 
 impl NewLetters {
-    pub(crate) fn none() -> NewLetters
-        ensures { result.items ≡ [] }
-    {
-        NewLetters {
-            letters: LetterStorage::Zero,
-        }
-    }
-
-    pub(crate) fn one(letter: SentLetter) -> NewLetters
-        ensures { result.items ≡ letter ∷ [] }
-    {
-        NewLetters {
-            letters: LetterStorage::One(letter),
-        }
-    }
-
-    pub(crate) fn many(letters: Vec<SentLetter>) -> NewLetters
-        ensures { result.items ≡ letters.items }
-    {
-        NewLetters {
-            letters: LetterStorage::Many(letters),
-        }
-    }
-
     /// How many there are.
     #[inline(always)]
     pub fn len(&self) -> usize

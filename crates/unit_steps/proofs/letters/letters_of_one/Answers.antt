@@ -10,7 +10,7 @@ returns c =
     let at = c.from.ensures ∙ c.number.ensures in
     let within : nat_lt c.args.send.now.0 c.args.width ≡ true =
     true_lt c.args.send.now.0 c.args.width (omega (arith, low, at)) in
-    rw (within) (c.one.ensures ∙ ap (λ l. l ∷ []) (c.in_ok-letter.ensures ∙ (λ i. record {
+    rw (within) (ap (λ l. l ∷ []) (c.in_ok-letter.ensures ∙ (λ i. record {
       source = c.args.unit;
       receiver = c.args.send.now.0;
       content = Some (record {

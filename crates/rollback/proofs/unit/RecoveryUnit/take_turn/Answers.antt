@@ -12,7 +12,7 @@ invariant_of-self-2 g c =
     search (c.push_back_reserved.ensures.items, c.in_ok-reserve.ensures.items, c.in_ok-vector.ensures, rules) in
     let volatile : c.push.new.self.records ≡ c.self.inside.volatile.records
     ++ recorded c.args.tenant.now c.args.logged ∷ [] =
-    search (c.push.ensures.records, c.in_ok-reserve-2.ensures.same, c.into_record.ensures, rules) in
+    search (c.push.ensures.records, c.in_ok-reserve-2.ensures.same, c.copy-2.ensures, c.into_marks.ensures, rules) in
     kept_took (record {
       seat = c.self.inside.seat;
       progress = c.self.inside.progress;
