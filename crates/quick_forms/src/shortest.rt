@@ -8,35 +8,17 @@ ghost use Rattle.json.specs.Print.{escape, escape_byte, quoted as quoted_text};
 ghost use Rattle.quick_forms.specs.Seen.{step_of_tokens};
 ghost use Rattle.quick_forms.specs.Tails.{post_tail, deliver_tail, place_tail};
 
-use crate::steps::{delivery, place, posted};
-use model::{AddressedStep, NoMemory};
-use std::alloc::Global;
+use crate::steps::{delivery, place};
+use model::AddressedStep;
 
 /// How long a line may be that is compared byte by byte. The tokens of a longer one are found faster.
-const MOST_BYTES: usize = 512;
+pub(crate) const MOST_BYTES: usize = 512;
 
 /// Where the first byte of the verb stands.
-const VERB: usize = 7;
-
-/// The step, where the line is one of the quick ones in its shortest form.
-pub(crate) fn shortest(alloc: Global, line: &str) -> Result<Option<AddressedStep>, NoMemory>
-    ensures { IfOk result (λ o. IfSome o (λ s. step_of_tokens (tokens line.now) ≡ Some s)) }
-{
-    if line.len() > MOST_BYTES {
-        return Ok(None);
-    }
-    match line.as_bytes().get(VERB) {
-        Some(b'd') => Ok(delivery_line(line)),
-        Some(b'p') => match post_parts(line) {
-            Some((number, tenant, text, unit)) => Ok(posted(alloc, number, tenant, text, unit)?),
-            None => Ok(None),
-        },
-        _ => Ok(place_line(line)),
-    }
-}
+pub(crate) const VERB: usize = 7;
 
 /// The step, where the line is a delivery in its shortest form.
-fn delivery_line(line: &str) -> Option<AddressedStep>
+pub(crate) fn delivery_line(line: &str) -> Option<AddressedStep>
     ensures { IfSome result (λ s. step_of_tokens (tokens line.now) ≡ Some s) }
 {
     let (letter, tenant) = deliver_parts(behind_deliver(line)?)?;
@@ -44,7 +26,7 @@ fn delivery_line(line: &str) -> Option<AddressedStep>
 }
 
 /// The step, where the line is the shortest form of one that names a tenant and a unit alone.
-fn place_line(line: &str) -> Option<AddressedStep>
+pub(crate) fn place_line(line: &str) -> Option<AddressedStep>
     ensures { IfSome result (λ s. step_of_tokens (tokens line.now) ≡ Some s) }
 {
     let (verb, rest) = head(line)?;
@@ -69,7 +51,7 @@ fn head(line: &str) -> Option<(&str, &str)>
 }
 
 /// What a post in its shortest form says: its number, tenant, text and unit.
-fn post_parts(line: &str) -> Option<(u64, &str, &str, u64)>
+pub(crate) fn post_parts(line: &str) -> Option<(u64, &str, &str, u64)>
     ensures { IfSome result (λ p. line.now
         ≡ codes "{\"do\":" ++ (quoted_text (codes "post") ++ post_tail p.0 p.1.now p.2.now p.3)) }
 {

@@ -14,7 +14,7 @@ ghost use Rattle.forms.specs.declared.fault.LineFault as LineFault;
 ghost use Rattle.quick_forms.specs.Seen.{seen_members, read_tokens, step_of_tokens, whole_data, post_data};
 ghost use Rattle.quick_forms.specs.Seen.{deliver_data, join_data, place_data};
 
-use crate::shortest::shortest;
+use crate::shortest::{MOST_BYTES, VERB, delivery_line, place_line, post_parts};
 use fast_float::Numeral;
 use forms::LineFault;
 use json::{Invalid, Reader, Scratch, Token};
@@ -52,8 +52,18 @@ pub fn read_addressed(
     let Some(text) = text_of(line) else {
         return Err(LineFault::Bad);
     };
-    if let Some(step) = shortest(alloc, text)? {
-        return Ok(step);
+    if text.len() <= MOST_BYTES {
+        let shortest = match text.as_bytes().get(VERB) {
+            Some(b'd') => delivery_line(text),
+            Some(b'p') => match post_parts(text) {
+                Some((number, tenant, text, unit)) => posted(alloc, number, tenant, text, unit)?,
+                None => None,
+            },
+            _ => place_line(text),
+        };
+        if let Some(step) = shortest {
+            return Ok(step);
+        }
     }
     if begins_no_object(text) {
         return Err(LineFault::Bad);
