@@ -8,7 +8,9 @@ use Rattle.quick_forms.proofs.Compact.{found, post_parts, post_text}
 use Rattle.quick_forms.proofs.NoStep.{gives_fault, line_step}
 use Rattle.quick_forms.proofs.steps.read_addressed.Goals as goal
 use Rattle.quick_forms.proofs.steps.read_addressed.Goals.{in-Some-eq100, in-Some-eq112+in-None, in_default-get}
-use Rattle.quick_forms.proofs.steps.read_addressed.Goals.{in-Some-eq112+in-Some-post_parts+in_ok-shortest-in-Some-post_parts}
+use Rattle.quick_forms.proofs.steps.read_addressed.Goals.{
+  in-Some-eq112+in-Some-post_parts+in_ok-shortest-in-Some-post_parts,
+}
 
 pub returns-in_default : goal.returns-in_default
 returns-in_default c = step_of_line-none c.args.line.now (λ text. absurd (c.in_default.ensures text))
@@ -33,25 +35,25 @@ returns-in-Some-shortest c =
     let text = c.in-Some.text.now in
     let found_here : IfSome c.match-get.shortest (λ s. step_of_tokens (tokens text) ≡ Some s) =
     elim c.match-get.branch [
-      in-Some-eq100 w ↦
-        subst (λ o. IfSome o (λ s. step_of_tokens (tokens text) ≡ Some s)) (sym w.shortest-is)
-        w.delivery_line-shortest.ensures
-    | in-Some-eq112+in-Some-post_parts+in_ok-shortest-in-Some-post_parts w ↦
-        let verb = codes "post" in
-        let at = w.in-Some-post_parts in
-        let d = post_data verb at.number at.tenant.now at.text.now at.unit in
-        let is : text ≡ compact_text d =
-        at.ensures ∙ sym (post_parts verb at.tenant.now at.text.now at.number at.unit) in
-        let small : at.number < 2 ^ 64 = search rules in
-        let few : at.unit < 2 ^ 64 = search rules in
-        subst (λ o. IfSome o (λ s. step_of_tokens (tokens text) ≡ Some s)) (sym w.shortest-is)
-        (found text (compact_text d) _ _ is (post_text verb at.tenant.now at.text.now at.number at.unit small few)
-        w.in_ok-shortest-in-Some-post_parts.ensures)
-    | in-Some-eq112+in-None w ↦
-        subst (λ o. IfSome o (λ s. step_of_tokens (tokens text) ≡ Some s)) (sym w.shortest-is) tt
-    | in_default-get w ↦
-        subst (λ o. IfSome o (λ s. step_of_tokens (tokens text) ≡ Some s)) (sym w.shortest-is)
-        w.place_line-shortest.ensures
+      | in-Some-eq100 w ↦
+          subst (λ o. IfSome o (λ s. step_of_tokens (tokens text) ≡ Some s)) (sym w.shortest-is)
+          w.delivery_line-shortest.ensures
+      | in-Some-eq112+in-Some-post_parts+in_ok-shortest-in-Some-post_parts w ↦
+          let verb = codes "post" in
+          let at = w.in-Some-post_parts in
+          let d = post_data verb at.number at.tenant.now at.text.now at.unit in
+          let is : text ≡ compact_text d =
+          at.ensures ∙ sym (post_parts verb at.tenant.now at.text.now at.number at.unit) in
+          let small : at.number < 2 ^ 64 = search rules in
+          let few : at.unit < 2 ^ 64 = search rules in
+          subst (λ o. IfSome o (λ s. step_of_tokens (tokens text) ≡ Some s)) (sym w.shortest-is)
+          (found text (compact_text d) _ _ is (post_text verb at.tenant.now at.text.now at.number at.unit small few)
+          w.in_ok-shortest-in-Some-post_parts.ensures)
+      | in-Some-eq112+in-None w ↦
+          subst (λ o. IfSome o (λ s. step_of_tokens (tokens text) ≡ Some s)) (sym w.shortest-is) tt
+      | in_default-get w ↦
+          subst (λ o. IfSome o (λ s. step_of_tokens (tokens text) ≡ Some s)) (sym w.shortest-is)
+          w.place_line-shortest.ensures
     ] in
     line_step line c.in-Some.ensures.1 ∙ ap (λ text. step_of_tokens (tokens text)) (sym c.in-Some.ensures.0) ∙ subst
     (λ o. IfSome o (λ s. step_of_tokens (tokens text) ≡ Some s)) c.in-Some-shortest.is found_here
