@@ -195,8 +195,9 @@ pub(crate) fn step_within(step: &Step) -> Result<TenantStep, NoMemory>
 pub(crate) fn whole_copy(name: &TenantName, own: &TenantStep) -> Result<Step, NoMemory>
     ensures { IfOk result (λ s. s ≡ whole name.now own.now) }
 {
-    let own_step = own.copy()?;
-    Ok(AddressedStep::new(name.copy(), own_step).into_step())
+    let tenant = name.copy();
+    let own = own.copy()?;
+    Ok(AddressedStep { tenant, own }.into_step())
 }
 
 /// Gives up the texts that a unit of the tenant of this name released, if both are there.

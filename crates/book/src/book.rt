@@ -107,14 +107,15 @@ impl<H: Handler, S: Store> Book<H, S> {
 
     /// Does a step of a caller that is apart, and enters it with its reply, as `step` does. Its tenant does the step
     /// itself, and the history keeps a copy.
+    #[tactic(auto, using(model::proofs::Apart::addressed_of_whole))]
     pub fn step_addressed(&mut self, step: AddressedStep) -> Reply
         ensures entered { IsEntered self.old Caller step result self.new }
         ensures honest { IsSaidHonestly H.meaning self.old self.new }
     {
-        let (name, own_step) = step.into_parts();
-        match whole_copy(&name, &own_step) {
-            Err(_) => memory_reply_to(is_flush(&own_step)),
-            Ok(step) => self.enter_own(Who::Caller, step, own_step),
+        let AddressedStep { tenant, own } = step;
+        match whole_copy(&tenant, &own) {
+            Err(_) => memory_reply_to(is_flush(&own)),
+            Ok(step) => self.enter_own(Who::Caller, step, own),
         }
     }
 

@@ -179,13 +179,13 @@ impl<H: Handler, S: Store> Host<H, S> {
         // Where it kept no text that was released, it keeps none.
         ensures none { KeepNoTexts (held_by self.old).at → KeepNoTexts (held_by self.new).at }
     {
-        let (name, own_step) = step.into_parts();
-        let flush = is_flush(&own_step);
-        let released = released_unit(&own_step);
-        match self.answer_own(&name, own_step) {
+        let AddressedStep { tenant, own } = step;
+        let flush = is_flush(&own);
+        let released = released_unit(&own);
+        match self.answer_own(&tenant, own) {
             Err(_) => memory_reply_to(flush),
             Ok(answer) => {
-                self.give_up_after(&name, released);
+                self.give_up_after(&tenant, released);
                 answer.into_reply()
             }
         }

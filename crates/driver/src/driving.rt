@@ -522,7 +522,10 @@ fn do_chores<
 fn step_of(tenant: &TenantName, chore: &Chore) -> AddressedStep
     ensures { result ≡ chore_step tenant.now chore.now }
 {
-    AddressedStep::new(tenant.copy(), chore.own_step())
+    AddressedStep {
+        tenant: tenant.copy(),
+        own: chore.own_step(),
+    }
 }
 
 // Does a step of the driver, and writes a line for each text that left by it. Tells why it was refused, if it was.

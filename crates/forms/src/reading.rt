@@ -102,7 +102,7 @@ fn open(alloc: Global, value: &Value) -> Result<AddressedStep, LineFault>
             quota,
             optimism,
         };
-        Ok(AddressedStep::new(tenant, own))
+        Ok(AddressedStep { tenant, own })
     } else {
         Err(LineFault::Bad)
     }
@@ -159,7 +159,8 @@ fn join(alloc: Global, value: &Value) -> Result<AddressedStep, LineFault>
     let tenant = name(value)?;
     let kind = Text::of(alloc, text(value, "kind")?)?;
     if count_is(value, 3) {
-        Ok(AddressedStep::new(tenant, TenantStep::Join { kind }))
+        let own = TenantStep::Join { kind };
+        Ok(AddressedStep { tenant, own })
     } else {
         Err(LineFault::Bad)
     }
@@ -175,7 +176,7 @@ fn post(alloc: Global, value: &Value) -> Result<AddressedStep, LineFault>
     let text = Text::of(alloc, text(value, "text")?)?;
     if count_is(value, 5) {
         let own = TenantStep::Post { unit, number, text };
-        Ok(AddressedStep::new(tenant, own))
+        Ok(AddressedStep { tenant, own })
     } else {
         Err(LineFault::Bad)
     }
@@ -188,7 +189,8 @@ fn deliver(value: &Value) -> Result<AddressedStep, LineFault>
     let tenant = name(value)?;
     let letter = Letter::new(word(value, "letter")?);
     if count_is(value, 3) {
-        Ok(AddressedStep::new(tenant, TenantStep::Deliver { letter }))
+        let own = TenantStep::Deliver { letter };
+        Ok(AddressedStep { tenant, own })
     } else {
         Err(LineFault::Bad)
     }
@@ -212,49 +214,56 @@ fn flush(value: &Value) -> Result<AddressedStep, LineFault>
     ensures { Gives (λ s. s) result (flush_form (view value.now)) }
 {
     let (tenant, unit) = place(value)?;
-    Ok(AddressedStep::new(tenant, TenantStep::Flush { unit }))
+    let own = TenantStep::Flush { unit };
+    Ok(AddressedStep { tenant, own })
 }
 
 fn checkpoint(value: &Value) -> Result<AddressedStep, LineFault>
     ensures { Gives (λ s. s) result (checkpoint_form (view value.now)) }
 {
     let (tenant, unit) = place(value)?;
-    Ok(AddressedStep::new(tenant, TenantStep::Checkpoint { unit }))
+    let own = TenantStep::Checkpoint { unit };
+    Ok(AddressedStep { tenant, own })
 }
 
 fn kill(value: &Value) -> Result<AddressedStep, LineFault>
     ensures { Gives (λ s. s) result (kill_form (view value.now)) }
 {
     let (tenant, unit) = place(value)?;
-    Ok(AddressedStep::new(tenant, TenantStep::Kill { unit }))
+    let own = TenantStep::Kill { unit };
+    Ok(AddressedStep { tenant, own })
 }
 
 fn restart(value: &Value) -> Result<AddressedStep, LineFault>
     ensures { Gives (λ s. s) result (restart_form (view value.now)) }
 {
     let (tenant, unit) = place(value)?;
-    Ok(AddressedStep::new(tenant, TenantStep::Restart { unit }))
+    let own = TenantStep::Restart { unit };
+    Ok(AddressedStep { tenant, own })
 }
 
 fn notice(value: &Value) -> Result<AddressedStep, LineFault>
     ensures { Gives (λ s. s) result (notice_form (view value.now)) }
 {
     let (tenant, unit) = place(value)?;
-    Ok(AddressedStep::new(tenant, TenantStep::Notice { unit }))
+    let own = TenantStep::Notice { unit };
+    Ok(AddressedStep { tenant, own })
 }
 
 fn release(value: &Value) -> Result<AddressedStep, LineFault>
     ensures { Gives (λ s. s) result (release_form (view value.now)) }
 {
     let (tenant, unit) = place(value)?;
-    Ok(AddressedStep::new(tenant, TenantStep::Release { unit }))
+    let own = TenantStep::Release { unit };
+    Ok(AddressedStep { tenant, own })
 }
 
 fn status(value: &Value) -> Result<AddressedStep, LineFault>
     ensures { Gives (λ s. s) result (status_form (view value.now)) }
 {
     let (tenant, unit) = place(value)?;
-    Ok(AddressedStep::new(tenant, TenantStep::Status { unit }))
+    let own = TenantStep::Status { unit };
+    Ok(AddressedStep { tenant, own })
 }
 
 // ---- the values behind keys

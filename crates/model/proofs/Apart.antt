@@ -41,3 +41,8 @@ pub whole_is : (step : Step) (tenant : List ℕ) (own : TenantStep)
     → addressed step ≡ (tenant, own) → whole tenant own ≡ step
 whole_is step tenant own is =
     ap (λ (p : List ℕ × TenantStep). whole p.0 p.1) (sym is) ∙ whole_of_addressed step
+
+-- a step that was put together of a name and a step is taken apart to these
+pub parts_are : (tenant : List ℕ) (own : TenantStep) (step : Step)
+    → whole tenant own ≡ step → addressed step ≡ (tenant, own)
+parts_are tenant own step is = ap addressed (sym is) ∙ addressed_of_whole tenant own

@@ -11,8 +11,8 @@ use std::marker::Model;
 /// A step, apart: the name of its tenant, and the tenant's own step. Contracts see it as the step.
 #[derive(Drop)]
 pub struct AddressedStep {
-    tenant: TenantName,
-    own: TenantStep,
+    pub tenant: TenantName,
+    pub own: TenantStep,
 }
 
 impl Model for AddressedStep {
@@ -25,13 +25,6 @@ impl Model for AddressedStep {
 }
 
 impl AddressedStep {
-    /// The step of this name's tenant that is this one for the tenant. Takes no memory.
-    pub fn new(tenant: TenantName, own: TenantStep) -> AddressedStep
-        ensures { result ≡ whole tenant own }
-    {
-        AddressedStep { tenant, own }
-    }
-
     /// The name of its tenant.
     #[tactic(auto, using(crate::proofs::Apart::addressed_of_whole))]
     pub fn tenant(&self) -> &TenantName
@@ -46,16 +39,6 @@ impl AddressedStep {
         ensures { result.now ≡ (addressed self.now).1 }
     {
         &self.own
-    }
-
-    /// Both. Takes no memory.
-    #[inline(always)]
-    #[tactic(auto, using(crate::proofs::Apart::addressed_of_whole))]
-    pub fn into_parts(self) -> (TenantName, TenantStep)
-        ensures { addressed self ≡ result }
-    {
-        let AddressedStep { tenant, own } = self;
-        (tenant, own)
     }
 
     /// The step, in one piece. Takes no memory.
@@ -104,6 +87,7 @@ impl Step {
         ensures { IfOk result (λ s. s ≡ self.now) }
     {
         let own = self.tenant_step()?;
-        Ok(AddressedStep::new(self.tenant().copy(), own).into_step())
+        let tenant = self.tenant().copy();
+        Ok(AddressedStep { tenant, own }.into_step())
     }
 }

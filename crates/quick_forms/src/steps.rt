@@ -346,7 +346,7 @@ pub(crate) fn posted(
         number: number as u32,
         text,
     };
-    Ok(Some(AddressedStep::new(tenant, own)))
+    Ok(Some(AddressedStep { tenant, own }))
 }
 
 fn deliver(verb: &str, letter: u64, tenant: &str) -> Option<AddressedStep>
@@ -370,7 +370,7 @@ pub(crate) fn delivery(letter: u64, tenant: &str) -> Option<AddressedStep>
     let own = TenantStep::Deliver {
         letter: Letter::new(letter as u32),
     };
-    Some(AddressedStep::new(tenant, own))
+    Some(AddressedStep { tenant, own })
 }
 
 #[tactic(auto, unfolding(forms::specs::Reading::step_of, forms::specs::Reading::join_form))]
@@ -390,7 +390,8 @@ fn join(
         return Ok(None);
     };
     let kind = Text::of(alloc, kind)?;
-    Ok(Some(AddressedStep::new(tenant, TenantStep::Join { kind })))
+    let own = TenantStep::Join { kind };
+    Ok(Some(AddressedStep { tenant, own }))
 }
 
 #[tactic(auto, unfolding(forms::specs::Reading::step_of, forms::specs::Reading::place_of))]
@@ -403,19 +404,26 @@ pub(crate) fn place(verb: &str, tenant: &str, unit: u64) -> Option<AddressedStep
     let tenant = TenantName::new(tenant)?;
     let unit = Unit::new(unit as u8);
     if verb == "flush" {
-        Some(AddressedStep::new(tenant, TenantStep::Flush { unit }))
+        let own = TenantStep::Flush { unit };
+        Some(AddressedStep { tenant, own })
     } else if verb == "release" {
-        Some(AddressedStep::new(tenant, TenantStep::Release { unit }))
+        let own = TenantStep::Release { unit };
+        Some(AddressedStep { tenant, own })
     } else if verb == "status" {
-        Some(AddressedStep::new(tenant, TenantStep::Status { unit }))
+        let own = TenantStep::Status { unit };
+        Some(AddressedStep { tenant, own })
     } else if verb == "checkpoint" {
-        Some(AddressedStep::new(tenant, TenantStep::Checkpoint { unit }))
+        let own = TenantStep::Checkpoint { unit };
+        Some(AddressedStep { tenant, own })
     } else if verb == "notice" {
-        Some(AddressedStep::new(tenant, TenantStep::Notice { unit }))
+        let own = TenantStep::Notice { unit };
+        Some(AddressedStep { tenant, own })
     } else if verb == "kill" {
-        Some(AddressedStep::new(tenant, TenantStep::Kill { unit }))
+        let own = TenantStep::Kill { unit };
+        Some(AddressedStep { tenant, own })
     } else if verb == "restart" {
-        Some(AddressedStep::new(tenant, TenantStep::Restart { unit }))
+        let own = TenantStep::Restart { unit };
+        Some(AddressedStep { tenant, own })
     } else {
         None
     }

@@ -107,33 +107,6 @@ impl Model for SentLetter {
     ghost view = { λ l. record { source = l.source; receiver = l.receiver; content = l.content } };
 }
 
-/// The letter of a send, of which the sender had sent so many to the receiver before.
-#[inline(always)]
-fn letter_of(
-    alloc: Global,
-    unit: Unit,
-    vector: &SharedVector,
-    receiver: Unit,
-    text: Text,
-    number: u64,
-) -> Result<SentLetter, NoMemory>
-    ensures { IfOk result (λ l.
-        l ≡ record {
-          source = unit;
-          receiver = receiver;
-          content = Some
-              (record { number = number; text = text; vector = vector.now });
-        }) }
-{
-    let vector = vector.copy(alloc)?;
-    let content = Content::new(alloc, number, text, vector)?;
-    Ok(SentLetter {
-        source: unit,
-        receiver,
-        content: Some(content),
-    })
-}
-
 /// Counts one more letter to the unit, where it has an entry.
 fn count_sent(counts: &mut Sessions, unit: Unit)
     requires { sent_to counts.old unit + 1 < 2 ^ 64 }
@@ -162,39 +135,16 @@ fn letters_from(
     for send in sends {
         if usize::from(send.0.number()) < width {
             let number = counts.number_to(send.0);
-            let text = send.1.copy()?;
-            made.push(letter_of(alloc, unit, vector, send.0, text, number)?)?;
+            let content = Content::new(alloc, number, send.1.copy()?, vector.copy(alloc)?)?;
+            made.push(SentLetter {
+                source: unit,
+                receiver: send.0,
+                content: Some(content),
+            })?;
             count_sent(counts, send.0);
         }
     }
     Ok(made)
-}
-
-/// The letters of one send, for which no counts need be copied: a receipt leaves what was sent before.
-fn letters_of_one(
-    alloc: Global,
-    unit: Unit,
-    vector: &SharedVector,
-    sessions: &Sessions,
-    source: &Source,
-    send: &(Unit, Text),
-    width: usize,
-) -> Result<NewLetters, NoMemory>
-    ensures { IfOk result (λ made.
-        made.items ≡ letters_of unit vector.now (advanced sessions.now source.now) (filter (λ s.
-        nat_lt s.0 width) (send.now ∷ []))) }
-{
-    if usize::from(send.0.number()) >= width {
-        return Ok(NewLetters {
-            letters: LetterStorage::Zero,
-        });
-    }
-    let number = sessions.number_to(send.0);
-    let text = send.1.copy()?;
-    let letter = letter_of(alloc, unit, vector, send.0, text, number)?;
-    Ok(NewLetters {
-        letters: LetterStorage::One(letter),
-    })
 }
 
 /// The counts after a receipt from the source, which have room for so many sends.
@@ -236,7 +186,22 @@ pub fn letters_by(
         });
     }
     if sends.len() == 1 {
-        return letters_of_one(alloc, unit, vector, sessions, &source, &sends[0], width);
+        let (receiver, text) = &sends[0];
+        if usize::from(receiver.number()) >= width {
+            return Ok(NewLetters {
+                letters: LetterStorage::Zero,
+            });
+        }
+        // No counts need be copied: a receipt leaves what was sent before.
+        let number = sessions.number_to(*receiver);
+        let content = Content::new(alloc, number, text.copy()?, vector.copy(alloc)?)?;
+        return Ok(NewLetters {
+            letters: LetterStorage::One(SentLetter {
+                source: unit,
+                receiver: *receiver,
+                content: Some(content),
+            }),
+        });
     }
     let mut counts = counts_after(sessions, &source, sends.len())?;
     let letters = letters_from(alloc, unit, vector, &mut counts, sends, width)?;

@@ -5,5 +5,5 @@ use Rattle.model.proofs.Apart.{whole_is}
 use Rattle.driver.proofs.driving.step_of.Goals as goal
 
 pub returns : goal.returns
-returns c = c.new.ensures ∙ ap (λ t. whole t c.own_step.result) c.copy.ensures
+returns c = ap (λ t. whole t c.own_step.result) c.copy.ensures
     ∙ whole_is (chore_step c.args.tenant.now c.args.chore.now) _ _ (c.own_step.ensures c.args.tenant.now)

@@ -3,6 +3,7 @@ use Rattle.model.specs.Addresses.{addressed}
 use Rattle.model.specs.declared.steps.Step.{Step}
 use Rattle.model.specs.declared.steps.TenantStep.{TenantStep}
 use Rattle.model.specs.declared.steps.TenantStep.TheVariants.{Kill}
+use Rattle.model.proofs.Apart.{parts_are}
 use Rattle.book.specs.Entries.{IsAdded, own_memory_reply}
 use Rattle.book.specs.Standing.{Carries, EntersHonestly, IsHostOf}
 use Rattle.book.proofs.Standing.{adds, apart, carries_on, enters, forgoes}
@@ -14,7 +15,8 @@ returns-in-Ok-clause-entered g c = λ who.
     let M = g.H.Handler.meaning in
     let a = c.in-Ok.answer in
     let step = c.args.step in
-    let answered = apart M step _ _ a.said a.reply _ _ c.into_parts-name.ensures c.in-Ok.ensures.answered in
+    let parts = parts_are _ _ step c.step.view_is in
+    let answered = apart M step _ _ a.said a.reply _ _ parts c.in-Ok.ensures.answered in
     rw c.into_reply.ensures
     (carries_on M c.args.self.now
     c.answer_own.new.self c.give_up_after.new.self c.give_up_after.ensures.log c.give_up_after.ensures.replay
@@ -26,7 +28,7 @@ returns-in-Err-clause-entered g c = λ who.
     let step = c.args.step in
     rw (c.memory_reply_to.ensures, ← c.is_flush-flush.ensures)
     (subst (λ r. Carries (IsHostOf M) (EntersHonestly M who step r) c.args.self.now c.answer_own.new.self)
-    (answer_is step ∙ ap (λ (p : List ℕ × TenantStep). own_memory_reply p.1) c.into_parts-name.ensures)
+    (answer_is step ∙ ap (λ (p : List ℕ × TenantStep). own_memory_reply p.1) (parts_are _ _ step c.step.view_is))
     (forgoes M c.args.self.now c.answer_own.new.self who step c.in-Err.ensures.err))
 
 pub returns-in-Ok-clause-kill : goal.returns-in-Ok-clause-kill
@@ -34,7 +36,8 @@ returns-in-Ok-clause-kill g c = λ who tenant unit kill.
     let M = g.H.Handler.meaning in
     let a = c.in-Ok.answer in
     let step = c.args.step in
-    let answered = apart M step _ _ a.said a.reply _ _ c.into_parts-name.ensures c.in-Ok.ensures.answered in
+    let parts = parts_are _ _ step c.step.view_is in
+    let answered = apart M step _ _ a.said a.reply _ _ parts c.in-Ok.ensures.answered in
     rw c.into_reply.ensures
     (carries_on M {Becomes = λ before after. IsAdded before who step a.reply after} c.args.self.now
     c.answer_own.new.self c.give_up_after.new.self c.give_up_after.ensures.log c.give_up_after.ensures.replay
@@ -43,7 +46,7 @@ returns-in-Ok-clause-kill g c = λ who tenant unit kill.
 pub returns-in-Err-clause-kill : goal.returns-in-Err-clause-kill
 returns-in-Err-clause-kill g c = λ who tenant unit kill.
     let own : _ ≡ Kill unit =
-    ap (λ (p : List ℕ × TenantStep). p.1) (sym c.into_parts-name.ensures) ∙ ap (λ (s : Step). (addressed s).1) kill in
+    ap (λ (p : List ℕ × TenantStep). p.1) (sym (parts_are _ _ c.args.step c.step.view_is)) ∙ ap (λ (s : Step). (addressed s).1) kill in
     absurd (let h = c.in-Err.ensures.kill unit own in cc h)
 
 pub returns-in-Ok-clause-none : goal.returns-in-Ok-clause-none
