@@ -1,29 +1,39 @@
 //! The step lines of an input are run, and a tenant's diagram is drawn.
 
+ghost use Rattle.std.specs.Prelude.{◌≡◌, []};
+
 use crate::followed::{Followed, follow};
 use diagram::{draw, draw_page, find_tenant};
 use handler::Handler;
 use lines::ServeFault;
 use log::{Log, error};
 use model::NoMemory;
+use shared_log::Store;
 use std::alloc::Global;
 use std::io::Read;
 use std::time::Clock;
 use words::DrawWords;
 
 /// The diagram of the tenant that is named, or of the first one opened, after all step lines of the
-/// input, over a store in memory. A line that is no step changes nothing. None where it can't be
+/// input, over a store that acknowledged nothing yet. A line that is no step changes nothing. None where it can't be
 /// drawn, which is told. Where the input has so many bytes, bars tell how far it is.
-pub(crate) fn diagram_of<R: Eprint + Clock, L: Log, H: Handler + Copy, I: Read + Drop>(
+pub(crate) fn diagram_of<R: Eprint + Clock, L: Log, H: Handler + Clone, S: Store, I: Read + Drop>(
     rt: &R,
     told: &L,
     alloc: Global,
     handler: H,
+    store: S,
     input: I,
     draw: &DrawWords<'_>,
     size: Option<u64>,
-) -> Option<String> {
-    let followed = match follow(rt, alloc, handler, input, size) {
+) -> Option<String>
+    requires { S.log store ≡ [] }
+{
+    let Ok(own) = handler.clone() else {
+        tell(told, ServeFault::NoMemory);
+        return None;
+    };
+    let followed = match follow(rt, alloc, own, store, input, size) {
         Ok(followed) => followed,
         Err(fault) => {
             tell(told, fault);
@@ -36,11 +46,11 @@ pub(crate) fn diagram_of<R: Eprint + Clock, L: Log, H: Handler + Copy, I: Read +
 }
 
 /// The diagram of the tenant that is named, or of the first one opened.
-fn drawn<L: Log, H: Handler>(
+fn drawn<L: Log, H: Handler, S: Store>(
     told: &L,
     alloc: Global,
     handler: &H,
-    followed: &Followed<H>,
+    followed: &Followed<H, S>,
     asked: &DrawWords<'_>,
 ) -> Option<String> {
     let history = followed.book.history();

@@ -1,24 +1,31 @@
 //! `draw`.
 
+ghost use Rattle.std.specs.Prelude.{◌≡◌, []};
+
 use crate::diagram_of::diagram_of;
 use files::{Unfit, why_unfit};
 use handler::Handler;
 use log::{Log, error};
+use shared_log::Store;
 use std::fs::{File, Files, OpenOptions};
 use std::io::{self, ErrorKind, Input, Write};
 use std::time::Clock;
 use terminal::{Patient, input_size};
 use words::DrawWords;
 
-/// `draw`: draws to the file that is named, or to standard output. Where it `shows`, bars tell how far it is.
+/// `draw`: draws to the file that is named, or to standard output, what the steps come to over a store that
+/// acknowledged nothing yet. Where it `shows`, bars tell how far it is.
 pub fn draw_on<
     R: Files<File = File> + Clock + Print + Eprint + Input + AllocGlobal,
     L: Log,
-    H: Handler + Copy,
->(rt: &R, told: &L, handler: H, draw: &DrawWords<'_>, shows: bool) -> u8 {
+    H: Handler + Clone,
+    S: Store,
+>(rt: &R, told: &L, handler: H, store: S, draw: &DrawWords<'_>, shows: bool) -> u8
+    requires { S.log store ≡ [] }
+{
     let size = if shows { input_size(rt) } else { None };
     let input = Patient::new(rt, rt.reader());
-    let Some(diagram) = diagram_of(rt, told, rt.alloc(), handler, input, draw, size) else {
+    let Some(diagram) = diagram_of(rt, told, rt.alloc(), handler, store, input, draw, size) else {
         return 1;
     };
     let Some(path) = draw.to else {

@@ -7,7 +7,7 @@
 //! For `host_cli`, which has the words. A caller:
 //!
 //! ```
-//! draw_on(rt, &told, handler, &asked, shows)
+//! draw_on(rt, &told, handler, MemoryStore::new(alloc), &asked, shows)
 //! ```
 #![tactic(auto)]
 

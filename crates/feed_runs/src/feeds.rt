@@ -1,5 +1,7 @@
 //! `feeds`: inputs are feeds that run at once.
 
+ghost use Rattle.std.specs.Prelude.{◌≡◌, []};
+
 use crate::budget::{Budgeted, MOST};
 use handler::Handler;
 use lines::{Counted, LineFault, ServeFault, fault_reply, put_reply, read_feed};
@@ -7,7 +9,7 @@ use log::sink::Discard;
 use log::{Log, error, info};
 use model::{MAX_FEEDS, NoMemory, Reply, Step};
 use reports::{audit_all, tell_kept};
-use shared_log::MemoryStore;
+use shared_log::{MemoryStore, Store};
 use std::alloc::Global;
 use std::cell::Cell;
 use std::fs::{File, Files};
@@ -49,13 +51,14 @@ pub fn feeds_on<
     R: Threads + Wait + Sync + Eprint + Clock + AllocGlobal,
     I: Read + Drop,
     W: Write + Drop,
-    H: Handler + Copy + Send + Sync,
+    H: Handler + Clone + Send + Sync,
 >(rt: &R, handler: H, inputs: Vec<I>, output: W, audit: bool) -> u8 {
     let Some(named) = unnamed(rt.alloc(), inputs) else {
         return 1;
     };
     let asked = FeedsWords::of_audit(rt.alloc(), audit);
-    feeds_asked(rt, &Discard, handler, named, output, &asked, false)
+    let store = MemoryStore::new(rt.alloc());
+    feeds_asked(rt, &Discard, handler, store, named, output, &asked, false)
 }
 
 /// The inputs, each with an empty name. None where there is no memory for their list.
@@ -69,26 +72,30 @@ fn unnamed<I: Drop>(alloc: Global, inputs: Vec<I>) -> Option<Vec<(&'static str, 
     Some(named)
 }
 
-/// Runs each input as a feed, all at once over a store in memory, and then writes the reply lines to the output, feed
-/// by feed in their order. An input comes with the name that it is told by. Tells the status to end with: 0 where all
-/// lines are answered, 1 after a fault of input, output, memory or threads; where the feeds can't be read or run,
-/// nothing is written. Where it is asked for, it audits each open tenant after the last reply; 1 too where an audit
-/// doesn't say yes. Where it `shows`, a bar tells how far the steps are.
+/// Runs each input as a feed, all at once over a store that acknowledged nothing yet, and then writes the reply lines
+/// to the output, feed by feed in their order. An input comes with the name that it is told by. Tells the status to end
+/// with: 0 where all lines are answered, 1 after a fault of input, output, memory or threads; where the feeds can't be
+/// read or run, nothing is written. Where it is asked for, it audits each open tenant after the last reply; 1 too where
+/// an audit doesn't say yes. Where it `shows`, a bar tells how far the steps are.
 pub fn feeds_asked<
     R: Threads + Wait + Sync + Eprint + Clock + AllocGlobal,
     L: Log,
     I: Read + Drop,
     W: Write + Drop,
-    H: Handler + Copy + Send + Sync,
+    H: Handler + Clone + Send + Sync,
+    S: Store + Send,
 >(
     rt: &R,
     told: &L,
     handler: H,
+    store: S,
     inputs: Vec<(&str, I)>,
     output: W,
     asked: &FeedsWords<'_>,
     shows: bool,
-) -> u8 {
+) -> u8
+    requires { S.log store ≡ [] }
+{
     let alloc = rt.alloc();
     let Some(read) = read_all(told, alloc, inputs) else {
         return 1;
@@ -99,8 +106,11 @@ pub fn feeds_asked<
     }
     let count = count_steps(steps.as_slice());
     let bar = Bar::new(rt, shows.then_some(count));
-    let store = MemoryStore::new(alloc);
-    let ran = run_feeds(rt, alloc, handler, store, steps, &Counting(&bar));
+    let Ok(own) = handler.clone() else {
+        tell_run(told, RunFault::NoMemory);
+        return 1;
+    };
+    let ran = run_feeds(rt, alloc, own, store, steps, &Counting(&bar));
     bar.clear();
     match ran {
         Ok(closed) => {
@@ -214,12 +224,12 @@ fn split(
 }
 
 /// Writes the replies to all feeds, and the audit lines where they are asked for.
-fn write_all<L: Log, H: Handler, W: Write + Drop>(
+fn write_all<L: Log, H: Handler, S: Store, W: Write + Drop>(
     told: &L,
     alloc: Global,
     handler: &H,
     output: W,
-    closed: &Closed<H, MemoryStore>,
+    closed: &Closed<H, S>,
     faults: &[Faults],
     asked: &FeedsWords<'_>,
 ) -> u8 {
@@ -271,10 +281,10 @@ fn count_lines(feeds: &[Faults]) -> u64 {
 }
 
 /// Writes the replies to all feeds, in their order.
-fn write_feeds<H: Handler, W: Write>(
+fn write_feeds<H: Handler, S: Store, W: Write>(
     alloc: Global,
     writer: &mut Counted<W>,
-    closed: &Closed<H, MemoryStore>,
+    closed: &Closed<H, S>,
     faults: &[Faults],
 ) -> Result<(), ServeFault> {
     let mut feed = 0u32;

@@ -8,7 +8,7 @@
 //!
 //! ```
 //! let inputs = open_feeds(rt, &told, alloc, asked.files.as_slice())?;
-//! feeds_asked(rt, &told, handler, inputs, output, &asked, shows)
+//! feeds_asked(rt, &told, handler, MemoryStore::new(alloc), inputs, output, &asked, shows)
 //! ```
 #![tactic(auto)]
 

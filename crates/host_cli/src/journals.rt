@@ -63,7 +63,7 @@ fn text_of(alloc: Global, path: &str, found: &Told, json: bool) -> Result<String
 }
 
 /// Takes the lines of the journal away that its snapshot stands behind, and tells the status to end with.
-pub(crate) fn trim_as_asked<R: Files<File = File> + Clock + Print, L: Log, H: Portable + Copy>(
+pub(crate) fn trim_as_asked<R: Files<File = File> + Clock + Print, L: Log, H: Portable + Clone>(
     rt: &R,
     told: &L,
     alloc: Global,
@@ -88,7 +88,7 @@ pub(crate) fn trim_as_asked<R: Files<File = File> + Clock + Print, L: Log, H: Po
         Ok(locked) => locked,
         Err(status) => return status,
     };
-    match trim_on(rt, told, alloc, handler, &locked, about.as_str()) {
+    match trim_on(rt, told, alloc, &handler, &locked, about.as_str()) {
         Ok((count, first)) => tell_trimmed(rt, told, path, count, first),
         Err(status) => status,
     }

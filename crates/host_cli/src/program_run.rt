@@ -9,6 +9,7 @@ use files::fill_descriptors;
 use handler::Handler;
 use images::load_on;
 use log::{LevelFilter, Log, Logged, error};
+use shared_log::MemoryStore;
 use std::env::Env;
 use std::fs::{File, Files};
 use std::io::{self, ErrorKind, Input};
@@ -57,8 +58,8 @@ pub fn run_either<
         + Eprint
         + Input
         + AllocGlobal,
-    H: Portable + Copy + Send + Sync,
-    P: Portable + Copy + Send + Sync,
+    H: Portable + Clone + Send + Sync,
+    P: Portable + Clone + Send + Sync,
 >(rt: &R, handler: H, programs: P, program: &Program<'_>, terminals: Terminals) -> u8 {
     let diagnostics = Diagnostics {
         rt,
@@ -90,8 +91,8 @@ pub fn run_either<
 fn do_words<
     R: Threads + Wait + Sync + Files<File = File> + Clock + Print + Eprint + Input + AllocGlobal,
     L: Log,
-    H: Portable + Copy + Send + Sync,
-    P: Portable + Copy + Send + Sync,
+    H: Portable + Clone + Send + Sync,
+    P: Portable + Clone + Send + Sync,
 >(
     rt: &R,
     told: &L,
@@ -130,7 +131,7 @@ fn is_of_programs(asked: &Asked<'_>) -> bool {
 fn do_asked<
     R: Threads + Wait + Sync + Files<File = File> + Clock + Print + Eprint + Input + AllocGlobal,
     L: Log,
-    H: Portable + Copy + Send + Sync,
+    H: Portable + Clone + Send + Sync,
 >(
     rt: &R,
     told: &L,
@@ -144,9 +145,14 @@ fn do_asked<
             run_as_asked(rt, handler, &program.hosting(run.programs), terminals, &run)
         }
         Asked::Feeds(feeds) => feeds_as_asked(rt, handler, program, terminals, &feeds),
-        Asked::Draw(draw) => draw_on(rt, told, handler, &draw, terminals.errors),
-        Asked::Why(why) => why_on(rt, told, handler, &why),
-        Asked::Status(status) => status_on(rt, told, handler, &status),
+        Asked::Draw(draw) => {
+            let store = MemoryStore::new(rt.alloc());
+            draw_on(rt, told, handler, store, &draw, terminals.errors)
+        }
+        Asked::Why(why) => why_on(rt, told, handler, MemoryStore::new(rt.alloc()), &why),
+        Asked::Status(status) => {
+            status_on(rt, told, handler, MemoryStore::new(rt.alloc()), &status)
+        }
         Asked::Load(load) => load_on(rt, told, &load),
         Asked::Trim(trim) => {
             let hosting = program.hosting(trim.programs);
@@ -177,7 +183,7 @@ fn bad_words<L: Log>(told: &L, program: &Program<'_>, error: &io::Error) -> u8 {
 /// `feeds`, beside a bar where one may be drawn.
 fn feeds_as_asked<
     R: Threads + Wait + Sync + Files<File = File> + Print + Eprint + Clock + AllocGlobal,
-    H: Handler + Copy + Send + Sync,
+    H: Handler + Clone + Send + Sync,
 >(rt: &R, handler: H, program: &Program<'_>, terminals: Terminals, feeds: &FeedsWords<'_>) -> u8 {
     let diagnostics = Diagnostics {
         rt,
@@ -190,5 +196,6 @@ fn feeds_as_asked<
     };
     let output = Patient::new(rt, io::writer(rt));
     let shows = shows_bar(terminals, feeds.verbosity);
-    feeds_asked(rt, &told, handler, inputs, output, feeds, shows)
+    let store = MemoryStore::new(rt.alloc());
+    feeds_asked(rt, &told, handler, store, inputs, output, feeds, shows)
 }

@@ -9,8 +9,7 @@ use codec::Portable;
 use files::{LogFile, Takeover, has_snapshot, lock_journal, make_log};
 use log::{Log, Logged, info, warn};
 use resumption::Snapshots;
-use runs::{Hosted, run_asked, run_journaled, run_on_cores};
-use shared_log::MemoryStore;
+use runs::{Hosted, run_asked, run_in_memory, run_journaled};
 use stable_log::WriterStore;
 use std::fs::{File, Files};
 use std::io::{self, Input, Read, Write};
@@ -40,7 +39,7 @@ fn goes_on<R: Files<File = File> + AllocGlobal>(rt: &R, asked: &RunWords<'_>) ->
 /// told to a terminal unasked.
 pub(crate) fn run_as_asked<
     R: Threads + Wait + Sync + Files<File = File> + Clock + Print + Eprint + Input + AllocGlobal,
-    H: Portable + Copy + Send,
+    H: Portable + Clone + Send,
 >(rt: &R, handler: H, program: &Program<'_>, terminals: Terminals, asked: &RunWords<'_>) -> u8 {
     let shows = shows_bar(terminals, asked.verbosity);
     let is_alone = matches!(asked.cores, None | Some(1));
@@ -89,7 +88,7 @@ fn tell_pace<L: Log>(told: &L, pace: Pace) {
 fn run_reported<
     R: Threads + Wait + Sync + Files<File = File> + Clock + Print + Eprint + Input + AllocGlobal,
     L: Log,
-    H: Portable + Copy + Send,
+    H: Portable + Clone + Send,
 >(
     rt: &R,
     told: &L,
@@ -126,7 +125,7 @@ fn run_reported<
 fn run_unreported<
     R: Threads + Wait + Sync + Files<File = File> + Clock + Print + Eprint + Input + AllocGlobal,
     L: Log,
-    H: Portable + Copy + Send,
+    H: Portable + Clone + Send,
 >(
     rt: &R,
     told: &L,
@@ -144,7 +143,7 @@ fn run_unreported<
 fn run_watched<
     R: Threads + Wait + Sync + Files<File = File> + Clock + Print + Eprint + Input + AllocGlobal,
     L: Log,
-    H: Portable + Copy + Send,
+    H: Portable + Clone + Send,
 >(
     rt: &R,
     told: &L,
@@ -165,11 +164,7 @@ fn run_watched<
         return run_in_journal(rt, told, host, input, output, program, path, cores, run);
     }
     let Some(path) = run.log else {
-        if cores > 1 {
-            return run_on_cores(rt, told, alloc, host, input, output, cores, run);
-        }
-        let store = MemoryStore::new(alloc);
-        return run_asked(rt, told, alloc, host, input, output, store, run);
+        return run_in_memory(rt, told, alloc, host, input, output, cores, run);
     };
     match make_log(rt, told, path) {
         Some(file) => {
@@ -186,7 +181,7 @@ fn run_in_journal<
     L: Log,
     I: Read + Drop,
     O: Write + Drop,
-    H: Portable + Copy + Send,
+    H: Portable + Clone + Send,
 >(
     rt: &R,
     told: &L,

@@ -7,7 +7,7 @@
 //! For `runs` and `host_cli`. A caller:
 //!
 //! ```
-//! let begun = snapshots.begun(told, alloc, hosted.handler, &locked, asked);
+//! let begun = snapshots.begun(told, alloc, &hosted.handler, &locked, asked);
 //! ```
 #![tactic(auto)]
 

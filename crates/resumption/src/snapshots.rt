@@ -42,11 +42,11 @@ pub struct Begun<H: Portable> {
 impl<'a, F: Files<File = File>> Snapshots<'a, F> {
     /// What a run of this journal goes on from, where it can: the snapshot beside it, or the one that stands behind the
     /// lines that were trimmed away. Where there is one that it can't go on from, that is told.
-    pub fn begun<L: Log, H: Portable + Copy>(
+    pub fn begun<L: Log, H: Portable + Clone>(
         &self,
         told: &L,
         alloc: Global,
-        handler: H,
+        handler: &H,
         locked: &LockedJournal<'_>,
         asked: &RunWords<'_>,
     ) -> Option<Begun<H>> {
@@ -68,11 +68,11 @@ impl<'a, F: Files<File = File>> Snapshots<'a, F> {
     }
 
     /// What a run goes on from by this snapshot, where it can.
-    fn begun_by<L: Log, H: Portable + Copy>(
+    fn begun_by<L: Log, H: Portable + Clone>(
         &self,
         told: &L,
         alloc: Global,
-        handler: H,
+        handler: &H,
         found: Result<Option<FoundSnapshot>, Misfit>,
         asked: &RunWords<'_>,
     ) -> Option<Begun<H>> {
@@ -173,11 +173,11 @@ fn cannot_go_on<L: Log>(told: &L, path: &str, why: &impl Display) -> u8 {
 ///
 /// Where that fails it is told, and the status to end with is 1: there is no such snapshot, or a file can't be read,
 /// written, synced or renamed.
-pub fn trim_on<L: Log, F: Files<File = File> + Clock, H: Portable + Copy>(
+pub fn trim_on<L: Log, F: Files<File = File> + Clock, H: Portable + Clone>(
     files: &F,
     told: &L,
     alloc: Global,
-    handler: H,
+    handler: &H,
     locked: &LockedJournal<'_>,
     about: &str,
 ) -> Result<(u64, u64), u8> {
@@ -196,16 +196,26 @@ pub fn trim_on<L: Log, F: Files<File = File> + Clock, H: Portable + Copy>(
 }
 
 /// The host of a snapshot, of the form that is written now or of the first.
-fn loaded<H: Portable + Copy>(
+fn loaded<H: Portable + Clone>(
     alloc: Global,
-    handler: H,
+    handler: &H,
     about: &str,
     bytes: &[u8],
 ) -> Result<Host<H, MemoryStore>, LoadFault> {
-    match load(alloc, handler, about, bytes) {
+    match load(alloc, own_handler(handler)?, about, bytes) {
         Ok(host) => Ok(host),
-        Err(LoadFault::AnotherVersion) => load_earlier(alloc, handler, about, bytes),
+        Err(LoadFault::AnotherVersion) => {
+            load_earlier(alloc, own_handler(handler)?, about, bytes)
+        }
         Err(fault) => Err(fault),
+    }
+}
+
+/// A handler for a host of its own.
+fn own_handler<H: Clone>(handler: &H) -> Result<H, LoadFault> {
+    match handler.clone() {
+        Ok(own) => Ok(own),
+        Err(_) => Err(LoadFault::NoMemory),
     }
 }
 
@@ -274,7 +284,7 @@ impl<'a, F: Files<File = File>> Keeper<'a, F> {
 
     /// Keeps a snapshot of a host, and of what its driver remembers where it has one, where it is time for one. Where
     /// that fails it is told, and nothing is lost. Several hosts keep none.
-    pub fn keep<L: Log, H: Portable + Copy>(
+    pub fn keep<L: Log, H: Portable>(
         &mut self,
         told: &L,
         alloc: Global,
@@ -292,7 +302,7 @@ impl<'a, F: Files<File = File>> Keeper<'a, F> {
         }
     }
 
-    fn write<H: Portable + Copy>(
+    fn write<H: Portable>(
         &self,
         alloc: Global,
         handler: &H,

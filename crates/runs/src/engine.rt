@@ -184,19 +184,39 @@ impl<H: Portable> Engine<H, MemoryStore> {
     }
 }
 
-impl<H: Handler + Copy + Send> Engine<H, MemoryStore> {
-    /// One of so many hosts, to which tenants are dealt: their steps are done side by side, and each is driven where
-    /// that is asked for. `NoMemory` comes where there is none for their list.
-    pub(crate) fn on_cores(
+impl<H: Handler + Clone + Send> Engine<H, MemoryStore> {
+    /// One over stores in memory: on several cores of as many hosts. `NoMemory` comes where there is none for their
+    /// list, or for a handler.
+    pub(crate) fn in_memory(
         alloc: Global,
-        handler: H,
+        handler: &H,
+        cores: usize,
+        asked: &RunWords<'_>,
+    ) -> Result<Engine<H, MemoryStore>, NoMemory> {
+        if cores > 1 {
+            return Engine::on_cores(alloc, handler, cores, asked.drives);
+        }
+        match handler.clone() {
+            Ok(own) => Ok(Engine::new(alloc, own, MemoryStore::new(alloc), asked)),
+            Err(_) => Err(NoMemory),
+        }
+    }
+
+    /// One of so many hosts, to which tenants are dealt: their steps are done side by side, and each is driven where
+    /// that is asked for.
+    fn on_cores(
+        alloc: Global,
+        handler: &H,
         cores: usize,
         drives: bool,
     ) -> Result<Engine<H, MemoryStore>, NoMemory> {
-        let mut shards = Shards::new(alloc, Host::new(alloc, handler, MemoryStore::new(alloc)))?;
+        let mut shards = Shards::new(alloc, one_host(alloc, handler)?)?;
         for _ in 1..cores {
-            let host = Host::new(alloc, handler, MemoryStore::new(alloc));
-            if shards.add(host).is_err() {
+            let added = match one_host(alloc, handler) {
+                Ok(host) => shards.add(host),
+                Err(fault) => Err(fault),
+            };
+            if added.is_err() {
                 shards.forget();
                 return Err(NoMemory);
             }
@@ -210,6 +230,17 @@ impl<H: Handler + Copy + Send> Engine<H, MemoryStore> {
             stepped,
             driver: None,
         })
+    }
+}
+
+/// A host with no tenants, with a handler of its own.
+fn one_host<H: Handler + Clone>(
+    alloc: Global,
+    handler: &H,
+) -> Result<Host<H, MemoryStore>, NoMemory> {
+    match handler.clone() {
+        Ok(own) => Ok(Host::new(alloc, own, MemoryStore::new(alloc))),
+        Err(_) => Err(NoMemory),
     }
 }
 

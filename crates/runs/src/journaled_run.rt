@@ -2,7 +2,7 @@
 //! each of which stands in the journal before it is stepped.
 
 use crate::engine::Engine;
-use crate::run::{WIDE_BLOCK, no_buffers};
+use crate::run::{block_for, no_buffers};
 use codec::Portable;
 use durable::{Extent, FirstLines, Journaled, NoZeros, Skipping};
 use files::{JournalFile, LastingFile, LockedJournal, Owner, Stand, Standing, open_journal};
@@ -71,7 +71,7 @@ pub fn run_journaled<
     F: Files<File = File> + Clock,
     R: Read + Drop,
     W: Write + Drop,
-    H: Portable + Copy + Send,
+    H: Portable + Clone + Send,
 >(
     rt: &T,
     told: &L,
@@ -88,12 +88,12 @@ pub fn run_journaled<
     let Ok(writer) = BufWriter::with_capacity(alloc, BLOCK, output) else {
         return no_buffers(told);
     };
-    let begun = snapshots.begun(told, alloc, hosted.handler, &locked, asked);
+    let begun = snapshots.begun(told, alloc, &hosted.handler, &locked, asked);
     let stand = match &begun {
         Some(begun) => begun.stand,
         None => Stand::none(),
     };
-    let Ok(made) = engine_on(alloc, hosted.handler, cores, asked, begun) else {
+    let Ok(made) = engine_on(alloc, &hosted.handler, cores, asked, begun) else {
         return no_buffers(told);
     };
     let mut engine = made;
@@ -105,7 +105,7 @@ pub fn run_journaled<
             return status;
         }
     };
-    let block = if cores > 1 { WIDE_BLOCK } else { BLOCK };
+    let block = block_for(cores);
     let judged = Judged::new(writer);
     let skipping = Skipping::new(judged, skipped_of(asked, &stand), stand.written);
     let mut writer = Counted::new(DurableReplies::new(skipping));
@@ -141,17 +141,16 @@ pub fn run_journaled<
 
 /// What answers the lines: on so many cores, or from a snapshot on. `NoMemory` comes where there is none for several
 /// hosts.
-fn engine_on<H: Portable + Copy + Send>(
+fn engine_on<H: Portable + Clone + Send>(
     alloc: Global,
-    handler: H,
+    handler: &H,
     cores: usize,
     asked: &RunWords<'_>,
     begun: Option<Begun<H>>,
 ) -> Result<Engine<H, MemoryStore>, NoMemory> {
     match begun {
         Some(begun) => Ok(Engine::going_on(begun)),
-        None if cores > 1 => Engine::on_cores(alloc, handler, cores, asked.drives),
-        None => Ok(Engine::new(alloc, handler, MemoryStore::new(alloc), asked)),
+        None => Engine::in_memory(alloc, handler, cores, asked),
     }
 }
 
@@ -181,7 +180,7 @@ fn go_on<
     F: Files<File = File>,
     R: Read + Drop,
     W: Write,
-    H: Portable + Copy + Send,
+    H: Portable + Clone + Send,
 >(
     rt: &T,
     told: &L,
@@ -270,7 +269,7 @@ fn answer_input<
     F: Files<File = File>,
     R: Read + Drop,
     W: Write,
-    H: Portable + Copy + Send,
+    H: Portable + Clone + Send,
 >(
     rt: &T,
     told: &L,

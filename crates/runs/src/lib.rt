@@ -1,7 +1,7 @@
 //! `run` and `drive`, for any handler: step lines in, reply lines out, and of `drive` what was released.
 //!
-//! - `run_asked` (`run`): reads and writes by blocks; `run_on`: so without words, over any streams; `run_on_cores`: so
-//!   on several cores;
+//! - `run_asked` (`run`): reads and writes by blocks; `run_on`: so without words, over any streams; `run_in_memory`: so
+//!   over stores in memory, on one core or several;
 //! - `run_journaled` (`journaled_run`): the same behind a journal, thin over `durable` and `journal`, which carry
 //!   their own theorems;
 //! - `Engine`: a host, several of them, or a book where the past is asked for, thin over `serve_host` and `serve` of
@@ -10,8 +10,7 @@
 //! For `host_cli`, which has the streams and the words. A caller:
 //!
 //! ```
-//! let store = MemoryStore::new(alloc);
-//! run_asked(rt, told, alloc, Hosted { handler, kinds: program.kinds }, input, output, store, &run)
+//! run_in_memory(rt, told, alloc, Hosted { handler, kinds: program.kinds }, input, output, cores, &run)
 //! ```
 #![tactic(auto)]
 
@@ -21,4 +20,4 @@ mod run;
 
 pub use journaled_run::run_journaled;
 pub use narration::Hosted;
-pub use run::{run_asked, run_on, run_on_cores};
+pub use run::{run_asked, run_in_memory, run_on};

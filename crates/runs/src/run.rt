@@ -17,7 +17,12 @@ use terminal::{BLOCK, Plural};
 use words::RunWords;
 
 /// How much of the input is read at once where several cores step it: their threads begin once for each block.
-pub(crate) const WIDE_BLOCK: usize = 1_048_576;
+const WIDE_BLOCK: usize = 1_048_576;
+
+/// How much of the input is read at once on so many cores.
+pub(crate) fn block_for(cores: usize) -> usize {
+    if cores > 1 { WIDE_BLOCK } else { BLOCK }
+}
 
 /// Answers each line of the input, over a store that acknowledged nothing yet, and audits each open tenant after the
 /// last line where `audit` says so. Tells the status to end with, and says nothing else: 0 where all lines are
@@ -27,7 +32,7 @@ pub fn run_on<
     T: Threads + Sync + AllocGlobal,
     R: Read + Drop,
     W: Write + Drop,
-    H: Handler + Copy + Send,
+    H: Handler + Clone + Send,
     S: Store,
 >(rt: &T, hosted: Hosted<'_, H>, input: R, output: W, store: S, audit: bool) -> u8
     requires { S.log store ≡ [] }
@@ -54,7 +59,7 @@ pub fn run_asked<
     L: Log,
     R: Read + Drop,
     W: Write + Drop,
-    H: Handler + Copy + Send,
+    H: Handler + Clone + Send,
     S: Store,
 >(
     rt: &T,
@@ -68,20 +73,23 @@ pub fn run_asked<
 ) -> u8
     requires { S.log store ≡ [] }
 {
-    let engine = Engine::new(alloc, hosted.handler, store, asked);
+    let Ok(handler) = hosted.handler.clone() else {
+        return no_buffers(told);
+    };
+    let engine = Engine::new(alloc, handler, store, asked);
     run_by(
         rt, told, alloc, &hosted, input, output, engine, BLOCK, asked,
     )
 }
 
-/// The same on so many cores, over stores in memory: tenants are dealt to as many hosts. Nothing that needs a book may
-/// be asked for: no audit, and no reasons.
-pub fn run_on_cores<
+/// The same over stores in memory, on so many cores: tenants are dealt to as many hosts. On several, nothing that needs
+/// a book may be asked for: no audit, and no reasons.
+pub fn run_in_memory<
     T: Threads + Sync,
     L: Log,
     R: Read + Drop,
     W: Write + Drop,
-    H: Handler + Copy + Send,
+    H: Handler + Clone + Send,
 >(
     rt: &T,
     told: &L,
@@ -92,11 +100,12 @@ pub fn run_on_cores<
     cores: usize,
     asked: &RunWords<'_>,
 ) -> u8 {
-    let Ok(engine) = Engine::on_cores(alloc, hosted.handler, cores, asked.drives) else {
+    let Ok(engine) = Engine::in_memory(alloc, &hosted.handler, cores, asked) else {
         return no_buffers(told);
     };
+    let block = block_for(cores);
     run_by(
-        rt, told, alloc, &hosted, input, output, engine, WIDE_BLOCK, asked,
+        rt, told, alloc, &hosted, input, output, engine, block, asked,
     )
 }
 

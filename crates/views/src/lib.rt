@@ -12,7 +12,7 @@
 //! For `host_cli`, which has the words. A caller:
 //!
 //! ```
-//! why_on(rt, &told, handler, &asked)
+//! why_on(rt, &told, handler, MemoryStore::new(alloc), &asked)
 //! ```
 #![tactic(auto)]
 

@@ -1,5 +1,7 @@
 //! `status`: how each unit stands.
 
+ghost use Rattle.std.specs.Prelude.{◌≡◌, []};
+
 use crate::replaying::replay_of;
 use crate::rows::{Row, rows_of};
 use crate::values::{awaited_value, mark_value};
@@ -11,6 +13,7 @@ use log::{Log, error};
 use model::{Entry, NoMemory};
 use reasons::{Shown, Waits};
 use serde_json::{Value, json};
+use shared_log::Store;
 use std::alloc::Global;
 use std::fs::{File, Files};
 use std::io::{self, Input};
@@ -18,14 +21,18 @@ use std::time::Clock;
 use terminal::{Patient, Plural};
 use words::StatusWords;
 
-/// `status`: tells what the journal has, and how each unit stands, what is stuck longest first. Tells the status to
-/// end with: 0 where that is told, 1 where the lines can't be read or the output fails.
+/// `status`: tells what the journal has, and how each unit stands, what is stuck longest first, where the lines are
+/// stepped over a store that acknowledged nothing yet. Tells the status to end with: 0 where that is told, 1 where the
+/// lines can't be read or the output fails.
 pub fn status_on<
     R: Files<File = File> + Clock + Print + Input + AllocGlobal,
     L: Log,
-    H: Handler + Copy,
->(rt: &R, told: &L, handler: H, asked: &StatusWords<'_>) -> u8 {
-    let Some(found) = replay_of(rt, told, handler, &asked.view) else {
+    H: Handler + Clone,
+    S: Store,
+>(rt: &R, told: &L, handler: H, store: S, asked: &StatusWords<'_>) -> u8
+    requires { S.log store ≡ [] }
+{
+    let Some(found) = replay_of(rt, told, &handler, store, &asked.view) else {
         return 1;
     };
     let text = text_of(

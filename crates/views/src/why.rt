@@ -1,5 +1,7 @@
 //! `why`: what the outputs wait for that a unit holds.
 
+ghost use Rattle.std.specs.Prelude.{◌≡◌, []};
+
 use crate::replaying::replay_of;
 use crate::values::{awaited_value, mark_value, steps_value, units_value};
 use diagram::{Held, Situation, find_tenant};
@@ -8,6 +10,7 @@ use log::{Log, error};
 use model::{Entry, NoMemory, TenantName, Unit};
 use reasons::{Remedy, Shown, Waits, add_remedies, is_lost, remedies};
 use serde_json::json;
+use shared_log::Store;
 use std::alloc::Global;
 use std::fs::{File, Files};
 use std::io::{self, Input, Write};
@@ -15,14 +18,18 @@ use std::time::Clock;
 use terminal::{Patient, Plural};
 use words::WhyWords;
 
-/// `why`: tells of each output that the unit holds what it waits for, and what would help. Tells the status to end
-/// with: 0 where that is told, 1 where the lines can't be read or the tenant has no such unit or the output fails.
+/// `why`: tells of each output that the unit holds what it waits for, and what would help, where the lines are stepped
+/// over a store that acknowledged nothing yet. Tells the status to end with: 0 where that is told, 1 where the lines
+/// can't be read or the tenant has no such unit or the output fails.
 pub fn why_on<
     R: Files<File = File> + Clock + Print + Input + AllocGlobal,
     L: Log,
-    H: Handler + Copy,
->(rt: &R, told: &L, handler: H, asked: &WhyWords<'_>) -> u8 {
-    let Some(found) = replay_of(rt, told, handler, &asked.view) else {
+    H: Handler + Clone,
+    S: Store,
+>(rt: &R, told: &L, handler: H, store: S, asked: &WhyWords<'_>) -> u8
+    requires { S.log store ≡ [] }
+{
+    let Some(found) = replay_of(rt, told, &handler, store, &asked.view) else {
         return 1;
     };
     let text = told_of(told, rt.alloc(), &handler, found.book.history(), asked);

@@ -4,7 +4,7 @@ use crate::program::Program;
 use std::alloc::{AllocError, Global};
 
 /// The toolchain by which the program was proved.
-const KIT: &str = "rattle-kit-13b logic dac8208d650f15bf";
+const KIT: &str = "rattle-kit-13f logic dac8208d650f15bf";
 
 /// The forms of the step lines.
 const STEPS: &str = r#"Steps, one JSON object a line, keys in any order:

@@ -45,8 +45,9 @@ returns-in-Ok-clause-kill g c = λ who tenant unit kill.
 
 pub returns-in-Err-clause-kill : goal.returns-in-Err-clause-kill
 returns-in-Err-clause-kill g c = λ who tenant unit kill.
+    let parts = parts_are _ _ c.args.step c.step.view_is in
     let own : _ ≡ Kill unit =
-    ap (λ (p : List ℕ × TenantStep). p.1) (sym (parts_are _ _ c.args.step c.step.view_is)) ∙ ap (λ (s : Step). (addressed s).1) kill in
+    ap (λ (p : List ℕ × TenantStep). p.1) (sym parts) ∙ ap (λ (s : Step). (addressed s).1) kill in
     absurd (let h = c.in-Err.ensures.kill unit own in cc h)
 
 pub returns-in-Ok-clause-none : goal.returns-in-Ok-clause-none
