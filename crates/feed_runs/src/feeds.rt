@@ -51,7 +51,7 @@ pub fn feeds_on<
     R: Threads + Wait + Sync + Eprint + Clock + AllocGlobal,
     I: Read + Drop,
     W: Write + Drop,
-    H: Handler + Clone + Send + Sync,
+    H: Handler + Copy + Send + Sync,
 >(rt: &R, handler: H, inputs: Vec<I>, output: W, audit: bool) -> u8 {
     let Some(named) = unnamed(rt.alloc(), inputs) else {
         return 1;
@@ -82,7 +82,7 @@ pub fn feeds_asked<
     L: Log,
     I: Read + Drop,
     W: Write + Drop,
-    H: Handler + Clone + Send + Sync,
+    H: Handler + Copy + Send + Sync,
     S: Store + Send,
 >(
     rt: &R,
@@ -106,11 +106,7 @@ pub fn feeds_asked<
     }
     let count = count_steps(steps.as_slice());
     let bar = Bar::new(rt, shows.then_some(count));
-    let Ok(own) = handler.clone() else {
-        tell_run(told, RunFault::NoMemory);
-        return 1;
-    };
-    let ran = run_feeds(rt, alloc, own, store, steps, &Counting(&bar));
+    let ran = run_feeds(rt, alloc, handler, store, steps, &Counting(&bar));
     bar.clear();
     match ran {
         Ok(closed) => {

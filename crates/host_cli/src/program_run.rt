@@ -58,8 +58,8 @@ pub fn run_either<
         + Eprint
         + Input
         + AllocGlobal,
-    H: Portable + Clone + Send + Sync,
-    P: Portable + Clone + Send + Sync,
+    H: Portable + Copy + Send + Sync,
+    P: Portable + Copy + Send + Sync,
 >(rt: &R, handler: H, programs: P, program: &Program<'_>, terminals: Terminals) -> u8 {
     let diagnostics = Diagnostics {
         rt,
@@ -91,8 +91,8 @@ pub fn run_either<
 fn do_words<
     R: Threads + Wait + Sync + Files<File = File> + Clock + Print + Eprint + Input + AllocGlobal,
     L: Log,
-    H: Portable + Clone + Send + Sync,
-    P: Portable + Clone + Send + Sync,
+    H: Portable + Copy + Send + Sync,
+    P: Portable + Copy + Send + Sync,
 >(
     rt: &R,
     told: &L,
@@ -131,7 +131,7 @@ fn is_of_programs(asked: &Asked<'_>) -> bool {
 fn do_asked<
     R: Threads + Wait + Sync + Files<File = File> + Clock + Print + Eprint + Input + AllocGlobal,
     L: Log,
-    H: Portable + Clone + Send + Sync,
+    H: Portable + Copy + Send + Sync,
 >(
     rt: &R,
     told: &L,
@@ -183,7 +183,7 @@ fn bad_words<L: Log>(told: &L, program: &Program<'_>, error: &io::Error) -> u8 {
 /// `feeds`, beside a bar where one may be drawn.
 fn feeds_as_asked<
     R: Threads + Wait + Sync + Files<File = File> + Print + Eprint + Clock + AllocGlobal,
-    H: Handler + Clone + Send + Sync,
+    H: Handler + Copy + Send + Sync,
 >(rt: &R, handler: H, program: &Program<'_>, terminals: Terminals, feeds: &FeedsWords<'_>) -> u8 {
     let diagnostics = Diagnostics {
         rt,

@@ -29,7 +29,7 @@ fn start<
     's,
     E,
     R: Threads + Wait + Sync,
-    H: Handler + Clone + Send + Sync,
+    H: Handler + Copy + Send + Sync,
     S: Store + Send,
     G: Gate + Sync,
 >(rt: &'s R, scope: &Scope<'s, E>, job: Job<'s, H, S, G>) -> Result<Started, RunFault> {
@@ -44,14 +44,14 @@ fn start_all<
     's,
     E,
     R: Threads + Wait + Sync,
-    H: Handler + Clone + Send + Sync,
+    H: Handler + Copy + Send + Sync,
     S: Store + Send,
     G: Gate + Sync,
 >(
     rt: &'s R,
     scope: &Scope<'s, E>,
     alloc: Global,
-    handler: &H,
+    handler: H,
     shared: &'s Mutex<Book<H, S>>,
     feeds: &'s [Vec<Step>],
     gate: &'s G,
@@ -61,9 +61,6 @@ fn start_all<
     let mut feed = 0u32;
     for steps in feeds {
         let Ok(nudges) = to.clone() else {
-            return Err(RunFault::NoMemory);
-        };
-        let Ok(handler) = handler.clone() else {
             return Err(RunFault::NoMemory);
         };
         let job = Job {
@@ -103,13 +100,13 @@ fn join_all<R: Threads + Wait>(
 /// Runs each feed in a thread of its own, beside one logger, and gives the receipts of each.
 fn do_all<
     R: Threads + Wait + Sync,
-    H: Handler + Clone + Send + Sync,
+    H: Handler + Copy + Send + Sync,
     S: Store + Send,
     G: Gate + Sync,
 >(
     rt: &R,
     alloc: Global,
-    handler: &H,
+    handler: H,
     shared: &Mutex<Book<H, S>>,
     feeds: &[Vec<Step>],
     gate: &G,
@@ -174,7 +171,7 @@ fn gather<H: Handler, S: Store>(
 /// receipt isn't in it as its feed has it. There is no book then.
 pub fn run_feeds<
     R: Threads + Wait + Sync,
-    H: Handler + Clone + Send + Sync,
+    H: Handler + Copy + Send + Sync,
     S: Store + Send,
     G: Gate + Sync,
 >(
@@ -192,11 +189,8 @@ pub fn run_feeds<
     ensures recorded { IfOk result (λ c. IsRecordedIn H.meaning c.history c.log.records) }
     ensures device { IfOk result (λ c. CountsDevice c.history c.log.failures) }
 {
-    let Ok(own) = handler.clone() else {
-        return Err(RunFault::NoMemory);
-    };
-    let shared = Mutex::new(Book::new(alloc, own, store));
-    let receipts = do_all(rt, alloc, &handler, &shared, feeds.as_slice(), gate)?;
+    let shared = Mutex::new(Book::new(alloc, handler, store));
+    let receipts = do_all(rt, alloc, handler, &shared, feeds.as_slice(), gate)?;
     gather(
         alloc,
         shared.into_inner(),
