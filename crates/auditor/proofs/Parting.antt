@@ -9,6 +9,7 @@ use Rattle.std.proofs.Math.Seq.{drop-cons}
 use Rattle.model.specs.Addresses.{addressed}
 use Rattle.model.specs.History.{names}
 use Rattle.model.specs.declared.replies.Entry.{Entry}
+use Rattle.book.proofs.Replays.{same_name}
 use Rattle.book.specs.History.{entries_of}
 use Rattle.auditor.specs.Parting.{AreOtherPartsSame}
 
@@ -16,9 +17,6 @@ use Rattle.auditor.specs.Parting.{AreOtherPartsSame}
 pub on_both : {A E P Q R : Type 0} (r : Result A E) → OnOk r P → OnOk r Q → (P → Q → R) → OnOk r R
 on_both (Ok a) p q f = f p q
 on_both (Err e) p q f = tt
-
-same_name : (t u : List ℕ) → bytes_eq t u ≡ true → t ≡ u
-same_name t u p = (bytes_eq-Decides t u).0 p
 
 -- One more entry: its tenant has it, and each other has what it had.
 module _ (before after : List ℕ → List Entry) (e : Entry)

@@ -46,6 +46,15 @@ event_of_pair p = record { step = (addressed p.0).1; said = p.1 }
 pub same_name : (t u : List ℕ) → bytes_eq t u ≡ true → t ≡ u
 same_name t u p = (bytes_eq-Decides t u).0 p
 
+-- Names that differ differ the other way round.
+pub other_way : (s t : List ℕ) → bytes_eq s t ≡ false → bytes_eq t s ≡ false
+other_way s t e = by (bytes_eq t s) refl
+  where
+    by : (b : Bool) → bytes_eq t s ≡ b → bytes_eq t s ≡ false
+    by true h = let same : t ≡ s = same_name t s h in let itself =
+        subst (λ x. bytes_eq x t ≡ false) (sym same) e in cc (itself, (subst (λ x. bytes_eq t x ≡ true) (sym same) h))
+    by false h = h
+
 -- ---- more entries in the lists of a tenant
 
 -- A tenant's own events of two histories are those of the first and then those of the second.

@@ -25,12 +25,6 @@ pub at_drop : {X : Type 0} (xs : List X) (i : ℕ) (x : X)
 at_drop xs i x h is =
     suc_drop xs i x h ∙ ap (λ y. y ∷ drop (suc i) xs) (sym is) ∙ ap (λ n. x ∷ drop n xs) (more i)
 
--- An item is found at each place.
-pub found : {X : Type 0} (xs : List X) (i : ℕ) → i < length xs → (x : X) × (slice_get xs i ≡ Some x)
-found [] i h = absurd (omega (arith, h))
-found (x ∷ xs) zero h = (x, refl)
-found (x ∷ xs) (suc i) h = found xs i (omega (arith, h))
-
 -- The same where the item is found there.
 pub found_drop : {X : Type 0} (xs : List X) (i : ℕ) (x : X) → slice_get xs i ≡ Some x → drop i xs ≡ x ∷ drop (i + 1) xs
 found_drop xs i x e = at_drop xs i x (slice_get_within xs i x e) (sym (get_or_from_slice_get xs i x x e))

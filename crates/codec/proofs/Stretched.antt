@@ -3,7 +3,7 @@ use Rattle.std.proofs.Common.{◌≡◌, refl, sym, ◌∙◌, ap, subst, ℕ, z
 use Rattle.std.proofs.Common.{arith, drop, length, length-append, reverse, take}
 use Rattle.std.specs.Prelude.{true}
 use Rattle.std.specs.Option.{option_to_list}
-use Rattle.std.proofs.lemmas.List.{append-nil, reverse-append, take-append-drop}
+use Rattle.std.proofs.lemmas.List.{reverse-append, take-append-drop}
 use Rattle.theory.proofs.ListLaws.{true_eq}
 use Rattle.codec.specs.Codes.{AllFit}
 use Rattle.codec.specs.Layers.{FitsSpent, FitsStretch}
@@ -12,7 +12,7 @@ use Rattle.spent_letters.specs.declared.letter.SpentLetter.{SpentLetter}
 use Rattle.spent_letters.specs.declared.stretch.TheConstants.{HEAD}
 use Rattle.spent_letters.specs.Stretches.{after, follows, grown, letters_in, packed, tells_first, AreWhole, Stretch}
 use Rattle.spent_letters.proofs.Growing.{grown_length}
-use Rattle.spent_letters.proofs.Packing.{packed_back}
+use Rattle.spent_letters.proofs.Packing.{whole_back}
 use Rattle.spent_letters.proofs.Periods.{after_is}
 
 -- ---- all of them fit
@@ -79,13 +79,6 @@ whole_first vs k w =
     whole_behind (reverse (drop k vs)) (reverse (take k vs))
     (subst AreWhole (ap reverse (sym (take-append-drop k vs)) ∙ reverse-append (take k vs) (drop k vs)) w)
 
--- and their letters are packed as they are;
-pub packed_whole : (ss : List Stretch) → AreWhole ss → packed (letters_in ss) ≡ record { stretches = ss; tail = [] }
-unfolding tells_first
-packed_whole ss w =
-    ap packed (sym (append-nil (letters_in ss)))
-    ∙ packed_back (record { stretches = ss; tail = [] }) (record { whole = w; short = omega (arith); apart = refl })
-
 first_follows : (ss : List Stretch) (s : Stretch) → AreWhole (s ∷ ss)
     → follows (record { stretches = ss; tail = [] }) s.head ≡ true
 unfolding AreWhole
@@ -96,7 +89,7 @@ pub follows_at : (vs : List Stretch) (k : ℕ) (s : Stretch) → AreWhole (rever
     → take (k + 1) vs ≡ take k vs ++ s ∷ []
     → follows (packed (letters_in (reverse (take k vs)))) s.head ≡ true
 follows_at vs k s w e =
-    ap (λ p. follows p s.head) (packed_whole (reverse (take k vs)) (whole_first vs k w))
+    ap (λ p. follows p s.head) (whole_back (reverse (take k vs)) (whole_first vs k w))
     ∙ first_follows (reverse (take k vs)) s
     (subst AreWhole (ap reverse e ∙ reverse-append (take k vs) (s ∷ [])) (whole_first vs (k + 1) w))
 

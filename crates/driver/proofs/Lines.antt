@@ -1,29 +1,21 @@
 -- The line of a text that left, part by part.
-use Rattle.std.proofs.Common.{◌≡◌, ◌∙◌, ap, sym, ℕ, List, [], ◌∷◌, ◌++◌, append_assoc, append-nil, codes, decimal}
-use Rattle.json.specs.Print.{escape_byte, quoted, print, print_from}
-use Rattle.json.specs.Token.{string}
+use Rattle.std.proofs.Common.{◌≡◌, ◌∙◌, ap, sym, ℕ, List, [], ◌∷◌, ◌++◌, append_assoc, codes, decimal}
+use Rattle.json.specs.Print.{escape_byte, quoted}
 use Rattle.forms.specs.Writing.{data_text}
+use Rattle.quick_forms.proofs.Lists.{pieces_2}
 use Rattle.driver.specs.Driving.{output_line}
 
--- a string that is written alone
-pub one_string : (s : List ℕ) → print (string s ∷ []) ≡ quoted s
-unfolding print_from
-one_string s = append-nil (quoted s)
-
--- a list that is written in two pieces, and in seven
-two_pieces : {X : Type 0} (o a b x y : List X) → x ≡ o ++ a → y ≡ x ++ b → y ≡ o ++ (a ++ b)
-two_pieces o a b x y p q = q ∙ ap (λ t. t ++ b) p ∙ append_assoc o a b
-
+-- a list that is written in seven pieces
 pub seven_pieces : {X : Type 0} (o a b d e f g h x1 x2 x3 x4 x5 x6 x7 : List X)
     → x1 ≡ o ++ a → x2 ≡ x1 ++ b → x3 ≡ x2 ++ d → x4 ≡ x3 ++ e → x5 ≡ x4 ++ f → x6 ≡ x5 ++ g → x7 ≡ x6 ++ h
     → x7 ≡ o ++ (a ++ (b ++ (d ++ (e ++ (f ++ (g ++ h))))))
 seven_pieces o a b d e f g h x1 x2 x3 x4 x5 x6 x7 p1 p2 p3 p4 p5 p6 p7 =
-    two_pieces o a _ x1 x7 p1
-    (two_pieces x1 b _ x2 x7 p2
-    (two_pieces x2 d _ x3 x7 p3
-    (two_pieces x3 e _ x4 x7 p4
-    (two_pieces x4 f _ x5 x7 p5
-    (two_pieces x5 g h x6 x7 p6 p7)))))
+    pieces_2 o a _ x1 x7 p1
+    (pieces_2 x1 b _ x2 x7 p2
+    (pieces_2 x2 d _ x3 x7 p3
+    (pieces_2 x3 e _ x4 x7 p4
+    (pieces_2 x4 f _ x5 x7 p5
+    (pieces_2 x5 g h x6 x7 p6 p7)))))
 
 -- The line of an output is its text, its tenant and its unit under their keys, and a line feed.
 pub output_line_parts : (tenant : List ℕ) (unit : ℕ) (text : List ℕ) → output_line tenant unit text

@@ -4,6 +4,7 @@ use Rattle.std.proofs.Common.{if◌then◌else◌, Result, Ok, Err, refl, sym, a
 use Rattle.std.proofs.lemmas.Bool.Decides.{Decides-eqb}
 use Rattle.std.specs.Str.{IsUtf8, is_utf8}
 use Rattle.std.proofs.lemmas.Str.{is_utf8-from_IsUtf8, IsUtf8-from_is_utf8}
+use Rattle.riscv.proofs.Quotients.{apart}
 use Rattle.riscv.specs.declared.fault.Exception.{Exception}
 use Rattle.riscv.specs.declared.machine.Machine.{Machine}
 use Rattle.riscv.specs.Machines.{stepped, steps, upon_steps}
@@ -34,10 +35,6 @@ run_ends k c h e =
 on_step : (test : Bool) (c : Course) (rest : Result Course Ending) → test ≡ false → (if test then Ok c else rest) ≡ rest
 on_step true c rest e = cc
 on_step false c rest e = refl
-
-apart : (m n : ℕ) → m ≢ n → (m == n) ≡ false
-apart m n ne = elim (m == n) as (λ v. (m == n) ≡ v
-    → v ≡ false) [ true ↦ λ e. absurd (ne ((Decides-eqb m n).0 e)) | false ↦ λ e. refl ] refl
 
 -- it goes on
 pub run_goes : (k j : ℕ) (c d : Course) → k ≡ j + 1 → c.machine.counter ≢ 0xfffffff0 → gone_on c ≡ Ok d

@@ -11,8 +11,8 @@
 mod NoBrace
 mod NoStep
 mod Turns
-mod Written
-mod Lists
+pub mod Written
+pub mod Lists
 mod Parts
 mod Plain
 mod Compact

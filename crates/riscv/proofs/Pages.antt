@@ -89,7 +89,8 @@ pub zero_read : (address : ℕ) → word_at zeros address ≡ 0
 unfolding zeros
 zero_read address = zero_pages_read 64 1024 (address / 4096) (address / 4 % 1024)
 
-zero_pages_at : (n k i : ℕ) → i < n → get_or (zero_pages n k) i [] ≡ zero_words k
+-- A page of a memory of so many is one of zeros.
+pub zero_pages_at : (n k i : ℕ) → i < n → get_or (zero_pages n k) i [] ≡ zero_words k
 unfolding zero_pages zero_words
 zero_pages_at zero k i h = absurd (omega arith)
 zero_pages_at (suc n) k zero h = refl

@@ -196,10 +196,7 @@ impl<H: Handler + Clone + Send> Engine<H, MemoryStore> {
         if cores > 1 {
             return Engine::on_cores(alloc, handler, cores, asked.drives);
         }
-        match handler.clone() {
-            Ok(own) => Ok(Engine::new(alloc, own, MemoryStore::new(alloc), asked)),
-            Err(_) => Err(NoMemory),
-        }
+        Ok(Engine::new(alloc, handler.clone()?, MemoryStore::new(alloc), asked))
     }
 
     /// One of so many hosts, to which tenants are dealt: their steps are done side by side, and each is driven where
@@ -238,10 +235,7 @@ fn one_host<H: Handler + Clone>(
     alloc: Global,
     handler: &H,
 ) -> Result<Host<H, MemoryStore>, NoMemory> {
-    match handler.clone() {
-        Ok(own) => Ok(Host::new(alloc, own, MemoryStore::new(alloc))),
-        Err(_) => Err(NoMemory),
-    }
+    Ok(Host::new(alloc, handler.clone()?, MemoryStore::new(alloc)))
 }
 
 /// What is kept of all tenants of some hosts.

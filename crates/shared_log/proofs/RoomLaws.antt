@@ -11,8 +11,8 @@ use Rattle.shared_log.proofs.PlacesLaws.{owner_is, place_if, places_are}
 
 -- ---- whose records the places of a unit have
 
--- so far behind the first place, there is a record of this unit
-abbrev OwnedFrom : List ℕ → ℕ → List (Option Record) → ℕ → ℕ → Type 0
+-- So far behind the first place, there is a record of this unit.
+abbrev pub OwnedFrom : List ℕ → ℕ → List (Option Record) → ℕ → ℕ → Type 0
 OwnedFrom tenant unit records place p =
     (i : ℕ) × (p ≡ place + i) × (r : Record) × (slice_get records i ≡ Some (Some r)) × (r.tenant ≡ tenant)
     × (r.unit ≡ unit)
@@ -35,7 +35,8 @@ first_owned true tenant unit place r records e rest =
     (0, z, r, refl, sym h.0, sym h.1) rest
 first_owned false tenant unit place r records e rest = rest
 
-owned_from : (tenant : List ℕ) (unit place : ℕ) (records : List (Option Record))
+-- Each place of a unit is of one of its records.
+pub owned_from : (tenant : List ℕ) (unit place : ℕ) (records : List (Option Record))
     → All (OwnedFrom tenant unit records place) (places_from tenant unit place records)
 owned_from tenant unit place [] = All-nil (OwnedFrom tenant unit [] place)
 owned_from tenant unit place (None ∷ records) =

@@ -4,7 +4,7 @@ use Rattle.std.proofs.Common.{bytes_eq, drop, take, None, Some}
 use Rattle.std.specs.List.{AllByRecursion, IsDistinct}
 use Rattle.std.specs.Map.{keys_of, lookup}
 use Rattle.std.proofs.lemmas.Map.Keys.{IsDistinct-head, IsDistinct-tail}
-use Rattle.std.proofs.lemmas.Slice.Eq.{bytes_eq-Decides}
+use Rattle.book.proofs.Replays.{other_way}
 
 abbrev Entries : Type 0 → Type 0
 Entries X = List (List ℕ × X)
@@ -19,17 +19,6 @@ of_left {X} P (d ∷ entries) rest zero e left all =
     let same : d ≡ e = cc in
     subst (λ (x : List ℕ × X). P x.0) same all.0
 of_left P (d ∷ entries) rest (suc i) e left all = of_left P entries rest i e left all.1
-
--- names that differ do so the other way round
-other_way : (a b : List ℕ) → bytes_eq a b ≡ false → bytes_eq b a ≡ false
-other_way a b e = go (bytes_eq b a) refl
-  where
-    go : (t : Bool) → bytes_eq b a ≡ t → bytes_eq b a ≡ false
-    go false f = f
-    go true f =
-        let same : b ≡ a = (bytes_eq-Decides b a).0 f in
-        let h : bytes_eq a b ≡ true = (bytes_eq-Decides a b).1 (sym same) in
-        absurd (let z : false ≡ true = sym e ∙ h in cc)
 
 none_first : {X : Type 0} (name : List ℕ) (d : List ℕ × X) (entries : Entries X) → bytes_eq name d.0 ≡ false
     → lookup (bytes_eq name) entries ≡ None → lookup (bytes_eq name) (d ∷ entries) ≡ None

@@ -13,49 +13,12 @@ use Rattle.shared_log.specs.Filled.{filled, pair_at, pairs_at, AreLiveIn, Leaves
 use Rattle.shared_log.specs.Logged.{Logged, is_of, is_owner, owner_of, places_from, places_of}
 use Rattle.shared_log.proofs.LiveLaws.{pairs_append, pairs_live}
 use Rattle.shared_log.proofs.PlacesLaws.{owner_is, place_if, places_are}
-use Rattle.shared_log.proofs.RoomLaws.{room_left}
+use Rattle.shared_log.proofs.RoomLaws.{OwnedFrom, owned_from, room_left}
 use Rattle.snapshot.specs.Logs.{unit_places, AreWithin, LeaveRoom, NoneOf}
 use Rattle.snapshot.proofs.Order.{AllPairs-append, AllPairs-head, AllPairs-nil, AllPairs-one, AllPairs-tail, before}
 use Rattle.snapshot.proofs.Order.{no_more}
 
--- ---- the places of a unit: whose records they have, and that they rise
-
--- so far behind the first place, there is a record of this unit
-abbrev OwnedFrom : List ℕ → ℕ → List (Option Record) → ℕ → ℕ → Type 0
-OwnedFrom tenant unit records place p =
-    (i : ℕ) × (p ≡ place + i) × (r : Record) × (slice_get records i ≡ Some (Some r)) × (r.tenant ≡ tenant)
-    × (r.unit ≡ unit)
-
-one_on : (tenant : List ℕ) (unit place : ℕ) (x : Option Record) (records : List (Option Record)) (p : ℕ)
-    → OwnedFrom tenant unit records (place + 1) p → OwnedFrom tenant unit (x ∷ records) place p
-one_on tenant unit place x records p h =
-    let e : p ≡ place + suc h.0 = omega (arith, h.1) in
-    (suc h.0, e, h.2, h.3, h.4, h.5)
-
-first_owned : (b : Bool) (tenant : List ℕ) (unit place : ℕ) (r : Record) (records : List (Option Record))
-    → is_owner tenant unit (owner_of r) ≡ b
-    → All (OwnedFrom tenant unit (Some r ∷ records) place) (places_from tenant unit (place + 1) records)
-    → All (OwnedFrom tenant unit (Some r ∷ records) place)
-    (place_if b place ++ places_from tenant unit (place + 1) records)
-first_owned true tenant unit place r records e rest =
-    let h = owner_is tenant unit (owner_of r) e in
-    let z : place ≡ place + 0 = omega arith in
-    All-cons (OwnedFrom tenant unit (Some r ∷ records) place) place (places_from tenant unit (place + 1) records)
-    (0, z, r, refl, sym h.0, sym h.1) rest
-first_owned false tenant unit place r records e rest = rest
-
-owned_from : (tenant : List ℕ) (unit place : ℕ) (records : List (Option Record))
-    → All (OwnedFrom tenant unit records place) (places_from tenant unit place records)
-owned_from tenant unit place [] = All-nil (OwnedFrom tenant unit [] place)
-owned_from tenant unit place (None ∷ records) =
-    All-weaker (OwnedFrom tenant unit records (place + 1)) (OwnedFrom tenant unit (None ∷ records) place)
-    (one_on tenant unit place None records) (places_from tenant unit (place + 1) records)
-    (owned_from tenant unit (place + 1) records)
-owned_from tenant unit place (Some r ∷ records) =
-    first_owned (is_owner tenant unit (owner_of r)) tenant unit place r records refl
-    (All-weaker (OwnedFrom tenant unit records (place + 1)) (OwnedFrom tenant unit (Some r ∷ records) place)
-    (one_on tenant unit place (Some r) records) (places_from tenant unit (place + 1) records)
-    (owned_from tenant unit (place + 1) records))
+-- ---- the places of a unit rise
 
 abbrev Below : ℕ → ℕ → Type 0
 Below p q = p < q

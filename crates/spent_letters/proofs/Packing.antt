@@ -220,7 +220,7 @@ grown_back ss head (suc more) h e =
     ∙ told_one (length (letters_in ss)) ss head more _ (after_is head more h)
 
 -- What is whole is the stretches of its letters,
-whole_back : (ss : List Stretch) → AreWhole ss → packed (letters_in ss) ≡ record { stretches = ss; tail = [] }
+pub whole_back : (ss : List Stretch) → AreWhole ss → packed (letters_in ss) ≡ record { stretches = ss; tail = [] }
 unfolding packed letters_in AreWhole
 whole_back [] w = refl
 whole_back (s ∷ ss) w =

@@ -6,6 +6,7 @@ use Rattle.std.proofs.lemmas.Nat.{mod_below}
 use Rattle.std.proofs.lemmas.List.{drop_all}
 use Rattle.std.proofs.lemmas.Option.{slice_get-get_or}
 use Rattle.theory.proofs.ListLaws.{and_both, bool_cases, both_and, eq_same, eq_true}
+use Rattle.theory.proofs.Simulation.{drop_at}
 use Rattle.spent_letters.specs.declared.letter.SpentLetter.{SpentLetter}
 use Rattle.spent_letters.specs.declared.stretch.TheConstants.{HEAD}
 use Rattle.spent_letters.specs.Stretches.{after, agree, least_above, period, repeats, same_letter, told}
@@ -53,17 +54,12 @@ after_is head more e =
 
 -- ---- how a search goes on
 
-get_drop_first : {X : Type 0} (xs : List X) (n : ℕ) (x : X) → slice_get xs n ≡ Some x → drop n xs ≡ x ∷ drop (suc n) xs
-get_drop_first [] n x e = cc
-get_drop_first (z ∷ xs) zero x e = cc
-get_drop_first (z ∷ xs) (suc n) x e = get_drop_first xs n x e
-
 -- One letter is compared with another one, and then those behind them.
 pub agree_step : (xs : List SpentLetter) (n m : ℕ) (x y : SpentLetter) → slice_get xs n ≡ Some x
     → slice_get xs m ≡ Some y
     → agree (drop n xs) (drop m xs) ≡ (same_letter x y && agree (drop (suc n) xs) (drop (suc m) xs))
 unfolding agree
-agree_step xs n m x y e f = rw (get_drop_first xs n x e) (rw (get_drop_first xs m y f) refl)
+agree_step xs n m x y e f = rw (drop_at xs n x e) (rw (drop_at xs m y f) refl)
 
 pub agree_end : (xs ys : List SpentLetter) (n : ℕ) → length xs ≤ n → agree (drop n xs) ys ≡ true
 unfolding agree

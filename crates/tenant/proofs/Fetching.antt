@@ -7,7 +7,7 @@ use native.Mathlib.Decide.{dec_le}
 use Rattle.model.specs.declared.records.Record.{Record}
 use Rattle.shared_log.specs.Logged.{IsLeftOf}
 use Rattle.tenant.specs.Kept.{AreFetched}
-use Rattle.tenant.proofs.Logging.{take_one}
+use Rattle.incarnation.proofs.Orders.{take_one}
 use Rattle.tenant.proofs.Places.{found_whole}
 use Rattle.compact.proofs.Words.{drop_get}
 

@@ -5,12 +5,7 @@ use Rattle.std.specs.Prelude.{Option, Some, slice_get, bytes_eq}
 use Rattle.std.proofs.lemmas.List.{map-append}
 use Rattle.model.specs.declared.records.Record.{Record}
 use Rattle.model.proofs.Places.{get_below}
-use Rattle.theory.proofs.LettersExact.{take_more}
-
--- a front with one more
-pub take_one : {X : Type 0} (xs : List X) (i : ℕ) (x : X)
-    → slice_get xs i ≡ Some x → take (i + 1) xs ≡ take i xs ++ x ∷ []
-take_one xs i x e = ap (λ n. take n xs) (let t : i + 1 ≡ suc i = omega arith in t) ∙ take_more xs i x e
+use Rattle.incarnation.proofs.Orders.{take_one}
 
 abbrev pub AreOf : List ℕ → List Record → ℕ → Type 0
 AreOf tenant records n = (k : ℕ) (r : Record) → k < n → slice_get records k ≡ Some r → bytes_eq r.tenant tenant ≡ true

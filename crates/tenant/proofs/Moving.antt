@@ -43,7 +43,7 @@ use Rattle.tenant.specs.Represents.{AreLast, IsCompact, IsMember}
 use Rattle.tenant.specs.Stands.{Did, IsStanding, Stands, live_in}
 use Rattle.tenant.proofs.Follow.{KeepsUnit, keeps}
 use Rattle.tenant.proofs.Lasts.{last_fits}
-use Rattle.tenant.proofs.Logging.{take_one}
+use Rattle.incarnation.proofs.Orders.{take_one}
 use Rattle.tenant.proofs.Others.{stands_beside}
 use Rattle.tenant.proofs.Standing.{closed}
 use Rattle.tenant.proofs.Places.{live_same}

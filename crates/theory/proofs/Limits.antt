@@ -162,7 +162,8 @@ passing_fewer {X} f p (x ∷ xs) = go (p x) refl (passing_fewer f p xs)
         let c = ap (λ ys. length (flat_map f ys)) none in
         omega (arith, c)
 
-length_letters_of : (place u : ℕ) (earlier : ℕ → ℕ) (done sends : List (ℕ × List ℕ))
+-- There are as many letters as sends.
+pub length_letters_of : (place u : ℕ) (earlier : ℕ → ℕ) (done sends : List (ℕ × List ℕ))
     → length (letters_of place u earlier done sends) ≡ length sends
 length_letters_of place u earlier done [] = refl
 length_letters_of place u earlier done (s ∷ sends) = ap suc (length_letters_of place u earlier (done ++ s ∷ []) sends)

@@ -4,6 +4,7 @@ use Rattle.std.proofs.Common.{◌∷◌, ◌++◌, length, map, arith}
 use Rattle.std.proofs.lemmas.List.{length-map, set-append_right}
 use Rattle.std.specs.List.{filter}
 use Rattle.theory.proofs.ListLaws.{bool_cases}
+use Rattle.theory.proofs.Simulation.{drop_at}
 use Rattle.std.specs.Prelude.{◌==◌, None, Option, Some, cond, drop, false, is_none, is_some, slice_get, slice_set, true}
 use Rattle.std.proofs.lemmas.Option.{same_Some}
 use Rattle.compact.specs.Compact.{CompactLetter, Content}
@@ -68,11 +69,6 @@ front_is (x ∷ xs) rest e = ap (λ (l : List SpentLetter). x ∷ l) (front_is x
 pub blank : CompactLetter
 blank = record { source = 0; receiver = 0; content = None }
 
-dropped : {X : Type 0} (xs : List X) (n : ℕ) (x : X) → slice_get xs n ≡ Some x → drop n xs ≡ x ∷ drop (suc n) xs
-dropped [] n x e = cc
-dropped (z ∷ xs) zero x e = cc
-dropped (z ∷ xs) (suc n) x e = dropped xs n x e
-
 -- what is kept of it
 abbrev kept : CompactLetter → SpentLetter
 kept c = record { source = c.source; receiver = c.receiver }
@@ -100,14 +96,14 @@ whole (Some x) l e = refl
 pub front_ends : (cs : List CompactLetter) (n : ℕ) (c : CompactLetter) → slice_get cs n ≡ Some c → None ≡ spent_of c
     → front (drop n cs) ≡ []
 unfolding front
-front_ends cs n c at is = ap front (dropped cs n c at) ∙ ended c (front (drop (suc n) cs)) is
+front_ends cs n c at is = ap front (drop_at cs n c at) ∙ ended c (front (drop (suc n) cs)) is
 
 -- One that has none is the next of them.
 pub front_more : (cs : List CompactLetter) (n : ℕ) (c : CompactLetter) (s : SpentLetter) → slice_get cs n ≡ Some c
     → Some s ≡ spent_of c → front (drop n cs) ≡ s ∷ front (drop (n + 1) cs)
 unfolding front
 front_more cs n c s at is =
-    ap front (dropped cs n c at)
+    ap front (drop_at cs n c at)
     ∙ added c s (front (drop (suc n) cs)) is
     ∙ ap (λ k. s ∷ front (drop k cs)) (let k : suc n ≡ n + 1 = omega (arith) in k)
 
@@ -131,7 +127,7 @@ pub counted_more : (u : ℕ) (xs : List SpentLetter) (n : ℕ) (x : SpentLetter)
     ≡ length (filter (λ s. is_spent_to u (spent_letter s)) (drop n xs))
 counted_more u xs n x at is =
     let step : n + 1 ≡ suc n = omega (arith) in
-    rw step (rw (dropped xs n x at) (rw is (let e : (k : ℕ) → 1 + k ≡ suc k = λ k. omega (arith) in e _)))
+    rw step (rw (drop_at xs n x at) (rw is (let e : (k : ℕ) → 1 + k ≡ suc k = λ k. omega (arith) in e _)))
 
 pub counted_same : (u : ℕ) (xs : List SpentLetter) (n : ℕ) (x : SpentLetter) → slice_get xs n ≡ Some x
     → is_spent_to u (spent_letter x) ≡ false
@@ -139,4 +135,4 @@ pub counted_same : (u : ℕ) (xs : List SpentLetter) (n : ℕ) (x : SpentLetter)
     ≡ length (filter (λ s. is_spent_to u (spent_letter s)) (drop n xs))
 counted_same u xs n x at is =
     let step : n + 1 ≡ suc n = omega (arith) in
-    rw step (rw (dropped xs n x at) (rw is refl))
+    rw step (rw (drop_at xs n x at) (rw is refl))

@@ -107,6 +107,31 @@ impl Model for SentLetter {
     ghost view = { λ l. record { source = l.source; receiver = l.receiver; content = l.content } };
 }
 
+/// The letter of a send, of which the sender had sent so many to the receiver before.
+#[inline(always)]
+fn letter_of(
+    alloc: Global,
+    unit: Unit,
+    vector: &SharedVector,
+    send: &(Unit, Text),
+    number: u64,
+) -> Result<SentLetter, NoMemory>
+    ensures { IfOk result (λ l.
+        l ≡ record {
+          source = unit;
+          receiver = send.now.0;
+          content = Some
+              (record { number = number; text = send.now.1; vector = vector.now });
+        }) }
+{
+    let content = Content::new(alloc, number, send.1.copy()?, vector.copy(alloc)?)?;
+    Ok(SentLetter {
+        source: unit,
+        receiver: send.0,
+        content: Some(content),
+    })
+}
+
 /// Counts one more letter to the unit, where it has an entry.
 fn count_sent(counts: &mut Sessions, unit: Unit)
     requires { sent_to counts.old unit + 1 < 2 ^ 64 }
@@ -135,12 +160,7 @@ fn letters_from(
     for send in sends {
         if usize::from(send.0.number()) < width {
             let number = counts.number_to(send.0);
-            let content = Content::new(alloc, number, send.1.copy()?, vector.copy(alloc)?)?;
-            made.push(SentLetter {
-                source: unit,
-                receiver: send.0,
-                content: Some(content),
-            })?;
+            made.push(letter_of(alloc, unit, vector, send, number)?)?;
             count_sent(counts, send.0);
         }
     }
@@ -186,21 +206,16 @@ pub fn letters_by(
         });
     }
     if sends.len() == 1 {
-        let (receiver, text) = &sends[0];
-        if usize::from(receiver.number()) >= width {
+        let send = &sends[0];
+        if usize::from(send.0.number()) >= width {
             return Ok(NewLetters {
                 letters: LetterStorage::Zero,
             });
         }
         // No counts need be copied: a receipt leaves what was sent before.
-        let number = sessions.number_to(*receiver);
-        let content = Content::new(alloc, number, text.copy()?, vector.copy(alloc)?)?;
+        let letter = letter_of(alloc, unit, vector, send, sessions.number_to(send.0))?;
         return Ok(NewLetters {
-            letters: LetterStorage::One(SentLetter {
-                source: unit,
-                receiver: *receiver,
-                content: Some(content),
-            }),
+            letters: LetterStorage::One(letter),
         });
     }
     let mut counts = counts_after(sessions, &source, sends.len())?;

@@ -23,7 +23,7 @@ use words::StatusWords;
 
 /// `status`: tells what the journal has, and how each unit stands, what is stuck longest first, where the lines are
 /// stepped over a store that acknowledged nothing yet. Tells the status to end with: 0 where that is told, 1 where the
-/// lines can't be read or the output fails.
+/// lines can't be read, there is no memory, or the output fails.
 pub fn status_on<
     R: Files<File = File> + Clock + Print + Input + AllocGlobal,
     L: Log,

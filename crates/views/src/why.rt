@@ -20,7 +20,7 @@ use words::WhyWords;
 
 /// `why`: tells of each output that the unit holds what it waits for, and what would help, where the lines are stepped
 /// over a store that acknowledged nothing yet. Tells the status to end with: 0 where that is told, 1 where the lines
-/// can't be read or the tenant has no such unit or the output fails.
+/// can't be read, the tenant has no such unit, there is no memory, or the output fails.
 pub fn why_on<
     R: Files<File = File> + Clock + Print + Input + AllocGlobal,
     L: Log,

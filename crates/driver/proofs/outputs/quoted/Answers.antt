@@ -1,7 +1,7 @@
 use Rattle.std.proofs.Common.{rules, ◌≡◌, ◌∙◌, ap, ap₂, ◌++◌, ◌∷◌, []}
 use Rattle.json.specs.Print.{print}
 use Rattle.json.specs.Token as spec
-use Rattle.driver.proofs.Lines.{one_string}
+use Rattle.quick_forms.proofs.Written.{one_string}
 use Rattle.driver.proofs.outputs.quoted.Goals as goal
 
 pub returns : goal.returns

@@ -1,13 +1,14 @@
 use Rattle.std.proofs.Common.{◌++◌, ◌∙◌, ap, sym, subst, drop, ◌+◌, arith}
 use Rattle.codec.specs.Codes.{AllFit, each_code}
 use Rattle.snapshot.specs.Hosts.{FitsEntry, entry_code}
-use Rattle.codec.proofs.Each.{found, found_drop, from_start}
+use Rattle.model.proofs.Places.{get_below}
+use Rattle.codec.proofs.Each.{found_drop, from_start}
 use Rattle.snapshot.proofs.entries.encode_each_entry.Goals as goal
 
 pub loop-place-preserved : goal.loop-place-preserved
 loop-place-preserved g c =
     let all = c.args.tenants.now.entries in
-    let x = found all c.loop-place.place
+    let x = get_below all c.loop-place.place
     (let a = c.loop-place-test.true in let b = c.requires in omega (arith, a, b)) in
     let left = found_drop all c.loop-place.place x.0 x.1 in
     record {
