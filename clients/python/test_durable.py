@@ -361,7 +361,7 @@ def pip_installs_it(_, room):
     if b"No module named pip" in ran.stderr:
         return None
     found = {name for name in os.listdir(room) if name.endswith((".py", ".dist-info"))}
-    due = {"recall.py", "recall_durable.py", "recall_client-0.9.11.dist-info"}
+    due = {"recall.py", "recall_durable.py", "recall_client-0.9.12.dist-info"}
     return None if found == due else f"{found}: {ran.stderr.decode(errors='replace')[-300:]}"
 
 

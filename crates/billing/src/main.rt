@@ -34,7 +34,7 @@ use std::process::ExitCode;
 const BILLING: Program<'static> = Program {
     name: "billing",
     about: "Charges and refunds: a ledger keeps the balances, and a card moves money",
-    version: "0.9.11",
+    version: "0.9.12",
     handler: "billing",
     handler_version: "1",
     kinds: &["ledger", "card"],

@@ -10,7 +10,7 @@ use Rattle.codec.specs.Layers.{FitsSpent, FitsStretch}
 use Rattle.codec.proofs.Fits.{fit_append, fit_at, fit_left, fit_right}
 use Rattle.spent_letters.specs.declared.letter.SpentLetter.{SpentLetter}
 use Rattle.spent_letters.specs.declared.stretch.TheConstants.{HEAD}
-use Rattle.spent_letters.specs.Stretches.{after, follows, grown, letters_in, packed, tells_first, AreWhole, Stretch}
+use Rattle.spent_letters.specs.Stretches.{after, follows, grown, letters_in, packed, AreWhole, Stretch}
 use Rattle.spent_letters.proofs.Growing.{grown_length}
 use Rattle.spent_letters.proofs.Packing.{whole_back}
 use Rattle.spent_letters.proofs.Periods.{after_is}

@@ -13,7 +13,7 @@ use std::process::ExitCode;
 const RECALL: Program<'static> = Program {
     name: "recall",
     about: "A multi-tenant optimistic recovery runtime",
-    version: "0.9.11",
+    version: "0.9.12",
     handler: "sample",
     handler_version: "1",
     kinds: &["echo", "relay", "count", "adder", "tee"],

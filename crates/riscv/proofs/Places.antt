@@ -1,5 +1,5 @@
 -- Pages of a memory by their places.
-use Rattle.std.proofs.Common.{◌≡◌, ◌∙◌, ◌<◌, ℕ, zero, suc, List, [], length, get_or, refl, sym, arith}
+use Rattle.std.proofs.Common.{◌≡◌, ◌∙◌, ◌<◌, ℕ, List, [], length, get_or, sym, arith}
 use Rattle.std.proofs.lemmas.List.{get_or_default}
 use Rattle.riscv.specs.Memories.{Words, zero_page, zeros}
 use Rattle.riscv.proofs.Pages.{zero_pages_at}

@@ -10,9 +10,9 @@ use Rattle.std.proofs.lemmas.List.Kept.{AllPairs-cons}
 use Rattle.std.proofs.lemmas.Option.{slice_get_within}
 use Rattle.model.specs.declared.records.Record.{Record}
 use Rattle.shared_log.specs.Filled.{filled, pair_at, pairs_at, AreLiveIn, LeavesRoom}
-use Rattle.shared_log.specs.Logged.{Logged, is_of, is_owner, owner_of, places_from, places_of}
+use Rattle.shared_log.specs.Logged.{Logged, is_of, places_from, places_of}
 use Rattle.shared_log.proofs.LiveLaws.{pairs_append, pairs_live}
-use Rattle.shared_log.proofs.PlacesLaws.{owner_is, place_if, places_are}
+use Rattle.shared_log.proofs.PlacesLaws.{place_if, places_are}
 use Rattle.shared_log.proofs.RoomLaws.{OwnedFrom, owned_from, room_left}
 use Rattle.snapshot.specs.Logs.{unit_places, AreWithin, LeaveRoom, NoneOf}
 use Rattle.snapshot.proofs.Order.{AllPairs-append, AllPairs-head, AllPairs-nil, AllPairs-one, AllPairs-tail, before}

@@ -1,5 +1,5 @@
 -- The period of letters.
-use Rattle.std.proofs.Common.{◌≡◌, refl, ◌∙◌, ap, ℕ, zero, suc, ◌+◌, ◌-◌, ◌%◌, ◌<◌, ◌≤◌, List, [], ◌∷◌}
+use Rattle.std.proofs.Common.{◌≡◌, refl, ◌∙◌, ap, ℕ, zero, suc, ◌+◌, ◌-◌, ◌%◌, ◌<◌, ◌≤◌, List}
 use Rattle.std.proofs.Common.{inl, inr, length, arith, get_or, drop}
 use Rattle.std.specs.Prelude.{◌/◌, ◌==◌, ◌&&◌, Option, true, false, Some, slice_get}
 use Rattle.std.proofs.lemmas.Nat.{mod_below}

@@ -1,4 +1,4 @@
-use Rattle.std.proofs.Common.{◌≡◌, bytes_eq, ap, ◌∷◌, [], ◌∙◌, refl, sym, subst, ℕ, List, Bool, true, false}
+use Rattle.std.proofs.Common.{bytes_eq, ap, ◌∷◌, [], ◌∙◌}
 use Rattle.std.proofs.lemmas.List.{map-append}
 use Rattle.std.specs.Map.{keys_of}
 use Rattle.indexmap.proofs.CallerLemmas.{insert_entry-new}
