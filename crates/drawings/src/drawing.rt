@@ -13,10 +13,10 @@ use std::time::Clock;
 use terminal::{Patient, input_size};
 use words::DrawWords;
 
-/// `draw`: draws to the file that is named, or to standard output, what the steps of the input come to over a store that
-/// acknowledged nothing yet. Where it `shows`, bars tell how far it is. Tells the status to end with: 0 where it is
-/// drawn, 1 where the lines can't be read, the tenant that is named isn't open, there is no memory, or the file can't be
-/// made or the output fails.
+/// `draw`: draws to the file that is named, or to standard output, what the steps of the input come to over a store
+/// that acknowledged nothing yet. Where it `shows`, bars tell how far it is. Tells the status to end with: 0 where it
+/// is drawn, 1 where the lines can't be read, the tenant that is named isn't open, there is no memory, or the file
+/// can't be made or the output fails.
 pub fn draw_on<
     R: Files<File = File> + Clock + Print + Eprint + Input + AllocGlobal,
     L: Log,

@@ -172,8 +172,8 @@ fn cannot_go_on<L: Log>(told: &L, path: &str, why: &impl Display) -> u8 {
 /// Takes the lines of a journal away that the snapshot beside it stands behind, where a run can go on from that. Tells
 /// how many there were, and which is the first now.
 ///
-/// Where that fails it is told, and the status to end with is 1: there is no such snapshot, there is no memory, or a file
-/// can't be read, written, synced or renamed.
+/// Where that fails it is told, and the status to end with is 1: there is no such snapshot, there is no memory, or a
+/// file can't be read, written, synced or renamed.
 pub fn trim_on<L: Log, F: Files<File = File> + Clock, H: Portable + Clone>(
     files: &F,
     told: &L,
